@@ -1,0 +1,3 @@
+pub mod Entries
+pub mod LinesLaws
+pub mod Sorting

@@ -1,0 +1,9 @@
+pub mod Ends
+pub mod Faults
+pub mod Fronts
+pub mod Lines
+pub mod Listing
+pub mod Path
+pub mod PathMap
+pub mod Places
+pub mod Recursion

@@ -1,0 +1,29 @@
+//! What every crate of sitebuild stands on: paths, texts, the faults of a site, the ends where bytes
+//! come from and go to, and the definitions and laws that their contracts share.
+#![tactic(auto)]
+
+mod bytes;
+mod errors;
+mod faults;
+mod folder;
+mod path;
+mod path_list;
+mod path_map;
+mod settings;
+mod sink;
+mod source;
+mod text;
+mod words;
+
+pub use bytes::FileBytes;
+pub use errors::{Failed, ListError, Memory, ReadError};
+pub use faults::{FaultKind, SiteFault, YamlKind};
+pub use folder::{Skips, list_folder};
+pub use path::{PathError, SitePath};
+pub use path_list::PathList;
+pub use path_map::PathMap;
+pub use settings::Settings;
+pub use sink::{ByteSink, MemorySink};
+pub use source::{ByteSource, MemoryInput};
+pub use text::Text;
+pub use words::Words;

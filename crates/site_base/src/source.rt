@@ -1,0 +1,96 @@
+// Where bytes come from.
+ghost use Rattle.std.specs.Prelude.{◌≡◌, ◌+◌, ◌-◌, ◌^◌, ◌≤◌, min, ℕ, List, [], Option, Some, length, drop, take, IfOk, IsErr, Contains, ◌↔◌};
+ghost use Rattle.site_base.specs.Ends.{HasCause, Gives};
+
+use crate::Failed;
+use std::marker::Model;
+
+/// Where bytes come from.
+pub trait ByteSource {
+    /// The bytes left, where it tells them.
+    ghost left: { Self → Option (List ℕ) };
+
+    /// How often it has failed.
+    ghost faults: { Self → ℕ };
+
+    /// Moves the next bytes into the front of a slice and answers how many; 0 for a slice that is not empty is
+    /// the end.
+    fn read(&mut self, into: &mut [u8]) -> Result<usize, Failed>
+        ensures bound { IfOk result (λ count. count ≤ length into.new) }
+        ensures gives { Gives (left self.old) (left self.new) into.new result }
+        ensures cause { HasCause (faults self.old) (faults self.new) result };
+}
+
+/// An input in memory, which fails at listed calls.
+#[derive(Drop)]
+pub struct MemoryInput {
+    bytes: Vec<u8>,
+    place: usize,
+    fail: Vec<u64>,
+    calls: u64,
+    faults: u64,
+}
+
+impl Model for MemoryInput {
+    ghost use Rattle.std.specs.Prelude.{drop, ◌≤◌, vec_len};
+    ghost use Rattle.site_base.specs.Ends.{InputState};
+
+    ghost Value = { InputState };
+
+    ghost view = { λ input. record {
+      left = drop input.place input.bytes.items;
+      fail = input.fail.items;
+      calls = input.calls;
+      faults = input.faults;
+    } };
+
+    ghost invariant = { λ input. input.place ≤ vec_len input.bytes };
+}
+
+impl MemoryInput {
+    /// An input of these bytes, which fails at the calls of these numbers, counted from 1.
+    pub fn new(bytes: Vec<u8>, fail: Vec<u64>) -> MemoryInput
+        ensures { result ≡ record { left = bytes.items; fail = fail.items; calls = 0; faults = 0 } }
+    {
+        MemoryInput {
+            bytes,
+            place: 0,
+            fail,
+            calls: 0,
+            faults: 0,
+        }
+    }
+
+    /// How many bytes are left.
+    pub fn len(&self) -> usize
+        ensures { result ≡ length self.now.left }
+    {
+        self.bytes.len() - self.place
+    }
+}
+
+impl ByteSource for MemoryInput {
+    ghost left = { λ input. Some input.left };
+
+    ghost faults = { λ input. input.faults };
+
+    fn read(&mut self, into: &mut [u8]) -> Result<usize, Failed>
+        ensures bound { IfOk result (λ count. count ≤ length into.new) }
+        ensures gives { Gives (Some self.old.left) (Some self.new.left) into.new result }
+        ensures cause { HasCause self.old.faults self.new.faults result }
+        ensures listed { IsErr result ↔ Contains self.old.fail (min (self.old.calls + 1) (2 ^ 64 - 1)) }
+        ensures calls { self.new.calls ≡ min (self.old.calls + 1) (2 ^ 64 - 1) }
+        ensures fail { self.new.fail ≡ self.old.fail }
+    {
+        self.calls = self.calls.saturating_add(1);
+        if self.fail.contains(&self.calls) {
+            self.faults = self.faults.saturating_add(1);
+            return Err(Failed);
+        }
+        let rest = &self.bytes[self.place..];
+        let count = into.len().min(rest.len());
+        into[..count].copy_from_slice(&rest[..count]);
+        self.place = self.place + count;
+        Ok(count)
+    }
+}
