@@ -1,3 +1,4 @@
+pub mod Clashing
 pub mod Entries
 pub mod LinesLaws
 pub mod Sorting

@@ -58,7 +58,7 @@ module _ {V : Type 0} where
   length_paths : (es : List (List ℕ × V)) → length (paths_of es) ≡ length es
   length_paths es = search (rules, length-map)
 
-  any_default : (es : List (List ℕ × V)) (i : ℕ) (d x : List ℕ × V) → i < length es → get_or es i d ≡ get_or es i x
+  pub any_default : (es : List (List ℕ × V)) (i : ℕ) (d x : List ℕ × V) → i < length es → get_or es i d ≡ get_or es i x
   any_default [] i d x lt = absurd (omega arith)
   any_default (e ∷ es) zero d x lt = refl
   any_default (e ∷ es) (suc i) d x lt = any_default es i d x (omega arith)

@@ -1,3 +1,4 @@
+pub mod Clash
 pub mod Ends
 pub mod Faults
 pub mod Fronts

@@ -74,6 +74,12 @@ impl SitePath {
         self.text.as_str()
     }
 
+    pub fn as_bytes(&self) -> &[u8]
+        ensures bytes { result.now ≡ self.now }
+    {
+        self.text.as_bytes()
+    }
+
     pub fn copy(&self, alloc: Global) -> Result<SitePath, Memory>
         ensures { IfOk result (λ path. path ≡ self.now) }
     {

@@ -1,7 +1,8 @@
 // A map from paths to values: a sorted `Vec`.
-ghost use Rattle.std.specs.Prelude.{◌≡◌, ◌+◌, ◌≤◌, ◌<◌, length, IfOk, OnOk, OnErr, MatchResult, vec_len, slice_index_or, IsTrue, is_some, ◌==◌, MatchOption, ◌↔◌};
+ghost use Rattle.std.specs.Prelude.{◌≡◌, ◌+◌, ◌≤◌, ◌<◌, length, IfOk, OnOk, OnErr, MatchResult, vec_len, slice_index_or, IsTrue, is_some, ◌==◌, MatchOption, ◌↔◌, ◌++◌, ◌∷◌, [], IsNone};
 ghost use Rattle.std.specs.Option.{option_copied};
-ghost use Rattle.std.specs.Ordering.{is_lt};
+ghost use Rattle.std.specs.Ordering.{is_lt, is_gt};
+ghost use Rattle.site_base.specs.Clash.{is_below, begins_before_slash, has_below, has_folder, first_folder, HasNoClash};
 ghost use Rattle.std.specs.FinMap as map;
 ghost use Rattle.site_base.specs.Places.{path_cmp, paths_of, count_below, PathsRise, IsThere, IsAbsent, AllDiffer};
 
@@ -60,12 +61,12 @@ impl<V: Drop> PathMap<V> {
         self.len() == 0
     }
 
-    fn place(&self, path: &SitePath) -> usize
+    fn place(&self, path: &[u8]) -> usize
         ensures bound { result ≤ vec_len self.now.entries }
         ensures is { result ≡ count_below path.now self.now.entries.items }
     {
         self.entries
-            .partition_point(|entry| path.cmp(&entry.0).is_gt())
+            .partition_point(|entry| is_above(path, &entry.0))
     }
 
     // The path's place, or the place where it would stand.
@@ -74,7 +75,7 @@ impl<V: Drop> PathMap<V> {
             (IsThere path.now self.now.entries.items)
             (IsAbsent path.now self.now.entries.items) }
     {
-        let place = self.place(path);
+        let place = self.place(path.as_bytes());
         if place < self.entries.len() && self.entries[place].0 == *path {
             Ok(place)
         } else {
@@ -148,6 +149,56 @@ impl<V: Drop> PathMap<V> {
         }
     }
 
+    /// Whether a path of the map lies below this one as below a folder.
+    pub fn has_below(&self, folder: &SitePath) -> bool
+        ensures { result ≡ has_below folder.now (map.keys (as_map self.now)) }
+    {
+        let place = self.place_inside(folder.as_bytes());
+        place < self.entries.len() && is_below(&self.entries[place].0, folder)
+    }
+
+    // Where the paths below a folder stand, or would stand.
+    fn place_inside(&self, folder: &[u8]) -> usize
+        ensures bound { result ≤ vec_len self.now.entries }
+        ensures is { result ≡ count_below (folder.now ++ 47 ∷ []) self.now.entries.items }
+    {
+        self.entries
+            .partition_point(|entry| is_before_inside(folder, &entry.0))
+    }
+
+    /// Whether a path of the map is a folder of this one.
+    pub fn has_folder(&self, path: &SitePath) -> bool
+        ensures { result ≡ has_folder path.now (map.keys (as_map self.now)) }
+    {
+        let bytes = path.as_bytes();
+        for end in 0..bytes.len() {
+            if bytes[end] == b'/' && self.holds(&bytes[..end]) {
+                return true;
+            }
+        }
+        false
+    }
+
+    fn holds(&self, path: &[u8]) -> bool
+        ensures { result ≡ map.contains_key (as_map self.now) path.now }
+    {
+        let place = self.place(path);
+        place < self.entries.len() && self.entries[place].0.as_bytes() == path
+    }
+
+    /// The first path that is a folder of another, or `None` where no two paths clash.
+    pub fn find_clash(&self) -> Option<&SitePath>
+        ensures first { option_copied result ≡ first_folder (map.keys (as_map self.now)) }
+        ensures clash_free { IsNone result → HasNoClash (as_map self.now) }
+    {
+        for entry in &self.entries {
+            if self.has_below(&entry.0) {
+                return Some(&entry.0);
+            }
+        }
+        None
+    }
+
     /// The paths, in byte order.
     pub fn paths(&self, alloc: Global) -> Result<Vec<SitePath>, Memory>
         ensures paths { IfOk result (λ paths. paths.items ≡ map.keys (as_map self.now)) }
@@ -182,15 +233,60 @@ fn rises<V>(entries: &[(SitePath, V)]) -> bool
     ensures { IsTrue result ↔ PathsRise entries.now }
 {
     for place in 1..entries.len() {
-        if !is_below(&entries[place - 1].0, &entries[place].0) {
+        if !is_less(&entries[place - 1].0, &entries[place].0) {
             return false;
         }
     }
     true
 }
 
-fn is_below(one: &SitePath, other: &SitePath) -> bool
+fn is_less(one: &SitePath, other: &SitePath) -> bool
     ensures { result ≡ is_lt (path_cmp one.now other.now) }
 {
     one.cmp(other).is_lt()
+}
+
+fn is_above(path: &[u8], other: &SitePath) -> bool
+    ensures { result ≡ is_gt (path_cmp path.now other.now) }
+{
+    path.cmp(other.as_bytes()).is_gt()
+}
+
+// Whether a path stands before all paths that begin with the folder and `/`.
+fn is_before_inside(folder: &[u8], path: &SitePath) -> bool
+    ensures { result ≡ is_gt (path_cmp (folder.now ++ 47 ∷ []) path.now) }
+{
+    let path = path.as_bytes();
+    if path.starts_with(folder) {
+        begins_before_slash(&path[folder.len()..])
+    } else {
+        folder.cmp(path).is_gt()
+    }
+}
+
+// Whether a text is empty or begins with a byte below `/`.
+fn begins_before_slash(text: &[u8]) -> bool
+    ensures { result ≡ begins_before_slash text.now }
+{
+    match text {
+        [] => true,
+        [first, ..] => *first < b'/',
+    }
+}
+
+fn is_below(path: &SitePath, folder: &SitePath) -> bool
+    ensures { result ≡ is_below path.now folder.now }
+{
+    let path = path.as_bytes();
+    let folder = folder.as_bytes();
+    path.starts_with(folder) && begins_with_slash(&path[folder.len()..])
+}
+
+fn begins_with_slash(text: &[u8]) -> bool
+    ensures { result ≡ is_below text.now [] }
+{
+    match text {
+        [] => false,
+        [first, ..] => *first == b'/',
+    }
 }
