@@ -1,0 +1,7 @@
+pub mod Fitting
+pub mod Limits
+pub mod Memory
+pub mod Put
+pub mod Reading
+pub mod Rise
+pub mod Scan

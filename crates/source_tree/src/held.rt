@@ -1,0 +1,209 @@
+// The files that are held.
+ghost use Rattle.std.specs.Prelude.{◌≡◌, ◌⊎◌, ◌<◌, ◌≤◌, ◌↔◌, IsTrue, ℕ, List, Option, Some, None, Err, IfOk, OnOk, OnErr, MatchResult, slice_index_or};
+ghost use Rattle.std.specs.FinMap as map;
+ghost use Rattle.std.specs.Option.{option_copied};
+ghost use Rattle.site_base.specs.Ends.{HasCauseOf};
+ghost use Rattle.site_base.specs.PathMap.{as_map};
+ghost use Rattle.site_base.specs.Places.{AllDiffer, Files, paths_of};
+ghost use Rattle.site_base.specs.declared.faults.SiteFault.{SiteFault};
+ghost use Rattle.source_tree.specs.Limits.{CanBeHeld, most_site_bytes, site_bytes};
+ghost use Rattle.source_tree.specs.Put.{first_refusal, plain, put_refusal};
+ghost use Rattle.source_tree.specs.Scan.{scan_fault};
+
+use crate::fitting::held_of;
+use crate::limits::passed_limit;
+use crate::reading::read_site;
+use crate::{PutError, ScanError, SourceTree};
+use site_base::{FileBytes, Memory, PathMap, SitePath};
+use std::alloc::Global;
+use std::marker::Model;
+
+/// The files of a site that are held, from paths to bytes, within the limits.
+#[derive(Drop)]
+pub struct Held {
+    files: PathMap<FileBytes>,
+    // The bytes of all files together.
+    total: u64,
+}
+
+impl Model for Held {
+    ghost use Rattle.std.specs.Prelude.{List, ℕ, ◌≡◌};
+    ghost use Rattle.std.specs.Coded.{coded_ℕ, coded_list};
+    ghost use Rattle.std.specs.FinMap as map;
+    ghost use Rattle.site_base.specs.PathMap.{as_map};
+    ghost use Rattle.site_base.specs.Places.{path_cmp};
+    ghost use Rattle.source_tree.specs.Limits.{CanBeHeld, site_bytes};
+
+    ghost Value = { map.FinMap path_cmp (List ℕ) };
+
+    ghost coded = { map.code (coded_list coded_ℕ) (coded_list coded_ℕ) };
+
+    ghost view = { λ held. as_map held.files };
+
+    ghost invariant = { λ held. (held.total ≡ site_bytes (as_map held.files)) × CanBeHeld (as_map held.files) };
+}
+
+impl Held {
+    /// No files.
+    pub fn new(alloc: Global) -> Held
+        ensures { result ≡ map.empty }
+    {
+        Held {
+            files: PathMap::new(alloc),
+            total: 0,
+        }
+    }
+
+    // These files, with their bytes together.
+    pub(crate) fn of(files: PathMap<FileBytes>, total: u64) -> Held
+        requires total { total ≡ site_bytes (as_map files) }
+        requires files { CanBeHeld (as_map files) }
+        ensures { result ≡ as_map files }
+    {
+        Held { files, total }
+    }
+
+    /// How many files are held.
+    pub fn len(&self) -> u32
+        ensures number { result ≡ map.len self.now }
+        // What is held passes no limit, and no path is a folder of another.
+        ensures within { CanBeHeld self.now }
+    {
+        self.files.len() as u32
+    }
+
+    pub fn is_empty(&self) -> bool
+        ensures { IsTrue result ↔ (map.len self.now ≡ 0) }
+    {
+        self.files.is_empty()
+    }
+
+    /// The file at a place of the byte order of paths.
+    pub fn at(&self, place: u32) -> (&SitePath, &[u8])
+        requires { place < map.len self.now }
+        ensures { (result.0.now, result.1.now)
+            ≡ slice_index_or (map.entries self.now) place (result.0.now, result.1.now) }
+    {
+        let (path, bytes) = self.files.at(place as usize);
+        (path, bytes.as_slice())
+    }
+
+    /// The bytes of the file with a path.
+    pub fn get(&self, path: &SitePath) -> Option<&[u8]>
+        ensures { option_copied result ≡ map.get self.now path.now }
+    {
+        match self.files.get(path) {
+            Some(bytes) => Some(bytes.as_slice()),
+            None => None,
+        }
+    }
+
+    /// Adds or replaces a file. A refusal for another reason than memory is the first in the order of `PutError`,
+    /// and leaves all as it was.
+    pub fn put(&mut self, path: SitePath, bytes: Vec<u8>) -> Result<(), PutError>
+        ensures { MatchResult result
+            (λ _. (self.new ≡ map.insert self.old path bytes.items) × (put_refusal self.old path bytes.items ≡ None))
+            (λ error. (self.new ≡ self.old)
+            × ((error ≡ PutError.Memory) ⊎ (put_refusal self.old path bytes.items ≡ Some error))) }
+    {
+        if let Some(refusal) = self.refusal(&path, &bytes) {
+            return Err(refusal);
+        }
+        let total = self.total_besides(&path) + bytes.len() as u64;
+        self.files.put(path, FileBytes::from_vec(bytes))?;
+        self.total = total;
+        Ok(())
+    }
+
+    // Why a file is refused.
+    fn refusal(&self, path: &SitePath, bytes: &[u8]) -> Option<PutError>
+        ensures { result ≡ put_refusal self.now path.now bytes.now }
+    {
+        let passed = passed_limit(
+            bytes.len(),
+            self.len_besides(path),
+            self.total_besides(path),
+        );
+        if passed.is_some() {
+            return passed;
+        }
+        if crate::stubs::has_folder(&self.files, path)
+            || crate::stubs::has_below(&self.files, path)
+        {
+            return Some(PutError::Clash);
+        }
+        None
+    }
+
+    // How many files are held besides the one with this path.
+    fn len_besides(&self, path: &SitePath) -> usize
+        ensures { result ≡ map.len (map.remove self.now path.now) }
+    {
+        match self.files.get(path) {
+            Some(_) => self.files.len() - 1,
+            None => self.files.len(),
+        }
+    }
+
+    // The bytes of all files together besides the one with this path.
+    fn total_besides(&self, path: &SitePath) -> u64
+        ensures is { result ≡ site_bytes (map.remove self.now path.now) }
+        ensures bound { result ≤ most_site_bytes }
+    {
+        match self.files.get(path) {
+            Some(bytes) => self.total - bytes.len(),
+            None => self.total,
+        }
+    }
+
+    /// Deletes a file, and says whether it was held.
+    pub fn delete(&mut self, path: &SitePath) -> bool
+        ensures map { self.new ≡ map.remove self.old path.now }
+        ensures was { result ≡ map.contains_key self.old path.now }
+    {
+        self.total = self.total_besides(path);
+        self.files.remove(path)
+    }
+
+    /// Holds these files in place of all that was held. It is refused where one of them would be, were they put one
+    /// after another, for the reason of the first such; a refusal leaves all as it was.
+    pub fn replace_all(
+        &mut self,
+        alloc: Global,
+        files: Vec<(SitePath, Vec<u8>)>,
+    ) -> Result<(), PutError>
+        requires { AllDiffer (paths_of files.items) }
+        ensures { MatchResult result
+            (λ _. (self.new ≡ map.from_entries (plain files.items))
+            × (first_refusal map.empty (plain files.items) ≡ None))
+            (λ error. (self.new ≡ self.old)
+            × ((error ≡ PutError.Memory) ⊎ (first_refusal map.empty (plain files.items) ≡ Some error))) }
+    {
+        match held_of(alloc, files) {
+            Ok(held) => *self = held,
+            Err(error) => return Err(error),
+        }
+        Ok(())
+    }
+
+    /// Reads the whole source, holds its files in place of all that was held, and answers their number.
+    pub fn scan<S: SourceTree>(&mut self, alloc: Global, source: &mut S) -> Result<u32, ScanError>
+        // Where the source tells its files, these are held then, and they have no fault,
+        ensures held { (files : Files) → S.files source.old ≡ Some files →
+            OnOk result ((self.new ≡ files) × (scan_fault (map.entries files) ≡ None)) }
+        // or the limit is their first fault.
+        ensures limit { (files : Files) (fault : SiteFault) → S.files source.old ≡ Some files →
+            result ≡ Err (ScanError.Limit fault) → scan_fault (map.entries files) ≡ Some fault }
+
+        ensures number { IfOk result (λ number. number ≡ map.len self.new) }
+        ensures err { OnErr result (self.new ≡ self.old) }
+        ensures same { S.files source.new ≡ S.files source.old }
+        ensures cause { HasCauseOf ScanError.Failed (S.faults source.old) (S.faults source.new) result }
+    {
+        match read_site(alloc, source) {
+            Ok(held) => *self = held,
+            Err(error) => return Err(error),
+        }
+        Ok(self.len())
+    }
+}

@@ -1,0 +1,18 @@
+//! The files of a site: where they come from, and what is held of them.
+#![tactic(auto)]
+
+mod fitting;
+mod held;
+mod limits;
+mod memory;
+mod put_error;
+mod reading;
+mod scan_error;
+mod source;
+mod stubs;
+
+pub use held::Held;
+pub use memory::MemorySource;
+pub use put_error::PutError;
+pub use scan_error::ScanError;
+pub use source::SourceTree;
