@@ -73,7 +73,7 @@ equal Equal p = refl
 equal Less p = absurd (cc (p))
 equal Greater p = absurd (cc (p))
 
-at_removed : (m : Files) (k : List ℕ) (v : List ℕ) → get m k ≡ Some v → insert (remove m k) k v ≡ m
+pub at_removed : (m : Files) (k : List ℕ) (v : List ℕ) → get m k ≡ Some v → insert (remove m k) k v ≡ m
 at_removed m k v is = same_map o path_cmp-IsAntisymmetric _ _ (λ q.
     get-insert o (remove m k) k v q ∙ ap (cond (same_path q k) (Some v)) (get-remove o m k q) ∙ by q (same_path q k) refl)
   where
@@ -81,7 +81,7 @@ at_removed m k v is = same_map o path_cmp-IsAntisymmetric _ _ (λ q.
     by q true e = sym is ∙ ap (get m) (sym (path_cmp-IsAntisymmetric q k (equal _ e)))
     by q false e = refl
 
-get_removed : (m : Files) (k : List ℕ) → get (remove m k) k ≡ None
+pub get_removed : (m : Files) (k : List ℕ) → get (remove m k) k ≡ None
 get_removed m k = get-remove o m k k ∙ ap (λ (b : Bool). cond b None (get m k)) (same k)
   where
     same : (k : List ℕ) → same_path k k ≡ true

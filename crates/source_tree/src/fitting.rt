@@ -27,7 +27,7 @@ pub(crate) fn held_of(alloc: Global, mut files: Vec<(SitePath, Vec<u8>)>) -> Res
     files.truncate(fitting.number);
     let entries = with_file_bytes(alloc, files)?;
     let files = PathMap::from_entries(entries).unwrap();
-    if crate::stubs::find_clash(&files).is_some() {
+    if files.find_clash().is_some() {
         return Err(PutError::Clash);
     }
     match fitting.limit {

@@ -1,13 +1,14 @@
 // The files that are held.
-ghost use Rattle.std.specs.Prelude.{◌≡◌, ◌⊎◌, ◌<◌, ◌≤◌, ◌↔◌, IsTrue, ℕ, List, Option, Some, None, Err, IfOk, OnOk, OnErr, MatchResult, slice_index_or};
+ghost use Rattle.std.specs.Prelude.{◌≡◌, ◌⊎◌, ◌<◌, ◌≤◌, ◌↔◌, ◌||◌, ◌+◌, IsTrue, ℕ, List, Option, Some, None, Err, IfOk, OnOk, OnErr, MatchResult, slice_index_or};
 ghost use Rattle.std.specs.FinMap as map;
 ghost use Rattle.std.specs.Option.{option_copied};
+ghost use Rattle.site_base.specs.Clash.{has_below, has_folder};
 ghost use Rattle.site_base.specs.Ends.{HasCauseOf};
 ghost use Rattle.site_base.specs.PathMap.{as_map};
 ghost use Rattle.site_base.specs.Places.{AllDiffer, Files, paths_of};
 ghost use Rattle.site_base.specs.declared.faults.SiteFault.{SiteFault};
 ghost use Rattle.source_tree.specs.Limits.{CanBeHeld, most_site_bytes, site_bytes};
-ghost use Rattle.source_tree.specs.Put.{first_refusal, plain, put_refusal};
+ghost use Rattle.source_tree.specs.Put.{clash_refusal, first_refusal, plain, put_refusal};
 ghost use Rattle.source_tree.specs.Scan.{scan_fault};
 
 use crate::fitting::held_of;
@@ -119,20 +120,27 @@ impl Held {
     fn refusal(&self, path: &SitePath, bytes: &[u8]) -> Option<PutError>
         ensures { result ≡ put_refusal self.now path.now bytes.now }
     {
-        let passed = passed_limit(
-            bytes.len(),
-            self.len_besides(path),
-            self.total_besides(path),
-        );
-        if passed.is_some() {
-            return passed;
+        match passed_limit(bytes.len(), self.len_besides(path), self.total_besides(path)) {
+            Some(limit) => Some(limit),
+            None => self.clash_refusal(path),
         }
-        if crate::stubs::has_folder(&self.files, path)
-            || crate::stubs::has_below(&self.files, path)
-        {
-            return Some(PutError::Clash);
+    }
+
+    fn clash_refusal(&self, path: &SitePath) -> Option<PutError>
+        ensures { result ≡ clash_refusal self.now path.now }
+    {
+        if self.clashes_with(path) {
+            Some(PutError::Clash)
+        } else {
+            None
         }
-        None
+    }
+
+    // Whether a file is a folder of this path, or the path a folder of one.
+    fn clashes_with(&self, path: &SitePath) -> bool
+        ensures { result ≡ (has_folder path.now (map.keys self.now) || has_below path.now (map.keys self.now)) }
+    {
+        self.files.has_folder(path) || self.files.has_below(path)
     }
 
     // How many files are held besides the one with this path.

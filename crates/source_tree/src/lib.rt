@@ -1,6 +1,7 @@
 //! The files of a site: where they come from, and what is held of them.
 #![tactic(auto)]
 
+mod disk;
 mod fitting;
 mod held;
 mod limits;
@@ -9,8 +10,8 @@ mod put_error;
 mod reading;
 mod scan_error;
 mod source;
-mod stubs;
 
+pub use disk::DiskSource;
 pub use held::Held;
 pub use memory::MemorySource;
 pub use put_error::PutError;
