@@ -1,25 +1,26 @@
 -- A list of files that are put one after another, against the limits of the whole list and its clashes.
-use Rattle.std.proofs.Common.{◌≡◌, ℕ, zero, suc, ◌+◌, ◌≤◌, ◌<◌, Bool, true, false, cond, List, [], ◌∷◌, ◌++◌, drop, get_or, length, take, refl, subst, sym, ap, ◌∙◌, arith, Option, Some, None}
+use Rattle.std.proofs.Common.{◌≡◌, ℕ, zero, suc, ◌+◌, ◌≤◌, ◌<◌, Bool, true, false, cond, List, [], ◌∷◌, ◌++◌, drop, get_or, length, take, refl, subst, sym, ap, ◌∙◌, arith, Option, Some, None, Vec, Global, IsNone, IsSome, MatchOption, Bor}
 use Rattle.std.specs.Prelude.{◌||◌}
-use Rattle.std.specs.Option.{is_some, option_or}
+use Rattle.std.specs.List.{AllByRecursion, IsDistinct}
+use Rattle.std.specs.Option.{is_some, option_copied, option_or}
 use Rattle.std.specs.FinMap.{FinMap, contains_key, empty, entries, find, from_entries, get, get-empty, get-from_entries, get-insert, insert, keys, len, len-empty, len-insert, same_map}
-use Rattle.std.proofs.lemmas.List.{drop_all, drop_more, take_all, take_more}
+use Rattle.std.proofs.lemmas.List.{drop_all, drop_more, get_or-map, take-map, take_all, take_more}
 use Rattle.std.proofs.lemmas.List.Sums.{sum_by_push}
 use Rattle.std.specs.Cmp.{tied_itself}
 use Rattle.std.specs.Ordering.{is_eq}
-use Rattle.site_base.specs.Clash.{HasNoClash, has_below, has_folder}
+use Rattle.site_base.specs.Clash.{HasNoClash, first_folder, has_below, has_folder}
 use Rattle.site_base.specs.Places.{AllDiffer, Files, is_listed, path_cmp, paths_of, same_path}
 use Rattle.source_tree.specs.Fitting.{count_fitting, first_limit}
 use Rattle.source_tree.specs.Limits.{CanBeHeld, bytes_of, length_or_zero, most_bytes, most_files, most_site_bytes, site_bytes}
-use Rattle.source_tree.specs.Put.{clash_refusal, first_refusal, passed_limit, put_refusal}
+use Rattle.source_tree.specs.Put.{clash_refusal, first_refusal, passed_limit, plain, put_refusal}
 use Rattle.source_tree.specs.declared.put_error.PutError.{PutError}
 use Rattle.source_tree.specs.declared.put_error.PutError.TheVariants.{Clash}
-use Rattle.source_tree.proofs.Clashing.{Within, below_clashes, contains-insert, folder_clashes, no_clash-empty, no_clash-insert, no_clash-within, same}
-use Rattle.source_tree.proofs.Holding.{Passes, no_entries, passed_limit-None, site_bytes-empty}
-use Rattle.source_tree.proofs.Plain.{absent_later, differ_later, no_file}
+use Rattle.source_tree.proofs.Clashing.{Within, below_clashes, clash_free-keys, contains-insert, first_folder_clashes, folder_clashes, no_clash-empty, no_clash-insert, no_clash-within, same}
+use Rattle.source_tree.proofs.Holding.{Keeps, neither, passed_limit-None, site_bytes-empty}
+use Rattle.source_tree.proofs.Plain.{absent_later, contains-from_entries, differ_later, paths_of-plain}
 use Rattle.source_tree.proofs.Sums.{bytes_of-cons, o, path_cmp-IsAntisymmetric, site_bytes-insert}
 
-abbrev File : Type 0
+abbrev pub File : Type 0
 File = List ℕ × List ℕ
 
 abbrev limit_at : ℕ → ℕ → File → Option PutError
@@ -112,11 +113,14 @@ fresh-later m e es differ fresh q there = contains-insert m e.0 e.1 q ∙ by (sa
   where
     absent : is_listed e.0 (paths_of es) ≡ false
     absent = absent_later e.0 (paths_of es) differ
+
     or_true : (a : Bool) → (a || true) ≡ true
     or_true true = refl
     or_true false = refl
+
     later : is_listed q (paths_of (e ∷ es)) ≡ true
     later = ap (λ b. same_path q e.0 || b) there ∙ or_true (same_path q e.0)
+
     by : (b : Bool) → same_path q e.0 ≡ b → cond b true (contains_key m q) ≡ false
     by true is = absurd (cc (ap (λ p. is_listed p (paths_of es)) (same q e.0 is), there, absent))
     by false is = fresh q later
@@ -168,17 +172,19 @@ refusal-limit (e ∷ es) m number total few sum differ fresh free =
   where
     absent : contains_key m e.0 ≡ false
     absent = fresh-first m e es fresh
+
     refused : put_refusal m e.0 e.1 ≡ option_or (limit_at number total e) (clash_refusal m e.0)
     refused = put_refusal-fresh m e number total few sum absent
+
     by : (found : Option PutError) → limit_at number total e ≡ found → (limit_at number total e ≡ None → first_refusal (insert m e.0 e.1) es ≡ first_limit (number + 1) (total + length e.1) es) → first_refusal m (e ∷ es) ≡ first_limit number total (e ∷ es)
     by (Some limit) is rest =
         ap (λ (r : Option PutError). option_or r (first_refusal (insert m e.0 e.1) es)) (refused ∙ ap (λ (f : Option PutError). option_or f (clash_refusal m e.0)) is)
         ∙ sym (first_limit-cons number total e es (Some limit) is)
     by None is rest =
         let apart : HasNoClash (insert m e.0 e.1) =
-            no_clash-within (insert m e.0 e.1) (after (insert m e.0 e.1) (fitting (number + 1) (total + length e.1) es))
-            (within-after (insert m e.0 e.1) (fitting (number + 1) (total + length e.1) es))
-            (subst (λ (l : List File). HasNoClash (after m l)) (fitting-cons number total e es is) free) in
+        no_clash-within (insert m e.0 e.1) (after (insert m e.0 e.1) (fitting (number + 1) (total + length e.1) es))
+        (within-after (insert m e.0 e.1) (fitting (number + 1) (total + length e.1) es))
+        (subst (λ (l : List File). HasNoClash (after m l)) (fitting-cons number total e es is) free) in
         ap (λ (r : Option PutError). option_or r (first_refusal (insert m e.0 e.1) es)) (refused ∙ ap (λ (f : Option PutError). option_or f (clash_refusal m e.0)) is ∙ first_clash m e apart)
         ∙ rest is ∙ sym (first_limit-cons number total e es None is)
 
@@ -194,10 +200,13 @@ refusal-clash (e ∷ es) m number total few sum differ fresh apart clashes =
   where
     absent : contains_key m e.0 ≡ false
     absent = fresh-first m e es fresh
+
     refused : put_refusal m e.0 e.1 ≡ option_or (limit_at number total e) (clash_refusal m e.0)
     refused = put_refusal-fresh m e number total few sum absent
+
     first : (r : Option PutError) → put_refusal m e.0 e.1 ≡ r → first_refusal m (e ∷ es) ≡ option_or r (first_refusal (insert m e.0 e.1) es)
     first r is = ap (λ (r : Option PutError). option_or r (first_refusal (insert m e.0 e.1) es)) is
+
     by : (found : Option PutError) → limit_at number total e ≡ found → (x y : Bool) → has_folder e.0 (keys m) ≡ x → has_below e.0 (keys m) ≡ y → (limit_at number total e ≡ None → HasNoClash (insert m e.0 e.1) → first_refusal (insert m e.0 e.1) es ≡ Some Clash) → first_refusal m (e ∷ es) ≡ Some Clash
     by (Some limit) is x y f b rest = absurd (clashes (subst (λ (l : List File). HasNoClash (after m l)) (sym (fitting-stop number total e es limit is)) apart))
     by None is true y f b rest = first (Some Clash) (refused ∙ ap (λ (l : Option PutError). option_or l (clash_refusal m e.0)) is ∙ ap (λ (x : Bool). cond (x || has_below e.0 (keys m)) (Some Clash) None) f)
@@ -205,3 +214,203 @@ refusal-clash (e ∷ es) m number total few sum differ fresh apart clashes =
     by None is false false f b rest =
         first None (refused ∙ ap (λ (l : Option PutError). option_or l (clash_refusal m e.0)) is ∙ ap (λ (x : Bool). cond (x || has_below e.0 (keys m)) (Some Clash) None) f ∙ ap (λ (y : Bool). cond y (Some Clash) None) b)
         ∙ rest is (no_clash-insert m e.0 e.1 apart f b)
+
+either_listed : (a b c : Bool) → (b || cond a true c) ≡ ((a || b) || c)
+either_listed true true c = refl
+either_listed true false c = refl
+either_listed false b c = refl
+
+contains-after : (es : List File) (m : Files) (q : List ℕ) → contains_key (after m es) q ≡ (is_listed q (paths_of es) || contains_key m q)
+contains-after [] m q = refl
+contains-after (e ∷ es) m q =
+    contains-after es (insert m e.0 e.1) q ∙ ap (λ b. is_listed q (paths_of es) || b) (contains-insert m e.0 e.1 q)
+    ∙ either_listed (same_path q e.0) (is_listed q (paths_of es)) (contains_key m q)
+
+-- the paths of files that were put are those of the map of their list
+same_paths : (es : List File) (q : List ℕ) → contains_key (after empty es) q ≡ contains_key (from_entries {R = path_cmp} es) q
+same_paths es q =
+    contains-after es empty q ∙ ap (λ (there : Option (List ℕ)). is_listed q (paths_of es) || is_some there) (get-empty {X = List ℕ} path_cmp q)
+    ∙ or_false (is_listed q (paths_of es)) ∙ sym (contains-from_entries es q)
+  where
+    or_false : (b : Bool) → (b || false) ≡ b
+    or_false true = refl
+    or_false false = refl
+
+no_clash-after : (es : List File) (m : Files) → m ≡ from_entries es → HasNoClash m → HasNoClash (after empty es)
+no_clash-after es m is free = no_clash-within (after empty es) m (λ q there. ap (λ (n : Files). contains_key n q) is ∙ sym (same_paths es q) ∙ there) free
+
+no_clash-made : (es : List File) (m : Files) → m ≡ from_entries es → HasNoClash (after empty es) → HasNoClash m
+no_clash-made es m is free = no_clash-within m (after empty es) (λ q there. same_paths es q ∙ sym (ap (λ (n : Files). contains_key n q) is) ∙ there) free
+
+none_held : (es : List File) → Fresh empty es
+none_held es q there = ap is_some (get-empty {X = List ℕ} path_cmp q)
+
+-- the first that is refused is so for a clash
+pub refused-clash : (es : List File) (m : Files) (number : ℕ) (folder : List ℕ) → AllDiffer (paths_of es) → number ≡ count_fitting 0 0 es → m ≡ from_entries (take number es) → first_folder (keys m) ≡ Some folder → first_refusal empty es ≡ Some Clash
+refused-clash es m number folder differ is made found =
+    let made_too : m ≡ from_entries (fitting 0 0 es) = made ∙ ap (λ (n : ℕ). from_entries (take n es)) is in
+    refusal-clash es empty 0 0 (sym (len-empty path_cmp (List ℕ))) (sym site_bytes-empty) differ (none_held es) (no_clash-empty (List ℕ))
+    (λ (free : HasNoClash (after empty (fitting 0 0 es))). first_folder_clashes (keys m) folder found (clash_free-keys m (no_clash-made (fitting 0 0 es) m made_too free)))
+
+-- or for a limit
+pub refused-limit : (es : List File) (m : Files) (number : ℕ) → AllDiffer (paths_of es) → number ≡ count_fitting 0 0 es → m ≡ from_entries (take number es) → HasNoClash m → first_refusal empty es ≡ first_limit 0 0 es
+refused-limit es m number differ is made free =
+    let made_too : m ≡ from_entries (fitting 0 0 es) = made ∙ ap (λ (n : ℕ). from_entries (take n es)) is in
+    refusal-limit es empty 0 0 (sym (len-empty path_cmp (List ℕ))) (sym site_bytes-empty) differ (none_held es) (no_clash-after (fitting 0 0 es) m made_too free)
+
+len-from_entries-le : (es : List File) → len (from_entries {R = path_cmp} es) ≤ length es
+len-from_entries-le [] = omega (arith, len-empty path_cmp (List ℕ))
+len-from_entries-le (e ∷ es) =
+    let more : len (insert (from_entries {R = path_cmp} es) e.0 e.1) ≤ len (from_entries {R = path_cmp} es) + 1 =
+    subst (λ (n : ℕ). n ≤ len (from_entries {R = path_cmp} es) + 1) (sym (len-insert o (from_entries es) e.0 e.1)) (by (contains_key (from_entries {R = path_cmp} es) e.0) (len (from_entries {R = path_cmp} es))) in
+    omega (arith, more, len-from_entries-le es)
+  where
+    by : (b : Bool) (n : ℕ) → cond b n (n + 1) ≤ n + 1
+    by true n = omega arith
+    by false n = omega arith
+
+pub site_bytes-from_entries : (es : List File) → AllDiffer (paths_of es) → site_bytes (from_entries es) ≡ bytes_of es
+site_bytes-from_entries [] differ = site_bytes-empty
+site_bytes-from_entries (e ∷ es) differ =
+    let absent : contains_key (from_entries {R = path_cmp} es) e.0 ≡ false = contains-from_entries es e.0 ∙ absent_later e.0 (paths_of es) differ in
+    let fresh = site_bytes-fresh (from_entries es) e absent in
+    omega (arith, fresh, bytes_of-cons e es, site_bytes-from_entries es (differ_later e.0 (paths_of es) differ))
+
+-- none of the files passes a limit
+pub record AllFit (number total : ℕ) (es : List File) : Type 0 where
+  pub whole : count_fitting number total es ≡ length es
+  pub few : number ≤ most_files → number + length es ≤ most_files
+  pub within : total ≤ most_site_bytes → total + bytes_of es ≤ most_site_bytes
+  pub short : (path bytes : List ℕ) → find path_cmp path es ≡ Some bytes → length bytes ≤ most_bytes
+
+pub fit-all : (es : List File) (number total : ℕ) → first_limit number total es ≡ None → AllFit number total es
+fit-all [] number total none = record { whole = refl; few = λ h. omega (arith, h); within = λ h. omega (arith, h); short = λ path bytes is. absurd (cc (is)) }
+fit-all (e ∷ es) number total none =
+    let parts = neither (limit_at number total e) (first_limit (number + 1) (total + length e.1) es) none in
+    let passes = passed_limit-None (length e.1) (number + 1) (total + length e.1) parts.0 in
+    let rest = fit-all es (number + 1) (total + length e.1) parts.1 in
+    let few_rest = rest.few passes.few in
+    let within_rest = rest.within passes.within in
+    record {
+      whole = count_fitting-cons number total e es None parts.0 ∙ ap suc rest.whole;
+      few = λ h. omega (arith, few_rest);
+      within = λ h. omega (arith, within_rest, bytes_of-cons e es);
+      short = λ path bytes is. by path bytes (same_path path e.0) passes.short rest.short is;
+    }
+  where
+    by : (path bytes : List ℕ) (b : Bool) → length e.1 ≤ most_bytes → ((path bytes : List ℕ) → find path_cmp path es ≡ Some bytes → length bytes ≤ most_bytes) → cond b (Some e.1) (find path_cmp path es) ≡ Some bytes → length bytes ≤ most_bytes
+    by path bytes true short rest is = subst (λ (w : List ℕ). length w ≤ most_bytes) (same_bytes is) short
+      where
+        same_bytes : Some e.1 ≡ Some bytes → e.1 ≡ bytes
+        same_bytes is = cc (is)
+    by path bytes false short rest is = rest path bytes is
+
+-- where no limit is passed, the files are held
+pub held-from_entries : (es : List File) (m : Files) (number total : ℕ) → AllDiffer (paths_of es) → number ≡ count_fitting 0 0 es → total ≡ bytes_of (take number es) → m ≡ from_entries (take number es) → HasNoClash m → first_limit 0 0 es ≡ None → (m ≡ from_entries es) × Keeps total m
+held-from_entries es m number total differ is sum made free none =
+    let fit = fit-all es 0 0 none in
+    let all : take number es ≡ es = take_all number es (omega (arith, is, fit.whole)) in
+    let whole : m ≡ from_entries es = made ∙ ap from_entries all in
+    let few = fit.few (omega arith) in
+    let within = fit.within (omega arith) in
+    let bytes = site_bytes-from_entries es differ in
+    let total_is : total ≡ bytes_of es = sum ∙ ap bytes_of all in (
+      whole,
+      (
+        total_is ∙ sym bytes ∙ ap site_bytes (sym whole),
+        record {
+          few = omega (arith, ap len whole, len-from_entries-le es, few);
+          short = λ path b there. fit.short path b (sym (get-from_entries o es path) ∙ sym (ap (λ (n : Files). get n path) whole) ∙ there);
+          within = omega (arith, ap site_bytes whole, bytes, within);
+          apart = free;
+        },
+      ),
+    )
+
+-- a file of a list, with its bytes as a list
+pub plain_at : (files : List (List ℕ × Vec ℕ Global)) (number : ℕ) (file : List ℕ × Vec ℕ Global) → number < length files → file ≡ get_or files number file → get_or (plain files) number (file.0, file.1.items) ≡ (file.0, file.1.items)
+plain_at files number file lt is =
+    get_or-map (λ (f : List ℕ × Vec ℕ Global). (f.0, f.1.items)) files number file (file.0, file.1.items) lt
+    ∙ ap (λ (f : List ℕ × Vec ℕ Global). (f.0, f.1.items)) (sym is)
+
+pub plain_length : (files : List (List ℕ × Vec ℕ Global)) → length (plain files) ≡ length files
+plain_length [] = refl
+plain_length (f ∷ files) = ap suc (plain_length files)
+
+abbrev pub VecFile : Type 0
+VecFile = List ℕ × Vec ℕ Global
+
+abbrev pub as_plain : VecFile → File
+as_plain file = (file.0, file.1.items)
+
+limit_here : (number total bytes : ℕ) (file : VecFile) (found : Option PutError) → bytes ≡ length file.1.items → found ≡ passed_limit bytes (number + 1) (total + bytes) → limit_at number total (as_plain file) ≡ found
+limit_here number total bytes file found len is = sym (is ∙ ap (λ (n : ℕ). passed_limit n (number + 1) (total + n)) len)
+
+-- the walk meets a limit
+pub counted-found : (files : List VecFile) (number total bytes : ℕ) (file : VecFile) (found : Option PutError) → number < length files → file ≡ get_or files number file → bytes ≡ length file.1.items → found ≡ passed_limit bytes (number + 1) (total + bytes) → is_some found ≡ true → Fits (plain files) number total → Found (plain files) number found
+counted-found files number total bytes file None lt at len is there fits = absurd (cc (there))
+counted-found files number total bytes file (Some limit) lt at len is there fits =
+    fits-found (plain files) number total (as_plain file) limit (omega (arith, plain_length files, lt)) (plain_at files number file lt at) (limit_here number total bytes file (Some limit) len is) fits
+
+-- or goes on
+pub counted-step : (files : List VecFile) (number total bytes : ℕ) (file : VecFile) (found : Option PutError) → number < length files → file ≡ get_or files number file → bytes ≡ length file.1.items → found ≡ passed_limit bytes (number + 1) (total + bytes) → is_some found ≡ false → Fits (plain files) number total → Fits (plain files) (number + 1) (total + bytes)
+counted-step files number total bytes file (Some limit) lt at len is there fits = absurd (cc (there))
+counted-step files number total bytes file None lt at len is there fits =
+    subst (λ (n : ℕ). Fits (plain files) (number + 1) (total + n)) (sym len)
+    (fits-step (plain files) number total (as_plain file) (omega (arith, plain_length files, lt)) (plain_at files number file lt at) (limit_here number total bytes file None len is) fits)
+
+all-front : (p : List ℕ) (n : ℕ) (ps : List (List ℕ)) → AllByRecursion (λ q. same_path p q ≡ false) ps → AllByRecursion (λ q. same_path p q ≡ false) (take n ps)
+all-front p zero [] d = tt
+all-front p zero (q ∷ ps) d = tt
+all-front p (suc n) [] d = tt
+all-front p (suc n) (q ∷ ps) d = (d.0, all-front p n ps d.1)
+
+differ-front : (n : ℕ) (ps : List (List ℕ)) → AllDiffer ps → AllDiffer (take n ps)
+unfolding IsDistinct
+differ-front zero [] d = tt
+differ-front zero (p ∷ ps) d = tt
+differ-front (suc n) [] d = tt
+differ-front (suc n) (p ∷ ps) d = (all-front p n ps d.0, differ-front n ps d.1)
+
+-- the front of a list of files still has differing paths
+pub differ-kept : (files kept : List VecFile) (es : List File) (number : ℕ) → AllDiffer (paths_of files) → kept ≡ take number files → es ≡ plain kept → AllDiffer (paths_of es)
+differ-kept files kept es number differ front is =
+    subst AllDiffer (sym (ap paths_of is ∙ paths_of-plain kept ∙ ap paths_of front ∙ sym (take-map (λ (f : VecFile). f.0) number files))) (differ-front number (paths_of files) differ)
+
+-- what an option holds, where it is there
+pub made_of : {X : Type 0} (P : Type 0) (Q : X → Type 0) (o : Option X) (x : X) → o ≡ Some x → MatchOption o P Q → Q x
+made_of P Q o x is h = subst (λ o. MatchOption o P Q) is h
+
+pub is_made : {X : Type 0} (P : Type 0) (Q : X → Type 0) (o : Option X) → P → MatchOption o (P → ⊥) Q → IsSome o
+is_made P Q None p h = absurd (h p)
+is_made P Q (Some x) p h = refl
+
+pub none_of : {X : Type 0} (o : Option X) → is_some o ≡ false → IsNone o
+none_of None e = refl
+none_of (Some x) e = absurd (cc (e))
+
+pub some_folder : (o : Option (Bor (List ℕ))) → is_some o ≡ true → (folder : List ℕ) × (option_copied o ≡ Some folder)
+some_folder None e = absurd (cc (e))
+some_folder (Some x) e = (x.now, refl)
+
+-- files of which the front that passes no limit has no clash
+pub record Fitted (files : List VecFile) (total : ℕ) (limit : Option PutError) (m : Files) : Type 0 where
+  pub refused : first_refusal empty (plain files) ≡ limit
+  pub held : limit ≡ None → (m ≡ from_entries (plain files)) × Keeps total m
+
+pub fitted : (files given : List VecFile) (number total : ℕ) (limit : Option PutError) (m : Files) → given ≡ files → AllDiffer (paths_of files) → number ≡ count_fitting 0 0 (plain given) → total ≡ bytes_of (take number (plain given)) → limit ≡ first_limit 0 0 (plain given) → m ≡ from_entries (take number (plain files)) → HasNoClash m → Fitted files total limit m
+fitted files given number total limit m same_files differ number_given total_given limit_given made free =
+    let differ_plain : AllDiffer (paths_of (plain files)) = subst AllDiffer (sym (paths_of-plain files)) differ in
+    let number_is : number ≡ count_fitting 0 0 (plain files) = number_given ∙ ap (λ (l : List VecFile). count_fitting 0 0 (plain l)) same_files in
+    let total_is : total ≡ bytes_of (take number (plain files)) = total_given ∙ ap (λ (l : List VecFile). bytes_of (take number (plain l))) same_files in
+    let limit_is : limit ≡ first_limit 0 0 (plain files) = limit_given ∙ ap (λ (l : List VecFile). first_limit 0 0 (plain l)) same_files in
+    record {
+      refused = refused-limit (plain files) m number differ_plain number_is made free ∙ sym limit_is;
+      held = λ none. held-from_entries (plain files) m number total differ_plain number_is total_is made free (sym limit_is ∙ none);
+    }
+
+pub clashed : (files given : List VecFile) (number : ℕ) (m : Files) (found : Option (Bor (List ℕ))) → given ≡ files → AllDiffer (paths_of files) → number ≡ count_fitting 0 0 (plain given) → m ≡ from_entries (take number (plain files)) → option_copied found ≡ first_folder (keys m) → is_some found ≡ true → first_refusal empty (plain files) ≡ Some Clash
+clashed files given number m found same_files differ number_given made first there =
+    let folder = some_folder found there in
+    refused-clash (plain files) m number folder.0 (subst AllDiffer (sym (paths_of-plain files)) differ)
+    (number_given ∙ ap (λ (l : List VecFile). count_fitting 0 0 (plain l)) same_files) made (sym first ∙ folder.1)

@@ -107,9 +107,11 @@ can_hold-remove m k held = record {
         by : (b : Bool) → cond b (len m - 1) (len m) ≤ len m
         by true = omega arith
         by false = omega arith
+
     kept : (path bytes : List ℕ) (b : Bool) → cond b None (get m path) ≡ Some bytes → get m path ≡ Some bytes
     kept path bytes true is = absurd (cc (is))
     kept path bytes false is = is
+
     within : Within (remove m k) m
     within path there = by (same_path path k) (sym (ap is_some (get-remove o m k path)) ∙ there)
       where

@@ -1,6 +1,7 @@
 // Files that are to be held in place of all others.
 ghost use Rattle.std.specs.Prelude.{◌≡◌, ◌⊎◌, ◌<◌, ◌≤◌, ◌+◌, None, IfOk, MatchResult, length, take, is_some};
 ghost use Rattle.std.specs.FinMap as map;
+ghost use Rattle.site_base.specs.PathMap.{as_map};
 ghost use Rattle.site_base.specs.Places.{AllDiffer, paths_of};
 ghost use Rattle.source_tree.specs.Fitting.{count_fitting, first_limit};
 ghost use Rattle.source_tree.specs.Limits.{bytes_of};
@@ -15,7 +16,7 @@ use std::alloc::Global;
 // What is held once these files were put one after another.
 //
 // The files before the first that passes a limit tell whether any put before it is a clash, so they are sorted once.
-pub(crate) fn held_of(alloc: Global, mut files: Vec<(SitePath, Vec<u8>)>) -> Result<Held, PutError>
+pub(crate) fn held_of(alloc: Global, files: Vec<(SitePath, Vec<u8>)>) -> Result<Held, PutError>
     requires { AllDiffer (paths_of files.items) }
     ensures { MatchResult result
         (λ held. (held ≡ map.from_entries (plain files.items))
@@ -24,9 +25,7 @@ pub(crate) fn held_of(alloc: Global, mut files: Vec<(SitePath, Vec<u8>)>) -> Res
         ⊎ (first_refusal map.empty (plain files.items) ≡ Some error)) }
 {
     let fitting = count_fitting(&files);
-    files.truncate(fitting.number);
-    let entries = with_file_bytes(alloc, files)?;
-    let files = PathMap::from_entries(entries).unwrap();
+    let files = map_of_front(alloc, files, fitting.number)?;
     if files.find_clash().is_some() {
         return Err(PutError::Clash);
     }
@@ -68,6 +67,20 @@ fn count_fitting(files: &[(SitePath, Vec<u8>)]) -> Fitting
         total,
         limit: None,
     }
+}
+
+// The first of the files as a map.
+fn map_of_front(
+    alloc: Global,
+    mut files: Vec<(SitePath, Vec<u8>)>,
+    number: usize,
+) -> Result<PathMap<FileBytes>, Memory>
+    requires { AllDiffer (paths_of files.items) }
+    ensures { IfOk result (λ made. as_map made ≡ map.from_entries (take number (plain files.items))) }
+{
+    files.truncate(number);
+    let entries = with_file_bytes(alloc, files)?;
+    Ok(PathMap::from_entries(entries).unwrap())
 }
 
 fn with_file_bytes(

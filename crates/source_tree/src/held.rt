@@ -120,7 +120,11 @@ impl Held {
     fn refusal(&self, path: &SitePath, bytes: &[u8]) -> Option<PutError>
         ensures { result ≡ put_refusal self.now path.now bytes.now }
     {
-        match passed_limit(bytes.len(), self.len_besides(path), self.total_besides(path)) {
+        match passed_limit(
+            bytes.len(),
+            self.len_besides(path),
+            self.total_besides(path),
+        ) {
             Some(limit) => Some(limit),
             None => self.clash_refusal(path),
         }

@@ -58,6 +58,23 @@ impl MemorySource {
         }
     }
 
+    // The paths of its files.
+    fn paths(&self, alloc: Global) -> Result<Vec<SitePath>, Memory>
+        ensures paths { IfOk result (λ paths. paths.items ≡ map.keys self.now.files) }
+        ensures differ { IfOk result (λ paths. AllDiffer paths.items) }
+        ensures clash_free { IfOk result (λ paths. ClashFree paths.items) }
+    {
+        self.files.paths(alloc)
+    }
+
+    // The bytes of one of its files.
+    fn bytes_at(&self, path: &SitePath) -> &[u8]
+        requires { IsTrue (map.contains_key self.now.files path.now) }
+        ensures { map.get self.now.files path.now ≡ Some result.now }
+    {
+        self.files.get(path).unwrap()
+    }
+
     // Counts a call, and says whether it is to fail.
     fn fails(&mut self) -> bool
         ensures files { self.new.files ≡ self.old.files }
@@ -94,10 +111,7 @@ impl SourceTree for MemorySource {
         if self.fails() {
             return Err(ListError::Failed);
         }
-        match self.files.paths(alloc) {
-            Ok(paths) => Ok(paths),
-            Err(Memory) => Err(ListError::Memory),
-        }
+        Ok(self.paths(alloc)?)
     }
 
     fn read(&mut self, alloc: Global, path: &SitePath) -> Result<Vec<u8>, ReadError>
@@ -113,7 +127,7 @@ impl SourceTree for MemorySource {
         if self.fails() {
             return Err(ReadError::Failed);
         }
-        let bytes = self.files.get(path).unwrap();
+        let bytes = self.bytes_at(path);
         let most = bytes.len().min(MOST_READ);
         match bytes[..most].to_vec(alloc) {
             Ok(bytes) => Ok(bytes),
