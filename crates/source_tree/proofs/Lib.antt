@@ -3,5 +3,7 @@ pub mod Fitted
 pub mod Holding
 pub mod Listed
 pub mod Plain
+pub mod Results
 pub mod ScanFaults
 pub mod Sums
+pub mod Told

@@ -15,7 +15,7 @@ use Rattle.source_tree.proofs.Sums.{o, path_cmp-IsAntisymmetric}
 abbrev File : Type 0
 File = List ℕ × Vec ℕ Global
 
-abbrev bytes : Vec ℕ Global → List ℕ
+abbrev pub bytes : Vec ℕ Global → List ℕ
 bytes v = v.items
 
 below_all-plain : (p : List ℕ) (es : List File) → below_all path_cmp p (plain es) ≡ below_all path_cmp p es

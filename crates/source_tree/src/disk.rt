@@ -1,6 +1,7 @@
 // A source that is the current folder. It tells nothing.
-ghost use Rattle.std.specs.Prelude.{◌≡◌, ◌+◌, ◌-◌, ◌^◌, min, None, IfOk};
+ghost use Rattle.std.specs.Prelude.{◌≤◌, None, IfOk};
 ghost use Rattle.site_base.specs.Clash.{ClashFree};
+ghost use Rattle.site_base.specs.Ends.{Rose};
 ghost use Rattle.site_base.specs.Places.{AllDiffer};
 
 use crate::SourceTree;
@@ -37,7 +38,8 @@ impl<R: Files + AllocGlobal + Clone + Drop> DiskSource<R> {
     }
 
     fn fail(&mut self)
-        ensures { self.new.faults ≡ min (self.old.faults + 1) (2 ^ 64 - 1) }
+        ensures later { self.old.faults ≤ self.new.faults }
+        ensures rose { Rose self.old.faults self.new.faults }
     {
         self.faults = self.faults.saturating_add(1);
     }
