@@ -3,7 +3,9 @@ pub mod Fitted
 pub mod Holding
 pub mod Listed
 pub mod Plain
+pub mod ReadSite
 pub mod Results
 pub mod ScanFaults
+pub mod Steps
 pub mod Sums
 pub mod Told
