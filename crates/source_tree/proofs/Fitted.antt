@@ -3,7 +3,7 @@ use Rattle.std.proofs.Common.{◌≡◌, ℕ, zero, suc, ◌+◌, ◌≤◌, ◌
 use Rattle.std.specs.Prelude.{◌||◌}
 use Rattle.std.specs.List.{AllByRecursion, IsDistinct}
 use Rattle.std.specs.Option.{is_some, option_copied, option_or}
-use Rattle.std.specs.FinMap.{FinMap, contains_key, empty, entries, find, from_entries, get, get-empty, get-from_entries, get-insert, insert, keys, len, len-empty, len-insert, same_map}
+use Rattle.std.specs.FinMap.{contains_key, empty, find, from_entries, get, get-empty, get-from_entries, insert, keys, len, len-empty, len-insert}
 use Rattle.std.proofs.lemmas.List.{drop_all, drop_more, get_or-map, take-map, take_all, take_more}
 use Rattle.std.proofs.lemmas.List.Sums.{sum_by_push}
 use Rattle.std.specs.Cmp.{tied_itself}
@@ -11,14 +11,14 @@ use Rattle.std.specs.Ordering.{is_eq}
 use Rattle.site_base.specs.Clash.{HasNoClash, first_folder, has_below, has_folder}
 use Rattle.site_base.specs.Places.{AllDiffer, Files, is_listed, path_cmp, paths_of, same_path}
 use Rattle.source_tree.specs.Fitting.{count_fitting, first_limit}
-use Rattle.source_tree.specs.Limits.{CanBeHeld, bytes_of, length_or_zero, most_bytes, most_files, most_site_bytes, site_bytes}
+use Rattle.source_tree.specs.Limits.{bytes_of, length_or_zero, most_bytes, most_files, most_site_bytes, site_bytes}
 use Rattle.source_tree.specs.Put.{clash_refusal, first_refusal, passed_limit, plain, put_refusal}
 use Rattle.source_tree.specs.declared.put_error.PutError.{PutError}
 use Rattle.source_tree.specs.declared.put_error.PutError.TheVariants.{Clash}
 use Rattle.source_tree.proofs.Clashing.{Within, below_clashes, clash_free-keys, contains-insert, first_folder_clashes, folder_clashes, no_clash-empty, no_clash-insert, no_clash-within, same}
 use Rattle.source_tree.proofs.Holding.{Keeps, neither, passed_limit-None, site_bytes-empty}
 use Rattle.source_tree.proofs.Plain.{absent_later, contains-from_entries, differ_later, paths_of-plain}
-use Rattle.source_tree.proofs.Sums.{bytes_of-cons, o, path_cmp-IsAntisymmetric, site_bytes-insert}
+use Rattle.source_tree.proofs.Sums.{bytes_of-cons, o, site_bytes-insert}
 
 abbrev pub File : Type 0
 File = List ℕ × List ℕ

@@ -1,16 +1,16 @@
 -- What may be held stays so.
-use Rattle.std.proofs.Common.{◌≡◌, ℕ, ◌+◌, ◌-◌, ◌≤◌, ◌<◌, Bool, true, false, cond, List, [], ◌∷◌, length, refl, subst, sym, ap, ◌∙◌, arith, Option, Some, None}
+use Rattle.std.proofs.Common.{◌≡◌, ℕ, ◌+◌, ◌-◌, ◌≤◌, Bool, true, false, cond, List, [], ◌∷◌, length, refl, subst, sym, ap, ◌∙◌, arith, Option, Some, None}
 use Rattle.std.specs.Prelude.{nat_lt, ◌||◌}
 use Rattle.std.specs.Option.{is_some, option_or}
-use Rattle.std.specs.FinMap.{FinMap, contains_key, empty, entries, get, get-empty, get-insert, get-remove, insert, len, len-empty, len-entries, len-insert, len-remove, remove, same_map, keys}
-use Rattle.site_base.specs.Clash.{HasNoClash, has_below, has_folder}
+use Rattle.std.specs.FinMap.{contains_key, empty, entries, get, get-empty, get-insert, get-remove, insert, len, len-empty, len-entries, len-insert, len-remove, remove, keys}
+use Rattle.site_base.specs.Clash.{has_below, has_folder}
 use Rattle.site_base.specs.Places.{path_cmp, Files, same_path}
-use Rattle.source_tree.specs.Limits.{CanBeHeld, bytes_of, length_at, length_or_zero, most_bytes, most_files, most_site_bytes, site_bytes}
+use Rattle.source_tree.specs.Limits.{CanBeHeld, bytes_of, most_bytes, most_files, most_site_bytes, site_bytes}
 use Rattle.source_tree.specs.Put.{clash_refusal, passed_limit, put_refusal}
 use Rattle.source_tree.specs.declared.put_error.PutError.{PutError}
 use Rattle.source_tree.specs.declared.put_error.PutError.TheVariants.{FileTooLong, TooManyFiles, SiteTooLong, Clash}
 use Rattle.source_tree.proofs.Clashing.{Within, no_clash-empty, no_clash-insert, no_clash-within}
-use Rattle.source_tree.proofs.Sums.{at_removed, get_removed, length_at-le, o, path_cmp-IsAntisymmetric, site_bytes-insert, site_bytes-remove}
+use Rattle.source_tree.proofs.Sums.{at_removed, get_removed, o, site_bytes-insert, site_bytes-remove}
 use borrow.Author.Tests.{ltb-false}
 
 nothing : {A : Type 0} (xs : List A) → length xs ≡ 0 → xs ≡ []

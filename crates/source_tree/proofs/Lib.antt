@@ -1,3 +1,4 @@
+pub mod Apart
 pub mod Clashing
 pub mod Fitted
 pub mod Holding

@@ -1,11 +1,11 @@
 -- The paths of a list, sorted, are those of the files that it lists.
-use Rattle.std.proofs.Common.{◌≡◌, ℕ, ◌+◌, ◌<◌, ◌≤◌, Bool, true, false, cond, List, [], ◌∷◌, ◌++◌, map, length, get_or, refl, sym, ◌∙◌, ap, subst, arith, rules, Option, Some, None, suc, zero}
+use Rattle.std.proofs.Common.{◌≡◌, ℕ, ◌+◌, Bool, true, false, List, [], ◌∷◌, get_or, refl, sym, ◌∙◌, ap, subst, arith, Option, Some, None, suc}
 use Rattle.std.specs.Prelude.{T, ◌&&◌}
 use Rattle.std.specs.declared.cmp.Ordering.TheVariants.{Less, Equal, Greater}
 use Rattle.std.specs.declared.cmp.Ordering.{Ordering}
 use Rattle.std.specs.Ordering.{is_lt, is_eq, ordering_reverse}
 use Rattle.std.specs.Cmp.{eq_by_cmp_equiv}
-use Rattle.std.specs.List.{list_any, IsDistinct}
+use Rattle.std.specs.List.{IsDistinct}
 use Rattle.std.specs.List.Sorted.{IsPermutation, IsSorted}
 use Rattle.std.proofs.lemmas.List.Sorted.{list_any-IsPermutation}
 use Rattle.std.proofs.lemmas.Map.Keys.{IsDistinct-IsPermutation}
@@ -13,8 +13,8 @@ use Rattle.std.specs.FinMap.{contains_key, contains_key-keys, entries, entries_s
 use Rattle.std.specs.FinMap.Entries.{below_all, is_some-find, same_entries}
 use Rattle.std.specs.Option.{is_some}
 use Rattle.site_base.specs.Clash.{ClashFree}
-use Rattle.site_base.specs.Places.{AllDiffer, Files, PathsRise, is_listed, path_cmp, paths_of, same_path}
-use Rattle.source_tree.specs.Rise.{Rise}
+use Rattle.site_base.specs.Places.{AllDiffer, Files, is_listed, path_cmp, paths_of, same_path}
+use Rattle.source_tree.specs.Rise.{Rise, units}
 use Rattle.source_tree.proofs.Sums.{o, path_cmp-IsAntisymmetric}
 
 both : (a b : Bool) → a ≡ true → b ≡ true → (a && b) ≡ true
@@ -46,10 +46,6 @@ below_rest : (r : Ordering) → is_lt (ordering_reverse r) ≡ false → is_eq r
 below_rest Less p q = refl
 below_rest Equal p q = absurd (cc (q))
 below_rest Greater p q = absurd (cc (p))
-
--- a list of paths as one of entries
-abbrev units : List (List ℕ) → List (List ℕ × Unit {0})
-units paths = map (λ p. (p, tt {0})) paths
 
 below_less : (x y : List ℕ) (ps : List (List ℕ)) → path_cmp x y ≡ Less → below_all path_cmp y (units ps) ≡ true → below_all path_cmp x (units ps) ≡ true
 below_less x y [] p h = refl
@@ -87,7 +83,7 @@ module _ {V : Type 0} where
   rise-paths_of [] = refl
   rise-paths_of (e ∷ es) = ap (λ b. b && is_sorted path_cmp (units (paths_of es))) (below_units e.0 es) ∙ ap (λ b. below_all path_cmp e.0 es && b) (rise-paths_of es)
 
-first_of_units : (ps : List (List ℕ)) → paths_of (units ps) ≡ ps
+pub first_of_units : (ps : List (List ℕ)) → paths_of (units ps) ≡ ps
 first_of_units [] = refl
 first_of_units (p ∷ ps) = ap (λ (l : List (List ℕ)). p ∷ l) (first_of_units ps)
 

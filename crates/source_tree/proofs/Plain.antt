@@ -1,13 +1,13 @@
 -- Maps and lists of files, with their bytes as lists.
-use Rattle.std.proofs.Common.{◌≡◌, ℕ, Bool, true, false, cond, List, [], ◌∷◌, ◌++◌, map, length, refl, subst, sym, ap, ◌∙◌, Option, Some, None, Vec, Global}
+use Rattle.std.proofs.Common.{◌≡◌, ℕ, Bool, true, false, cond, List, [], ◌∷◌, refl, subst, sym, ap, ◌∙◌, Option, Some, None, Vec, Global}
 use Rattle.std.specs.Prelude.{T, ◌&&◌, ◌||◌}
-use Rattle.std.specs.List.{IsDistinct, list_any, AllByRecursion}
+use Rattle.std.specs.List.{IsDistinct, AllByRecursion}
 use Rattle.std.specs.Option.{is_some, option_map}
 use Rattle.std.specs.Ordering.{is_lt}
 use Rattle.std.specs.FinMap.{FinMap, contains_key, entries, entries-from_sorted, entries_sorted, find, from_entries, get, get-entries, get-from_entries, is_sorted, keys, same_map}
 use Rattle.std.specs.FinMap.Entries.{below_all, is_some-find}
 use Rattle.site_base.specs.Clash.{ClashFree, HasNoClash}
-use Rattle.site_base.specs.Places.{AllDiffer, Files, is_listed, path_cmp, paths_of, same_path}
+use Rattle.site_base.specs.Places.{AllDiffer, is_listed, path_cmp, paths_of, same_path}
 use Rattle.source_tree.specs.Memory.{plain_files}
 use Rattle.source_tree.specs.Put.{plain}
 use Rattle.source_tree.proofs.Sums.{o, path_cmp-IsAntisymmetric}

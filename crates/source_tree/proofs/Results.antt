@@ -1,5 +1,5 @@
 -- What follows of an answer where it is there.
-use Rattle.std.proofs.Common.{◌≡◌, Bool, true, false, Bor, Err, IfOk, IsSome, Ok, Option, None, Result, Some, refl}
+use Rattle.std.proofs.Common.{◌≡◌, true, Bor, Err, IfOk, IsSome, Ok, Option, None, Result, Some, refl}
 use Rattle.std.specs.Option.{is_some, option_copied}
 
 pub if_ok : {T E : Type 0} (P Q : T → Type 0) (result : Result T E) → ((x : T) → P x → Q x) → IfOk result P → IfOk result Q

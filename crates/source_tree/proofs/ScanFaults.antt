@@ -1,5 +1,5 @@
 -- The first fault of a scan, where one of its kinds is known.
-use Rattle.std.proofs.Common.{◌≡◌, ℕ, ◌<◌, ◌≤◌, Bool, cond, List, [], map, length, get_or, sym, ◌∙◌, ap, subst, arith, rules, Option, Some, None}
+use Rattle.std.proofs.Common.{◌≡◌, ℕ, ◌<◌, ◌≤◌, cond, List, [], length, get_or, sym, ◌∙◌, ap, arith, rules, Option, Some, None}
 use Rattle.std.specs.FinMap.{entries, keys}
 use Rattle.std.specs.Option.{option_map, option_or}
 use Rattle.std.proofs.lemmas.Bool.{le-ltb, lt-ltb}

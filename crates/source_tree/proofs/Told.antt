@@ -1,5 +1,5 @@
 -- What a source tells of its files.
-use Rattle.std.proofs.Common.{◌≡◌, ℕ, List, length, min, take, sym, ◌∙◌, ap, arith, Option, Some, None, Err, Result}
+use Rattle.std.proofs.Common.{◌≡◌, ℕ, List, length, min, take, sym, ◌∙◌, ap, arith, Option, Some, Err, Result}
 use Rattle.std.specs.FinMap.{contains_key, contains_key-keys, get, keys}
 use Rattle.std.proofs.lemmas.List.{take_min}
 use Rattle.site_base.specs.Places.{Files, is_listed}

@@ -1,5 +1,5 @@
 -- How many files of a list pass no limit, where they are put one after another.
-use Rattle.std.specs.Prelude.{ℕ, suc, ◌+◌, List, [], ◌∷◌, length, Option, Some, None, if◌then◌else◌, is_some}
+use Rattle.std.specs.Prelude.{ℕ, suc, ◌+◌, List, [], ◌∷◌, length, Option, None, if◌then◌else◌, is_some}
 use Rattle.std.specs.Option.{option_or}
 use Rattle.source_tree.specs.Put.{passed_limit}
 use Rattle.source_tree.specs.declared.put_error.PutError.{PutError}

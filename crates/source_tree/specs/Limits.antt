@@ -1,5 +1,5 @@
 -- How much of a site may be held.
-use Rattle.std.specs.Prelude.{◌≡◌, ℕ, ◌≤◌, List, length, Option, Some, None, MatchOption}
+use Rattle.std.specs.Prelude.{◌≡◌, ℕ, ◌≤◌, List, length, Option, Some, None}
 use Rattle.std.specs.FinMap.{entries, get, len}
 use Rattle.std.specs.List.{sum_by}
 use Rattle.site_base.specs.Clash.{HasNoClash}

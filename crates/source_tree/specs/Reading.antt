@@ -1,5 +1,5 @@
 -- How far a scan has come.
-use Rattle.std.specs.Prelude.{◌≡◌, ℕ, ◌+◌, ◌<◌, ◌≤◌, List, ◌∷◌, [], ◌++◌, length, Option, Some, None}
+use Rattle.std.specs.Prelude.{◌≡◌, ℕ, ◌+◌, ◌<◌, ◌≤◌, List, ◌∷◌, [], ◌++◌, length, Some, None}
 use Rattle.std.specs.FinMap.{entries}
 use Rattle.site_base.specs.Places.{Files, paths_of}
 use Rattle.source_tree.specs.Limits.{most_site_bytes}

@@ -2,6 +2,7 @@
 #![tactic(auto)]
 
 mod disk;
+mod distinct;
 mod fitting;
 mod held;
 mod limits;
@@ -12,6 +13,7 @@ mod scan_error;
 mod source;
 
 pub use disk::DiskSource;
+pub use distinct::{paths_differ, paths_stand_apart};
 pub use held::Held;
 pub use memory::MemorySource;
 pub use put_error::PutError;

@@ -1,4 +1,4 @@
-use Rattle.std.proofs.Common.{◌≡◌, ◌∙◌, arith, sym}
+use Rattle.std.proofs.Common.{arith}
 use Rattle.site_base.specs.Faults.{fault_at}
 use Rattle.site_base.specs.declared.faults.FaultKind.TheVariants.{TooManyFiles}
 use Rattle.source_tree.proofs.Listed.{clash_free-sorted, listed, rise}

@@ -1,4 +1,4 @@
-use Rattle.std.proofs.Common.{◌≡◌, ◌≤◌, ◌∙◌, None, Some, ap, arith, length, sym}
+use Rattle.std.proofs.Common.{◌≤◌, ◌∙◌, None, Some, ap, arith, length, sym}
 use Rattle.std.specs.FinMap.{keys}
 use Rattle.site_base.specs.Faults.{fault_at}
 use Rattle.site_base.specs.PathMap.{as_map}

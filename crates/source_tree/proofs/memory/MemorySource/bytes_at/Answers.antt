@@ -1,4 +1,4 @@
-use Rattle.std.proofs.Common.{◌≡◌, ◌∙◌, ap, is_some, List, Vec, Global, ℕ, Some, subst, sym}
+use Rattle.std.proofs.Common.{◌∙◌, ap, is_some, Some, sym}
 use Rattle.std.specs.FinMap.{contains_key, get}
 use Rattle.std.specs.Option.{option_copied, option_map}
 use Rattle.site_base.specs.PathMap.{as_map}

@@ -1,8 +1,7 @@
-use Rattle.std.proofs.Common.{◌≡◌, ◌∙◌, ap, List, Vec, Global, ℕ, subst, sym}
+use Rattle.std.proofs.Common.{◌∙◌, ap, subst, sym}
 use Rattle.std.specs.FinMap.{keys}
-use Rattle.site_base.specs.Clash.{ClashFree, HasNoClash}
+use Rattle.site_base.specs.Clash.{ClashFree}
 use Rattle.site_base.specs.PathMap.{as_map}
-use Rattle.site_base.specs.Places.{Files}
 use Rattle.source_tree.specs.Memory.{SourceState}
 use Rattle.source_tree.proofs.Clashing.{clash_free-keys}
 use Rattle.source_tree.proofs.Plain.{keys-plain_files}

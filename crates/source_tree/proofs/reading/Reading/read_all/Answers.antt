@@ -1,6 +1,5 @@
-use Rattle.std.proofs.Common.{◌≡◌, ◌≤◌, ◌∙◌, ap, arith, length, List, Some, subst, sym, ℕ}
+use Rattle.std.proofs.Common.{◌∙◌, ap, arith, List, Some, subst, sym, ℕ}
 use Rattle.site_base.specs.declared.faults.FaultKind.TheVariants.{FileTooLong}
-use Rattle.source_tree.specs.Limits.{most_bytes}
 use Rattle.source_tree.specs.Reading.{Follows, Going}
 use Rattle.source_tree.proofs.Steps.{follows-step, going-step, limit_is, next, next_get, next_has, too_long}
 use Rattle.source_tree.proofs.reading.Reading.read_all.Goals as goal
