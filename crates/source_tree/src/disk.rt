@@ -114,3 +114,52 @@ fn read_file<R: Files + AllocGlobal>(
     }
     Err(ReadError::Failed)
 }
+
+#[cfg(test)]
+mod tests {
+    use super::*;
+    use crate::{Held, ScanError};
+    use std::env;
+    use std::test::Fail;
+
+    const FOLDER: &str = "disk_source_test";
+
+    fn make_files(rt: &HostRuntime) -> Result<(), Fail> {
+        fs::create_dir_all(rt, FOLDER)?;
+        env::set_current_dir(rt, FOLDER)?;
+        for folder in ["below/.git", ".git", "_site", "sub/_site", "bad"] {
+            fs::create_dir_all(rt, folder)?;
+        }
+        for path in [
+            "below/file",
+            "below/.git/x",
+            ".git/x",
+            "_site/y",
+            "sub/_site/z",
+            "top.md",
+        ] {
+            fs::write(rt, path, path)?;
+        }
+        Ok(())
+    }
+
+    #[test]
+    fn scans_a_folder(rt: HostRuntime) -> Result<(), Fail> {
+        let alloc = rt.alloc();
+        make_files(&rt)?;
+        let mut held = Held::new(alloc);
+        let mut source = DiskSource::new(rt.clone()?);
+        assert_eq!(rt; held.scan(alloc, &mut source).ok(), Some(3));
+        for path in ["below/file", "sub/_site/z", "top.md"] {
+            let site_path = SitePath::read(alloc, path)?;
+            assert_eq!(rt; held.get(&site_path), Some(path.as_bytes()), "at {path}");
+        }
+        fs::write(&rt, "bad/\u{1}", "")?;
+        let failed = matches!(held.scan(alloc, &mut source), Err(ScanError::Failed));
+        assert!(rt; failed);
+        assert_eq!(rt; held.len(), 3);
+        env::set_current_dir(&rt, "..")?;
+        fs::remove_dir_all(&rt, FOLDER)?;
+        Ok(())
+    }
+}

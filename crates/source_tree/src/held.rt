@@ -219,3 +219,93 @@ impl Held {
         Ok(self.len())
     }
 }
+
+#[cfg(test)]
+mod tests {
+    use super::*;
+    use crate::paths_differ;
+    use std::process::Abort;
+    use std::test::Fail;
+
+    fn file(alloc: Global, path: &str, text: &str) -> Result<(SitePath, Vec<u8>), Fail> {
+        let path = SitePath::read(alloc, path)?;
+        let bytes = text.as_bytes().to_vec(alloc)?;
+        Ok((path, bytes))
+    }
+
+    #[test]
+    fn puts_and_deletes(rt: HostRuntime) -> Result<(), Fail> {
+        let alloc = rt.alloc();
+        let mut held = Held::new(alloc);
+        for (path, text, answer) in [
+            ("a", "one", Ok(())),
+            ("a-b", "two", Ok(())),
+            ("a/b", "", Err(PutError::Clash)),
+            ("c/d", "three", Ok(())),
+            ("c", "", Err(PutError::Clash)),
+            ("a", "four", Ok(())),
+        ] {
+            let (path, bytes) = file(alloc, path, text)?;
+            assert_eq!(rt; held.put(path, bytes), answer, "at {text}");
+        }
+        assert_eq!(rt; held.len(), 3);
+        let (path, bytes) = held.at(0);
+        assert_eq!(rt; path.text(), "a");
+        assert_eq!(rt; bytes, b"four".as_slice());
+        let a = SitePath::read(alloc, "a")?;
+        assert!(rt; held.delete(&a));
+        assert!(rt; !held.delete(&a));
+        assert_eq!(rt; held.get(&a), None);
+        let (path, bytes) = file(alloc, "a/b", "")?;
+        assert_eq!(rt; held.put(path, bytes), Ok(()));
+        Ok(())
+    }
+
+    #[test]
+    fn refuses_a_file_that_is_too_long(rt: HostRuntime) -> Result<(), Fail> {
+        let alloc = rt.alloc();
+        let mut held = Held::new(alloc);
+        for (length, answer) in [
+            (16_777_217, Err(PutError::FileTooLong)),
+            (16_777_216, Ok(())),
+        ] {
+            let bytes = vec![in alloc; 0; length]?;
+            assert_eq!(rt;
+                held.put(SitePath::read(alloc, "big")?, bytes),
+                answer,
+                "at {length}"
+            );
+        }
+        Ok(())
+    }
+
+    fn replace(
+        rt: &impl Abort,
+        alloc: Global,
+        held: &mut Held,
+        paths: &[&str],
+    ) -> Result<Result<(), PutError>, Fail> {
+        let mut files = Vec::new(alloc);
+        for path in paths {
+            files.push(file(alloc, path, "x")?)?;
+        }
+        let differ = paths_differ(alloc, &files)?;
+        assert!(rt; differ);
+        Ok(held.replace_all(alloc, files))
+    }
+
+    #[test]
+    fn replaces_all_or_nothing(rt: HostRuntime) -> Result<(), Fail> {
+        let alloc = rt.alloc();
+        let mut held = Held::new(alloc);
+        assert_eq!(rt; replace(&rt, alloc, &mut held, &["b", "a"])?, Ok(()));
+        assert_eq!(rt; held.len(), 2);
+        let clash = replace(&rt, alloc, &mut held, &["c/d", "c-d", "c"])?;
+        assert_eq!(rt; clash, Err(PutError::Clash));
+        assert_eq!(rt; held.len(), 2);
+        assert_eq!(rt; replace(&rt, alloc, &mut held, &["e"])?, Ok(()));
+        assert_eq!(rt; held.len(), 1);
+        assert_eq!(rt; held.at(0).0.text(), "e");
+        Ok(())
+    }
+}

@@ -135,3 +135,95 @@ impl SourceTree for MemorySource {
         }
     }
 }
+
+#[cfg(test)]
+mod tests {
+    use super::*;
+    use crate::{Held, ScanError, paths_stand_apart};
+    use site_base::{FaultKind, SiteFault};
+    use std::process::Abort;
+    use std::test::Fail;
+
+    // A source of `count` short files, the last path first, which fails at listed calls.
+    fn source_of(
+        rt: &impl Abort,
+        alloc: Global,
+        count: u32,
+        fail: &[u64],
+    ) -> Result<MemorySource, Fail> {
+        let mut files = Vec::new(alloc);
+        for number in (0..count).rev() {
+            let path = format!(in alloc; "f{number:05}")?;
+            let path = SitePath::read(alloc, path.as_str())?;
+            files.push((path, b"x".to_vec(alloc)?))?;
+        }
+        source_of_files(rt, alloc, files, fail.to_vec(alloc)?)
+    }
+
+    fn source_of_files(
+        rt: &impl Abort,
+        alloc: Global,
+        files: Vec<(SitePath, Vec<u8>)>,
+        fail: Vec<u64>,
+    ) -> Result<MemorySource, Fail> {
+        let apart = paths_stand_apart(alloc, &files)?;
+        assert!(rt; apart);
+        Ok(MemorySource::new(files, fail))
+    }
+
+    fn limit(scan: Result<u32, ScanError>) -> Option<SiteFault> {
+        match scan {
+            Err(ScanError::Limit(fault)) => Some(fault),
+            _ => None,
+        }
+    }
+
+    #[test]
+    fn scans_as_many_files_as_may_be_held(rt: HostRuntime) -> Result<(), Fail> {
+        let alloc = rt.alloc();
+        let mut held = Held::new(alloc);
+        let mut source = source_of(&rt, alloc, 50_000, &[])?;
+        assert_eq!(rt; held.scan(alloc, &mut source).ok(), Some(50_000));
+        let mut more = source_of(&rt, alloc, 50_001, &[])?;
+        let fault = limit(held.scan(alloc, &mut more)).ok_or("no limit")?;
+        assert_eq!(rt; fault.path.text(), "f50000");
+        assert_eq!(rt; fault.kind, FaultKind::TooManyFiles);
+        assert_eq!(rt; fault.line, 0);
+        assert_eq!(rt; held.len(), 50_000);
+        Ok(())
+    }
+
+    #[test]
+    fn answers_a_file_that_is_too_long(rt: HostRuntime) -> Result<(), Fail> {
+        let alloc = rt.alloc();
+        let mut held = Held::new(alloc);
+        let files = vec![in alloc;
+            (SitePath::read(alloc, "small")?, b"x".to_vec(alloc)?),
+            (
+                SitePath::read(alloc, "big")?,
+                vec![in alloc; 0; 16_777_217]?
+            ),
+        ]?;
+        let mut source = source_of_files(&rt, alloc, files, Vec::new(alloc))?;
+        let fault = limit(held.scan(alloc, &mut source)).ok_or("no limit")?;
+        assert_eq!(rt; fault.path.text(), "big");
+        assert_eq!(rt; fault.kind, FaultKind::FileTooLong);
+        assert_eq!(rt; held.len(), 0);
+        Ok(())
+    }
+
+    // One list and three reads; a later scan counts on.
+    #[test]
+    fn fails_at_each_listed_call(rt: HostRuntime) -> Result<(), Fail> {
+        let alloc = rt.alloc();
+        for call in 1..5 {
+            let mut held = Held::new(alloc);
+            let mut source = source_of(&rt, alloc, 3, &[call])?;
+            let failed = matches!(held.scan(alloc, &mut source), Err(ScanError::Failed));
+            assert!(rt; failed, "at {call}");
+            assert_eq!(rt; held.len(), 0, "at {call}");
+            assert_eq!(rt; held.scan(alloc, &mut source).ok(), Some(3), "at {call}");
+        }
+        Ok(())
+    }
+}
