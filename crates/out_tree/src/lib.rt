@@ -1,0 +1,20 @@
+//! The output of a site, what is believed of it, and how it is made equal to a tree of files.
+#![tactic(auto)]
+
+mod device;
+mod keep;
+mod keeper;
+mod plan;
+mod shared;
+mod state;
+mod step;
+mod tree;
+
+pub use device::OutTree;
+pub use keep::KeepList;
+pub use keeper::{Applied, OutKeeper};
+pub use plan::Plan;
+pub use shared::SharedBytes;
+pub use state::State;
+pub use step::{Call, Step};
+pub use tree::Tree;
