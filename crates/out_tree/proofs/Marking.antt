@@ -5,12 +5,13 @@ use Rattle.std.specs.Prelude.{◌&&◌, ◌||◌, T}
 use Rattle.std.specs.Ordering.{is_lt}
 use Rattle.std.specs.FinMap.{get, entries, entries_sorted, contains_key, get-from_sorted, get-entries, get-from_entries, from_entries, find, same_map, is_sorted}
 use Rattle.std.specs.FinMap.Entries.{below_all}
-use Rattle.std.specs.Option.{is_some}
+use Rattle.std.specs.Option.{is_some, option_map}
 use Rattle.site_base.specs.Places.{path_cmp, Files, same_path, is_listed, paths_of}
 use Rattle.out_tree.specs.Belief.{Belief, IsTrueOf, all_marked}
 use Rattle.out_tree.specs.declared.state.State.{State}
 use Rattle.out_tree.specs.declared.state.State.TheVariants.{Known, Marked}
 use Rattle.out_tree.proofs.Paths.{path_order, same_if_tied}
+use Rattle.out_tree.proofs.ValuesLemmas.{get-map_values}
 
 abbrev pub mark_each : List (List ℕ) → List (List ℕ × State)
 mark_each paths = map (λ path. (path, Marked)) paths
@@ -31,26 +32,13 @@ pub marks_listed : (belief : Belief) (es : List (List ℕ × State)) (paths : Li
 marks_listed belief es paths q made given =
     ap (λ (m : Belief). get m q) (made ∙ ap (λ l. from_entries l) given) ∙ get-from_entries path_order (mark_each paths) q ∙ find-mark_each q paths
 
-below_marks : (q : List ℕ) (es : List (List ℕ × List ℕ)) → below_all path_cmp q es ≡ below_all path_cmp q (map (λ e. (e.0, Marked)) es)
-below_marks q [] = refl
-below_marks q (e ∷ es) = ap (λ b. is_lt (path_cmp q e.0) && b) (below_marks q es)
-
-rise_marks : (es : List (List ℕ × List ℕ)) → is_sorted path_cmp es ≡ is_sorted path_cmp (map (λ e. (e.0, Marked)) es)
-rise_marks [] = refl
-rise_marks (e ∷ es) = λ i. below_marks e.0 es i && rise_marks es i
-
-find_marks : (q : List ℕ) (es : List (List ℕ × List ℕ)) → find path_cmp q (map (λ e. (e.0, Marked)) es) ≡ cond (is_some (find path_cmp q es)) (Some Marked) None
-find_marks q [] = refl
-find_marks q (e ∷ es) = elim (same_path q e.0) as (λ b. cond b (Some Marked) (find path_cmp q (map (λ (d : List ℕ × List ℕ). (d.0, Marked)) es)) ≡ cond (is_some (cond b (Some e.1) (find path_cmp q es))) (Some Marked) None) [
-  | true ↦ refl
-  | false ↦ find_marks q es
-]
-
 -- a belief that marks exactly the files
 pub marked_is : (files : Files) (belief : Belief) → ((q : List ℕ) → get belief q ≡ cond (contains_key files q) (Some Marked) None) → belief ≡ all_marked files
-marked_is files belief at = same_map path_order same_if_tied belief (all_marked files) (λ q.
-    at q ∙ ap (λ x. cond (is_some x) (Some Marked) None) (get-entries files q) ∙ sym (find_marks q (entries files))
-    ∙ sym (get-from_sorted path_cmp (map (λ e. (e.0, Marked)) (entries files)) q (subst T (rise_marks (entries files)) (entries_sorted files))))
+marked_is files belief at = same_map path_order same_if_tied belief (all_marked files) (λ q. at q ∙ marked_or_none (get files q) ∙ sym (get-map_values (λ bytes. Marked) files q))
+  where
+    marked_or_none : (x : Option (List ℕ)) → cond (is_some x) (Some Marked) None ≡ option_map (λ bytes. Marked) x
+    marked_or_none None = refl
+    marked_or_none (Some bytes) = refl
 
 -- and it is true of them
 pub marked_true : (files : Files) (belief : Belief) → ((q : List ℕ) → get belief q ≡ cond (contains_key files q) (Some Marked) None) → IsTrueOf belief files

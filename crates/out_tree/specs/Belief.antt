@@ -1,8 +1,9 @@
 -- What is believed of an output, when that is true, and what is believed after steps.
-use Rattle.std.specs.Prelude.{◌≡◌, ℕ, Bool, true, false, not, List, [], ◌∷◌, map, Option, Some, None}
-use Rattle.std.specs.FinMap.{FinMap, get, empty, insert, remove, entries, from_sorted}
+use Rattle.std.specs.Prelude.{◌≡◌, ℕ, Bool, true, false, not, List, [], ◌∷◌, Option, Some, None}
+use Rattle.std.specs.FinMap.{FinMap, get, empty, insert, remove}
 use Rattle.site_base.specs.Places.{Files, path_cmp, is_listed}
 use Rattle.out_tree.specs.Device.{path_of}
+use Rattle.out_tree.specs.Values.{map_values}
 use Rattle.out_tree.specs.declared.step.Step.{Step}
 use Rattle.out_tree.specs.declared.step.Step.TheVariants.{Remove, Write}
 use Rattle.out_tree.specs.declared.state.State.{State}
@@ -29,7 +30,7 @@ HoldsOf (Some belief) files = IsTrueOf belief files
 
 -- every file is marked
 abbrev pub all_marked : Files → Belief
-all_marked files = from_sorted (map (λ e. (e.0, Marked)) (entries files))
+all_marked files = map_values (λ bytes. Marked) files
 
 -- a step that succeeded makes its path known or not there, and one that failed marks it
 abbrev pub after_one : Belief → Step → Bool → Belief

@@ -2,8 +2,10 @@
 #![tactic(auto)]
 
 mod device;
+mod disk;
 mod keep;
 mod keeper;
+mod memory;
 mod plan;
 mod shared;
 mod state;
@@ -11,8 +13,10 @@ mod step;
 mod tree;
 
 pub use device::OutTree;
+pub use disk::DiskOut;
 pub use keep::KeepList;
 pub use keeper::{Applied, OutKeeper};
+pub use memory::MemoryOut;
 pub use plan::Plan;
 pub use shared::SharedBytes;
 pub use state::State;
