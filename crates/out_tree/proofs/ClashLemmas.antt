@@ -1,7 +1,7 @@
 -- Maps of paths without a clash, after an edit.
 use Rattle.std.proofs.Common.{◌≡◌, ℕ, Bool, true, false, cond, List, [], ◌∷◌, refl, sym, ap, ◌∙◌, Some, None, Option}
 use Rattle.std.specs.Prelude.{◌||◌, ◌&&◌, ◌==◌, OnOk, OnErr, Result, Ok, Err, is_some, MatchOption}
-use Rattle.std.specs.List.{list_any}
+use Rattle.std.specs.List.{list_any, IsDistinct}
 use Rattle.std.specs.FinMap.{FinMap, contains_key, contains_key-keys, from_entries, get, get-from_entries, get-insert, get-remove, insert, remove, find, keys}
 use Rattle.site_base.specs.Clash.{ClashFree, HasNoClash, has_below, has_folder, is_below}
 use Rattle.site_base.specs.Places.{AllDiffer, path_cmp, paths_of, same_path, is_listed}
@@ -86,3 +86,9 @@ module _ {V : Type 0} where
     where
       listed : (q : List ℕ) → contains_key m q ≡ true → is_listed q (paths_of es) ≡ true
       listed q there = sym (is_some-find q es) ∙ ap is_some (sym (get-from_entries path_order es q)) ∙ ap (λ (x : FinMap path_cmp V). contains_key x q) (sym is) ∙ there
+
+-- no entries have no two alike paths
+pub none_differ : {V : Type 0} (es : List (List ℕ × V)) → es ≡ [] → AllDiffer (paths_of es)
+unfolding IsDistinct
+none_differ [] e = tt
+none_differ (e ∷ es) is = absurd (cc (is))

@@ -149,3 +149,80 @@ fn remove_empty_folders<R: Files>(rt: &R, place: &str) {
         inner = folder;
     }
 }
+
+#[cfg(test)]
+mod tests {
+    use super::*;
+    use std::test::Fail;
+
+    // The paths that the output lists, each with a line end.
+    fn listed<R: Files + AllocGlobal + Clone + Drop>(
+        alloc: Global,
+        out: &mut DiskOut<R>,
+    ) -> Result<String, Fail> {
+        let mut text = String::new(alloc);
+        for path in out.list(alloc)? {
+            text.push_str(path.text())?;
+            text.push('\n')?;
+        }
+        Ok(text)
+    }
+
+    #[test]
+    fn keeps_its_files_in_a_folder(rt: HostRuntime) -> Result<(), Fail> {
+        let alloc = rt.alloc();
+        let mut out = DiskOut::new(rt.clone()?);
+        let page = SitePath::read(alloc, "a/b/page.html")?;
+        let other = SitePath::read(alloc, "a/other.html")?;
+        let above = SitePath::read(alloc, "a")?;
+
+        // A destination that is not there has no files.
+        let _ = fs::remove_dir_all(&rt, DESTINATION);
+        assert_eq!(rt; listed(alloc, &mut out)?.as_str(), "");
+
+        // A write makes the folders that it needs, and replaces what was there.
+        out.write(&page, b"old")?;
+        out.write(&other, b"text")?;
+        out.write(&page, b"new")?;
+        assert_eq!(rt;
+            listed(alloc, &mut out)?.as_str(),
+            "a/b/page.html\na/other.html\n"
+        );
+        assert_eq!(rt;
+            fs::read_to_string(&rt, "_site/a/b/page.html")?.as_str(),
+            "new"
+        );
+
+        // A path that is a folder of a file, or lies below one, cannot be written.
+        assert!(rt; out.write(&above, b"text").is_err());
+        assert!(rt;
+            out.write(&SitePath::read(alloc, "a/other.html/c")?, b"text")
+                .is_err()
+        );
+        assert_eq!(rt; out.faults, 2);
+
+        // A removal takes away the folders that it leaves empty, but not the destination.
+        out.remove(&page)?;
+        out.remove(&page)?;
+        assert!(rt; !fs::exists(&rt, "_site/a/b")?);
+        assert_eq!(rt; listed(alloc, &mut out)?.as_str(), "a/other.html\n");
+        out.remove(&other)?;
+        assert!(rt; !fs::exists(&rt, "_site/a")?);
+        assert!(rt; fs::exists(&rt, DESTINATION)?);
+
+        // An empty folder does not stand in the way.
+        fs::create_dir(&rt, "_site/a")?;
+        out.write(&above, b"text")?;
+        assert_eq!(rt; listed(alloc, &mut out)?.as_str(), "a\n");
+
+        // A name that makes no path is a failure, and so is a destination that is a file.
+        fs::write(&rt, "_site/\u{1}", b"text")?;
+        assert_eq!(rt; out.list(alloc).err(), Some(ListError::Failed));
+        fs::remove_dir_all(&rt, DESTINATION)?;
+        fs::write(&rt, DESTINATION, b"text")?;
+        assert_eq!(rt; out.list(alloc).err(), Some(ListError::Failed));
+        assert_eq!(rt; out.faults, 4);
+        fs::remove_file(&rt, DESTINATION)?;
+        Ok(())
+    }
+}

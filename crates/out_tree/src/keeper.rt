@@ -334,3 +334,6 @@ fn try_step<O: OutTree>(belief: &mut PathMap<State>, device: &mut O, step: Step)
         },
     }
 }
+
+#[cfg(test)]
+mod tests;

@@ -35,7 +35,6 @@ impl Model for MemoryOut {
     ghost use Rattle.std.specs.Option.{option_map};
     ghost use Rattle.site_base.specs.PathMap.{as_map};
     ghost use Rattle.out_tree.specs.Memory.{OutState, plain_files};
-
     ghost use Rattle.std.specs.Coded.{codes};
     ghost use Rattle.out_tree.specs.MemoryCode.{files_code};
 
@@ -258,4 +257,43 @@ fn remove_call(alloc: Global, path: &SitePath) -> Result<Call, Memory>
     ensures { IfOk result (λ made. made ≡ call.Try (Remove path.now)) }
 {
     Ok(Call::Try(Step::Remove(path.copy(alloc)?)))
+}
+
+#[cfg(test)]
+mod tests {
+    use super::*;
+    use std::test::Fail;
+
+    // Paths that are written one after another, and whether that succeeds.
+    const ROWS: [(&str, bool); 7] = [
+        ("a/b", true),
+        // A folder of a file, a path below a file, and the file itself.
+        ("a", false),
+        ("a/b/c", false),
+        ("a/b", true),
+        // Paths that only begin alike.
+        ("a/bc", true),
+        ("a.b", true),
+        // The listed call.
+        ("d", false),
+    ];
+
+    #[test]
+    fn fails_where_a_path_stands_in_the_way(rt: HostRuntime) -> Result<(), Fail> {
+        let alloc = rt.alloc();
+        let mut fail = Vec::new(alloc);
+        fail.push(7)?;
+        let mut out = MemoryOut::new(alloc, Vec::new(alloc), fail);
+        assert!(rt; out.is_empty());
+        for (path, succeeds) in ROWS {
+            let written = out.write(&SitePath::read(alloc, path)?, b"text");
+            assert_eq!(rt; written.is_ok(), succeeds, "at {path}");
+        }
+        assert_eq!(rt; out.len(), 3);
+        assert_eq!(rt; out.list(alloc)?.len(), 3);
+        out.remove(&SitePath::read(alloc, "a/b")?)?;
+        out.write(&SitePath::read(alloc, "a/b/c")?, b"text")?;
+        assert_eq!(rt; (out.calls(), out.short()), (10, 0));
+        Ok(())
+    }
 }
