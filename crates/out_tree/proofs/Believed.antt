@@ -1,21 +1,20 @@
 -- What steps leave to believe that are tried once each.
-use Rattle.std.proofs.Common.{◌≡◌, ℕ, ◌+◌, ◌-◌, ◌^◌, ◌≤◌, min, Bool, true, false, cond, not, List, [], ◌∷◌, ◌++◌, map, length, refl, sym, ◌∙◌, ap, subst, arith, Option, Some, None}
+use Rattle.std.proofs.Common.{◌≡◌, ℕ, Bool, true, false, cond, not, List, [], ◌∷◌, ◌++◌, map, refl, sym, ◌∙◌, ap, subst, Some, None}
 use Rattle.std.proofs.lemmas.List.{map-append}
-use Rattle.std.specs.Prelude.{◌&&◌, ◌||◌, filter, T}
-use Rattle.std.specs.Ordering.{is_lt, is_eq}
-use Rattle.std.specs.FinMap.{FinMap, get, insert, remove, entries, entries_sorted, contains_key, contains_key-keys, get-insert, get-remove, get-from_sorted, get-entries, find, same_map, is_sorted}
-use Rattle.std.specs.FinMap.Entries.{below_all, is_some-find}
-use Rattle.std.specs.Option.{is_some}
+use Rattle.std.specs.Prelude.{◌||◌, filter}
+use Rattle.std.specs.Ordering.{is_eq}
+use Rattle.std.specs.FinMap.{get, insert, entries, entries_sorted, contains_key, contains_key-keys, get-insert, get-remove}
+use Rattle.std.specs.FinMap.Entries.{below_all}
 use Rattle.site_base.specs.Places.{path_cmp, Files, same_path, is_listed, PathsRise}
 use Rattle.out_tree.specs.Device.{path_of, step_paths, EachOnce, Does}
-use Rattle.out_tree.specs.Belief.{Belief, IsTrueOf, all_marked, after_one, after}
+use Rattle.out_tree.specs.Belief.{Belief, IsTrueOf, after_one, after}
 use Rattle.out_tree.specs.Plan.{planned, removals, writes, is_surplus, is_wanting}
 use Rattle.out_tree.specs.Tries.{AllDone, failed_paths, after_tries, InOrder}
 use Rattle.out_tree.specs.declared.step.Step.{Step}
 use Rattle.out_tree.specs.declared.step.Step.TheVariants.{Remove, Write}
 use Rattle.out_tree.specs.declared.state.State.{State}
 use Rattle.out_tree.specs.declared.state.State.TheVariants.{Known, Marked}
-use Rattle.out_tree.proofs.Paths.{path_order, same_if_tied, the_same, itself, turned, front, back, neither, left_no, right_no, later_yes, is_true, not_eq_if_lt, flip, filter_apart}
+use Rattle.out_tree.proofs.Paths.{path_order, the_same, itself, turned, front, back, neither, left_no, right_no, later_yes, is_true, not_eq_if_lt, flip, filter_apart}
 
 abbrev pub steps_in : List (Step × Bool) → List Step
 steps_in tries = map (λ t. t.0) tries

@@ -1,6 +1,6 @@
 -- When an output is exactly a tree after the steps of a plan, and what is believed then.
-use Rattle.std.proofs.Common.{◌≡◌, ℕ, Bool, true, false, cond, not, List, [], ◌∷◌, ◌++◌, map, refl, sym, ◌∙◌, ap, subst, Option, Some, None}
-use Rattle.std.specs.Prelude.{◌&&◌, ◌||◌, filter}
+use Rattle.std.proofs.Common.{◌≡◌, ℕ, Bool, true, false, cond, not, List, [], ◌∷◌, ◌++◌, map, refl, sym, ◌∙◌, ap, Option, Some, None}
+use Rattle.std.specs.Prelude.{◌&&◌, filter}
 use Rattle.std.specs.declared.cmp.Ordering.TheVariants.{Equal}
 use Rattle.std.specs.Ordering.{is_eq}
 use Rattle.std.specs.FinMap.{FinMap, get, insert, remove, entries, entries_sorted, contains_key, find, get-entries, get-insert, get-remove}
@@ -8,19 +8,17 @@ use Rattle.std.specs.FinMap.Entries.{below_all, find-where_key}
 use Rattle.std.specs.Option.{is_some}
 use Rattle.std.specs.Str.{bytes_eq}
 use Rattle.std.specs.Cmp.Lexicographic.{nat_list_eq_equiv}
-use Rattle.site_base.specs.Places.{path_cmp, Files, same_path, is_listed, PathsRise}
+use Rattle.site_base.specs.Places.{path_cmp, Files, same_path, PathsRise}
 use Rattle.site_base.proofs.Entries.{same_text}
 use Rattle.out_tree.specs.Keep.{is_kept}
-use Rattle.out_tree.specs.Device.{path_of, step_paths, done, done_one, Does}
-use Rattle.out_tree.specs.Belief.{Belief, IsTrueOf, after, after_one}
+use Rattle.out_tree.specs.Device.{path_of}
+use Rattle.out_tree.specs.Belief.{Belief}
 use Rattle.out_tree.specs.Plan.{planned, removals, writes, is_surplus, is_wanting, is_known_as}
-use Rattle.out_tree.specs.Tries.{AllDone, failed_paths}
 use Rattle.out_tree.specs.declared.step.Step.{Step}
 use Rattle.out_tree.specs.declared.step.Step.TheVariants.{Remove, Write}
 use Rattle.out_tree.specs.declared.state.State.{State}
 use Rattle.out_tree.specs.declared.state.State.TheVariants.{Known, Marked}
-use Rattle.out_tree.proofs.Paths.{path_order, the_same, tied_if_eq, less_if_lt, itself, both, front, back, left_no, right_no, later_yes, is_true, not_false, never_both}
-use Rattle.out_tree.proofs.Believed.{steps_in}
+use Rattle.out_tree.proofs.Paths.{path_order, the_same, tied_if_eq, less_if_lt, itself, both, front, back, is_true, not_false}
 
 module _ {V : Type 0} where
   -- no later entry has a path that ties with the first

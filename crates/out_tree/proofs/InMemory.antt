@@ -1,13 +1,9 @@
 -- Calls of an output in memory.
-use Rattle.std.proofs.Common.{◌≡◌, ℕ, ◌+◌, ◌-◌, ◌^◌, ◌≤◌, min, Bool, true, false, List, refl, sym, ap, ◌∙◌, Some, None, Option, arith}
-use Rattle.std.specs.Prelude.{OnOk, OnErr, Result, Ok, Err, IfOk, Vec}
+use Rattle.std.proofs.Common.{◌≡◌, ℕ, true, false, List, refl, sym, ap, ◌∙◌, Some}
+use Rattle.std.specs.Prelude.{OnOk, Result, Ok, Err}
 use Rattle.std.specs.FinMap.{contains_key, contains_key-keys, get, keys}
-use Rattle.std.specs.declared.alloc.Global.{Global}
-use Rattle.site_base.specs.Ends.{HasCause, HasCauseOf}
-use Rattle.site_base.specs.Listing.{Lists}
 use Rattle.site_base.specs.Places.{Files, is_listed}
 use Rattle.out_tree.specs.Device.{Tells, done_one}
-use Rattle.out_tree.specs.Memory.{next}
 use Rattle.out_tree.specs.declared.step.Step.{Step}
 
 -- a step that failed and changed no file

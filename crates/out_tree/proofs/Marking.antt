@@ -1,10 +1,8 @@
 -- What is believed of an output that was listed.
-use Rattle.std.proofs.Common.{◌≡◌, ℕ, Bool, true, false, cond, List, [], ◌∷◌, ◌++◌, map, length, refl, sym, ◌∙◌, ap, subst, arith, Option, Some, None}
+use Rattle.std.proofs.Common.{◌≡◌, ℕ, Bool, true, false, cond, List, [], ◌∷◌, ◌++◌, map, length, refl, sym, ◌∙◌, ap, arith, Option, Some, None}
 use Rattle.std.proofs.lemmas.List.{append-nil}
-use Rattle.std.specs.Prelude.{◌&&◌, ◌||◌, T}
-use Rattle.std.specs.Ordering.{is_lt}
-use Rattle.std.specs.FinMap.{get, entries, entries_sorted, contains_key, get-from_sorted, get-entries, get-from_entries, from_entries, find, same_map, is_sorted}
-use Rattle.std.specs.FinMap.Entries.{below_all}
+use Rattle.std.specs.Prelude.{◌||◌}
+use Rattle.std.specs.FinMap.{get, contains_key, get-from_entries, from_entries, find, same_map}
 use Rattle.std.specs.Option.{is_some, option_map}
 use Rattle.site_base.specs.Places.{path_cmp, Files, same_path, is_listed, paths_of}
 use Rattle.out_tree.specs.Belief.{Belief, IsTrueOf, all_marked}

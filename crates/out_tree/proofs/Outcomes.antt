@@ -1,22 +1,21 @@
 -- What the steps of a plan leave: in the output, and to believe.
 use Rattle.std.proofs.Common.{◌≡◌, ℕ, Bool, true, false, cond, not, List, [], ◌∷◌, ◌++◌, map, refl, sym, ◌∙◌, ap, subst, Option, Some, None}
-use Rattle.std.specs.Prelude.{◌&&◌, ◌||◌, filter}
-use Rattle.std.specs.FinMap.{FinMap, get, entries, entries_sorted, contains_key, find, get-entries, get-insert, get-remove}
+use Rattle.std.specs.Prelude.{◌||◌, filter}
+use Rattle.std.specs.FinMap.{get, entries, entries_sorted, contains_key, find, get-entries, get-insert, get-remove}
 use Rattle.std.specs.Option.{is_some}
-use Rattle.std.specs.Str.{bytes_eq}
-use Rattle.site_base.specs.Places.{path_cmp, Files, same_path, is_listed, PathsRise}
+use Rattle.site_base.specs.Places.{path_cmp, Files, same_path, is_listed}
 use Rattle.out_tree.specs.Keep.{is_kept}
 use Rattle.out_tree.specs.Device.{path_of, step_paths, done, done_one, Does, EachOnce}
 use Rattle.out_tree.specs.Belief.{Belief, IsTrueOf, after, after_one}
 use Rattle.out_tree.specs.Plan.{planned, removals, writes, is_surplus, is_wanting, is_known_as}
 use Rattle.out_tree.specs.Tries.{Tried, AllDone, failed_paths, InOrder, DoneBut, StaysTrue}
-use Rattle.out_tree.specs.Exact.{IsExactlyBut, MadeBut, MarksThose, Settles}
+use Rattle.out_tree.specs.Exact.{MadeBut, MarksThose, Settles}
 use Rattle.out_tree.specs.declared.step.Step.{Step}
 use Rattle.out_tree.specs.declared.step.Step.TheVariants.{Remove, Write}
 use Rattle.out_tree.specs.declared.step.Call.{Call}
 use Rattle.out_tree.specs.declared.state.State.{State}
 use Rattle.out_tree.specs.declared.state.State.TheVariants.{Known, Marked}
-use Rattle.out_tree.proofs.Paths.{path_order, the_same, itself, front, back, left_no, right_no, later_yes, is_true, not_true, never_both}
+use Rattle.out_tree.proofs.Paths.{path_order, the_same, front, back, left_no, right_no, later_yes, is_true, not_true}
 use Rattle.out_tree.proofs.Believed.{steps_in, after_is, in_order, true_after}
 use Rattle.out_tree.proofs.Exactly.{put_one, put_all, one_at, one_apart, one_there, AgreesWith, in_tree, surplus, kept, none_pass, same_bytes}
 

@@ -1,10 +1,10 @@
 -- Steps that are tried one after another.
-use Rattle.std.proofs.Common.{◌≡◌, ℕ, ◌+◌, ◌-◌, ◌^◌, ◌≤◌, min, Bool, true, false, cond, not, List, [], ◌∷◌, ◌++◌, map, length, refl, sym, ◌∙◌, ap, subst, arith, Option, Some, None, append_assoc, length-append}
+use Rattle.std.proofs.Common.{◌≡◌, ℕ, ◌+◌, ◌-◌, ◌^◌, ◌≤◌, min, Bool, true, false, cond, not, List, [], ◌∷◌, ◌++◌, map, length, refl, sym, ◌∙◌, ap, subst, arith, Option, append_assoc, length-append}
 use Rattle.std.proofs.lemmas.List.{map-append, append-nil}
 use Rattle.std.proofs.lemmas.List.Elements.{filter-append}
 use Rattle.std.specs.Prelude.{filter}
 use Rattle.site_base.specs.Places.{Files}
-use Rattle.out_tree.specs.Device.{path_of, Does, Calls, Tells}
+use Rattle.out_tree.specs.Device.{path_of, Calls, Tells}
 use Rattle.out_tree.specs.Belief.{Belief, after_one}
 use Rattle.out_tree.specs.Tries.{Tried, AllDone, CallsFor, RoseBy, failed_paths, after_tries}
 use Rattle.out_tree.specs.declared.step.Step.{Step}

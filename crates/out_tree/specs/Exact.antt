@@ -5,7 +5,6 @@ use Rattle.site_base.specs.Places.{Files, is_listed}
 use Rattle.out_tree.specs.Keep.{is_kept}
 use Rattle.out_tree.specs.Belief.{Belief, IsTrueOf}
 use Rattle.out_tree.specs.Plan.{planned}
-use Rattle.out_tree.specs.declared.state.State.{State}
 use Rattle.out_tree.specs.declared.state.State.TheVariants.{Marked}
 
 -- at each path that did not fail: a file of the tree has its bytes; another path is not there, or is as it was where it is kept

@@ -1,8 +1,7 @@
 -- An output in memory.
-use Rattle.std.specs.Prelude.{◌≡◌, ◌+◌, ◌-◌, ◌^◌, min, ℕ, Bool, true, false, ◌==◌, ◌||◌, List, [], ◌∷◌, Option, Some, None, Vec, refl, if◌then◌else◌}
+use Rattle.std.specs.Prelude.{◌≡◌, ◌+◌, ◌-◌, ◌^◌, min, ℕ, Bool, true, false, ◌==◌, ◌||◌, List, [], ◌∷◌, Option, Vec, if◌then◌else◌}
 use Rattle.std.specs.List.{list_any}
-use Rattle.std.specs.Coded.{Coded, code_by, coded×, coded⊎, coded_list, coded_option, coded_ℕ, coded_bool}
-use Rattle.std.specs.FinMap.{FinMap, code, keys}
+use Rattle.std.specs.FinMap.{FinMap, keys}
 use Rattle.std.specs.declared.alloc.Global.{Global}
 use Rattle.site_base.specs.Places.{path_cmp, Files}
 use Rattle.site_base.specs.Clash.{has_below, has_folder}

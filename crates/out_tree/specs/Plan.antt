@@ -1,5 +1,5 @@
 -- The steps that make an output equal to a tree.
-use Rattle.std.specs.Prelude.{ℕ, Bool, true, false, not, ◌&&◌, List, ◌++◌, map, filter, Option, Some, None}
+use Rattle.std.specs.Prelude.{ℕ, Bool, false, not, ◌&&◌, List, ◌++◌, map, filter, Option, Some, None}
 use Rattle.std.specs.FinMap.{entries, get, contains_key, len}
 use Rattle.std.specs.Str.{bytes_eq}
 use Rattle.site_base.specs.Places.{Files}

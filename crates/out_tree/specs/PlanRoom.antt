@@ -1,5 +1,5 @@
 -- The memory of a plan.
-use Rattle.std.specs.Prelude.{◌≡◌, ◌≤◌, ◌+◌, ◌++◌, ℕ, List, [], length, map, vec_capacity}
+use Rattle.std.specs.Prelude.{◌≡◌, ◌≤◌, ◌+◌, ◌++◌, List, [], length, map, vec_capacity}
 use Rattle.std.specs.FinMap.{empty}
 use Rattle.site_base.specs.PathMap.{as_map, room}
 use Rattle.out_tree.specs.Device.{EachOnce}

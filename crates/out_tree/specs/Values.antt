@@ -1,5 +1,5 @@
 -- A map of paths with other values.
-use Rattle.std.specs.Prelude.{List, ℕ, map}
+use Rattle.std.specs.Prelude.{map}
 use Rattle.std.specs.FinMap.{FinMap, entries, from_sorted}
 use Rattle.site_base.specs.Places.{path_cmp}
 

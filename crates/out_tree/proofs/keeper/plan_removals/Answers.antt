@@ -1,4 +1,4 @@
-use Rattle.std.proofs.Common.{◌≡◌, ◌<◌, ◌≤◌, sym, ◌∙◌, ap, arith, map, length}
+use Rattle.std.proofs.Common.{◌<◌, ◌≤◌, sym, ◌∙◌, ap, arith, map, length}
 use Rattle.std.specs.FinMap.{entries, len-entries}
 use Rattle.site_base.specs.PathMap.{as_map}
 use Rattle.out_tree.specs.Plan.{is_surplus}

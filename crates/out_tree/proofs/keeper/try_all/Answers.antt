@@ -1,7 +1,6 @@
-use Rattle.std.proofs.Common.{◌≡◌, ◌≤◌, ◌<◌, ◌+◌, ◌++◌, ◌∷◌, [], map, length, sym, ◌∙◌, ap, cond, refl, arith, append_assoc, length-append, true, false}
+use Rattle.std.proofs.Common.{◌≡◌, ◌++◌, ◌∷◌, [], length, sym, ◌∙◌, ap, cond, refl, arith, append_assoc, length-append, true}
 use Rattle.std.proofs.lemmas.List.{append-nil}
 use Rattle.std.specs.Result.{is_ok}
-use Rattle.site_base.specs.PathMap.{as_map}
 use Rattle.out_tree.specs.Device.{path_of}
 use Rattle.out_tree.proofs.Trying.{tried_none, tried_next, all_tried, never_none}
 use Rattle.out_tree.proofs.keeper.try_all.Goals as goal

@@ -1,4 +1,4 @@
-use Rattle.std.proofs.Common.{true, false, ◌≡◌, ◌∙◌, sym, ap}
+use Rattle.std.proofs.Common.{◌∙◌, sym, ap}
 use Rattle.std.specs.Result.{is_ok}
 use Rattle.out_tree.specs.declared.step.Step.TheVariants.{Write}
 use Rattle.out_tree.proofs.Trying.{tells_by}

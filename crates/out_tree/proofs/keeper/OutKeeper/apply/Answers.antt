@@ -1,10 +1,10 @@
-use Rattle.std.proofs.Common.{◌≡◌, ◌++◌, ◌∙◌, sym, ap, Some, [], ◌∷◌, refl}
+use Rattle.std.proofs.Common.{◌∙◌, sym, ap, Some}
 use Rattle.std.specs.Option.{option_map}
 use Rattle.site_base.specs.PathMap.{as_map}
 use Rattle.out_tree.specs.Belief.{believed}
 use Rattle.out_tree.specs.Plan.{steps_of}
 use Rattle.out_tree.proofs.Trying.{tried_then}
-use Rattle.out_tree.proofs.Outcomes.{Outcome, outcome}
+use Rattle.out_tree.proofs.Outcomes.{outcome}
 use Rattle.out_tree.proofs.keeper.OutKeeper.apply.Goals as goal
 
 pub returns-clause-in_order : goal.returns-clause-in_order

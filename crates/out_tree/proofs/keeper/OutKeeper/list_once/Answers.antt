@@ -1,4 +1,4 @@
-use Rattle.std.proofs.Common.{◌≡◌, ◌∙◌, sym, ap, cond, Some, None}
+use Rattle.std.proofs.Common.{◌∙◌, ap, cond, Some, None}
 use Rattle.site_base.specs.PathMap.{as_map}
 use Rattle.out_tree.specs.declared.state.State.TheVariants.{Marked}
 use Rattle.out_tree.proofs.Marking.{marked_is, marked_true}

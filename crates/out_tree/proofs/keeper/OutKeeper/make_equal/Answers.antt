@@ -1,6 +1,6 @@
-use Rattle.std.proofs.Common.{◌≡◌, ◌++◌, ◌∙◌, sym, ap, subst}
+use Rattle.std.proofs.Common.{◌∙◌, ap, subst}
 use Rattle.out_tree.specs.Belief.{believed, after}
-use Rattle.out_tree.specs.Plan.{steps_of, planned}
+use Rattle.out_tree.specs.Plan.{steps_of}
 use Rattle.out_tree.specs.Tries.{InOrder, DoneBut}
 use Rattle.out_tree.proofs.Outcomes.{made_but, marks_those, settles}
 use Rattle.out_tree.proofs.keeper.OutKeeper.make_equal.Goals as goal

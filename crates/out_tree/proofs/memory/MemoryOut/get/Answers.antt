@@ -1,4 +1,4 @@
-use Rattle.std.proofs.Common.{◌≡◌, ◌∙◌, sym, ap, Some}
+use Rattle.std.proofs.Common.{◌∙◌, sym, ap, Some}
 use Rattle.std.specs.Option.{option_copied, option_map}
 use Rattle.std.specs.FinMap.{get}
 use Rattle.site_base.specs.PathMap.{as_map}

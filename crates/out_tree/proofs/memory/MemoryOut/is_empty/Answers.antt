@@ -1,4 +1,4 @@
-use Rattle.std.proofs.Common.{◌≡◌, ◌∙◌, sym, ap}
+use Rattle.std.proofs.Common.{◌∙◌, sym, ap}
 use Rattle.std.specs.FinMap.{len}
 use Rattle.site_base.specs.PathMap.{as_map}
 use Rattle.out_tree.proofs.ValuesLemmas.{len-map_values}

@@ -1,4 +1,4 @@
-use Rattle.std.proofs.Common.{◌≡◌, ◌∙◌, sym, ap}
+use Rattle.std.proofs.Common.{◌∙◌, ap}
 use Rattle.std.specs.FinMap.{remove}
 use Rattle.site_base.specs.PathMap.{as_map}
 use Rattle.out_tree.specs.Values.{map_values}

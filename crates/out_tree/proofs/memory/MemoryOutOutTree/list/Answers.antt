@@ -1,4 +1,4 @@
-use Rattle.std.proofs.Common.{◌≡◌, ◌∙◌, sym, ap, arith}
+use Rattle.std.proofs.Common.{◌∙◌, sym, ap}
 use Rattle.std.specs.FinMap.{keys}
 use Rattle.site_base.specs.PathMap.{as_map}
 use Rattle.out_tree.proofs.InMemory.{listed_exact}

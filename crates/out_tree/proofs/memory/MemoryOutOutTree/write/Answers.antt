@@ -1,4 +1,4 @@
-use Rattle.std.proofs.Common.{◌≡◌, ◌∙◌, sym, ap}
+use Rattle.std.proofs.Common.{◌∙◌, ap}
 use Rattle.std.specs.FinMap.{insert}
 use Rattle.out_tree.specs.declared.step.Step.TheVariants.{Write}
 use Rattle.out_tree.proofs.InMemory.{tells_same, tells_done}
