@@ -44,6 +44,14 @@ impl Tree {
         ensures err { OnErr result (self.new ≡ self.old) }
     {
         let bytes = SharedBytes::from_vec(alloc, bytes)?;
+        self.put_shared(path, bytes)
+    }
+
+    /// Adds or replaces a file whose bytes have other holders.
+    pub fn put_shared(&mut self, path: SitePath, bytes: SharedBytes) -> Result<(), Memory>
+        ensures ok { OnOk result (self.new ≡ map.insert self.old path bytes) }
+        ensures err { OnErr result (self.new ≡ self.old) }
+    {
         self.files.put(path, bytes)
     }
 
