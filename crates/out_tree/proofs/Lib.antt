@@ -1,0 +1,10 @@
+pub mod Believed
+pub mod ClashLemmas
+pub mod Exactly
+pub mod InMemory
+pub mod Marking
+pub mod Outcomes
+pub mod Paths
+pub mod Picked
+pub mod Trying
+pub mod ValuesLemmas

@@ -1,0 +1,11 @@
+pub mod Belief
+pub mod BeliefCode
+pub mod Device
+pub mod Exact
+pub mod Keep
+pub mod Memory
+pub mod MemoryCode
+pub mod Plan
+pub mod PlanRoom
+pub mod Tries
+pub mod Values

@@ -1,0 +1,24 @@
+//! The output of a site, what is believed of it, and how it is made equal to a tree of files.
+#![tactic(auto)]
+
+mod device;
+mod disk;
+mod keep;
+mod keeper;
+mod memory;
+mod plan;
+mod shared;
+mod state;
+mod step;
+mod tree;
+
+pub use device::OutTree;
+pub use disk::DiskOut;
+pub use keep::KeepList;
+pub use keeper::{Applied, OutKeeper};
+pub use memory::MemoryOut;
+pub use plan::Plan;
+pub use shared::SharedBytes;
+pub use state::State;
+pub use step::{Call, Step};
+pub use tree::Tree;

@@ -1,0 +1,48 @@
+// The bytes of a file, which several holders share.
+ghost use Rattle.std.specs.Prelude.{◌≡◌, IfOk};
+
+use site_base::{FileBytes, Memory};
+use std::alloc::Global;
+use std::marker::Model;
+use std::rc::Rc;
+
+/// The bytes of a file, which a tree, a plan and a belief share without a copy.
+#[derive(Drop)]
+pub struct SharedBytes {
+    bytes: Rc<FileBytes>,
+}
+
+impl Model for SharedBytes {
+    ghost use Rattle.std.specs.Prelude.{List, ℕ};
+
+    ghost Value = { List ℕ };
+
+    ghost view = { λ shared. shared.bytes.value };
+}
+
+impl SharedBytes {
+    pub fn from_vec(alloc: Global, bytes: Vec<u8>) -> Result<SharedBytes, Memory>
+        ensures { IfOk result (λ shared. shared ≡ bytes.items) }
+    {
+        match Rc::new(alloc, FileBytes::from_vec(bytes)) {
+            Ok(bytes) => Ok(SharedBytes { bytes }),
+            Err(_) => Err(Memory),
+        }
+    }
+
+    /// A further holder of the same bytes.
+    pub fn share(&self) -> Result<SharedBytes, Memory>
+        ensures { IfOk result (λ shared. shared ≡ self.now) }
+    {
+        match self.bytes.clone() {
+            Ok(bytes) => Ok(SharedBytes { bytes }),
+            Err(_) => Err(Memory),
+        }
+    }
+
+    pub fn as_slice(&self) -> &[u8]
+        ensures { result.now ≡ self.now }
+    {
+        self.bytes.as_ref().as_slice()
+    }
+}
