@@ -1,0 +1,4 @@
+pub mod Starts
+pub mod PieceLemmas
+pub mod LineLemmas
+pub mod Utf8

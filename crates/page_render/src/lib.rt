@@ -1,0 +1,10 @@
+//! What is made of the files of a site.
+#![tactic(auto)]
+
+mod key;
+mod path;
+mod piece;
+mod setting;
+mod thin;
+
+pub use thin::{is_page, is_unbuilt};
