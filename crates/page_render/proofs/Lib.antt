@@ -2,3 +2,4 @@ pub mod Starts
 pub mod PieceLemmas
 pub mod LineLemmas
 pub mod Utf8
+pub mod TextLemmas

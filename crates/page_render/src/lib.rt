@@ -4,6 +4,7 @@
 mod key;
 mod path;
 mod piece;
+mod render;
 mod setting;
 mod thin;
 

@@ -1,16 +1,18 @@
 // The body of a thin page: bytes of text and outputs `{{ page.KEY }}`.
-ghost use Rattle.std.specs.Prelude.{◌≡◌, ℕ, ◌<◌, ◌≤◌, length, drop, true, false, MatchOption, IfSome};
+ghost use Rattle.std.specs.Prelude.{◌≡◌, ℕ, ◌+◌, ◌<◌, ◌≤◌, length, drop, true, false, MatchOption, IfSome, is_some};
 ghost use Rattle.page_render.specs.Pieces.{has_stray_mark, is_mark, is_output, is_stray, output_key, piece_at, piece_len};
 ghost use Rattle.page_render.specs.Pieces.{Stray};
 
 use crate::key::{begins_with_key, key_of};
 
 /// How many bytes an output has besides its key.
-const OUTPUT_FRAME: usize = 11;
+pub(crate) const OUTPUT_FRAME: usize = 11;
 
 /// The key of the output at the front of a text, if one stands there.
 pub(crate) fn output_key(text: &[u8]) -> Option<&[u8]>
-    ensures { MatchOption result (is_output text.now ≡ false) (λ key. (is_output text.now ≡ true) × (key.now ≡ output_key text.now)) }
+    ensures is { is_some result ≡ is_output text.now }
+    ensures key { IfSome result (λ key. key.now ≡ output_key text.now) }
+    ensures fits { IfSome result (λ key. length key.now + 11 ≤ length text.now) }
 {
     if !text.starts_with(b"{{ page.") {
         return None;
