@@ -3,3 +3,4 @@ pub mod PieceLemmas
 pub mod LineLemmas
 pub mod Utf8
 pub mod TextLemmas
+pub mod ThinLemmas

@@ -2,10 +2,12 @@
 #![tactic(auto)]
 
 mod key;
+mod page;
 mod path;
 mod piece;
 mod render;
 mod setting;
-mod thin;
+mod site;
 
-pub use thin::{is_page, is_unbuilt};
+pub use page::is_page;
+pub use site::is_unbuilt;

@@ -1,14 +1,17 @@
-// Which files are pages, and which forms are not built yet.
-ghost use Rattle.std.specs.Prelude.{◌≡◌, ◌≤◌, length};
+// Pages, by their bytes.
+ghost use Rattle.std.specs.Prelude.{◌≡◌, ◌≤◌, true, length, drop, slice_range, IfOk};
 ghost use Rattle.std.specs.Str.{is_utf8};
 ghost use Rattle.std.specs.Bool.{OnFalse};
-ghost use Rattle.front_yaml.specs.Front.{front};
-ghost use Rattle.page_render.specs.Thin.{has_unbuilt_content, is_html, is_page, is_thin, is_unbuilt, output_of};
+ghost use Rattle.front_yaml.specs.Front.{AreCuts, front};
+ghost use Rattle.page_render.specs.Pieces.{page_text};
+ghost use Rattle.page_render.specs.Thin.{has_unbuilt_content, is_html, is_page, is_thin, is_thin_page, output_of};
 
-use crate::path::is_set_apart;
 use crate::piece::has_stray_mark;
+use crate::render::render;
 use crate::setting::sets_variables;
 use front_yaml::{Front, split_front};
+use site_base::{Memory, Text};
+use std::alloc::Global;
 use std::str;
 
 /// The most bytes of a page.
@@ -26,15 +29,42 @@ pub fn is_page(bytes: &[u8]) -> bool
     }
 }
 
-/// Whether a file has a form that is not built yet.
-#[tactic(auto, unfolding(crate::specs::Thin::is_unbuilt))]
-pub fn is_unbuilt(path: &str, bytes: &[u8]) -> bool
-    ensures { result ≡ is_unbuilt path.now bytes.now }
+/// The text of a page that can be rendered.
+pub(crate) fn render_page(alloc: Global, bytes: &[u8]) -> Result<Text, Memory>
+    requires { is_thin_page bytes.now (front bytes.now) ≡ true }
+    ensures { IfOk result (λ text. text ≡ output_of bytes.now) }
 {
-    is_set_apart(path.as_bytes()) || has_unbuilt_content(path, bytes)
+    match split_front(bytes) {
+        Front::Page {
+            yaml_start,
+            yaml_end,
+            body,
+        } => render_parts(alloc, bytes, yaml_start, yaml_end, body),
+        Front::Open | Front::Plain => unreachable!(),
+    }
 }
 
-fn has_unbuilt_content(path: &str, bytes: &[u8]) -> bool
+// The text of a page whose front matter and body stand at these places.
+fn render_parts(
+    alloc: Global,
+    bytes: &[u8],
+    yaml_start: usize,
+    yaml_end: usize,
+    body: usize,
+) -> Result<Text, Memory>
+    requires places { AreCuts bytes.now yaml_start yaml_end body }
+    requires thin { is_thin bytes.now yaml_start yaml_end body ≡ true }
+    ensures { IfOk result (λ text. text ≡ page_text (slice_range bytes.now yaml_start yaml_end) (drop body bytes.now)) }
+{
+    let text = match str::from_utf8(bytes) {
+        Ok(text) => text,
+        Err(_) => unreachable!(),
+    };
+    render(alloc, &bytes[yaml_start..yaml_end], &text[body..])
+}
+
+/// Whether the content of a file, whose path this is, has a form that is not built yet.
+pub(crate) fn has_unbuilt_content(path: &str, bytes: &[u8]) -> bool
     ensures { result ≡ has_unbuilt_content path.now bytes.now (front bytes.now) }
 {
     match split_front(bytes) {
