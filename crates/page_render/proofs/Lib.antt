@@ -4,3 +4,4 @@ pub mod LineLemmas
 pub mod Utf8
 pub mod TextLemmas
 pub mod ThinLemmas
+pub mod SiteLemmas

@@ -1,7 +1,6 @@
 -- The pieces of a body, one after another.
-use Rattle.std.proofs.Common.{◌≡◌, ℕ, zero, suc, ◌+◌, ◌-◌, ◌<◌, ◌≤◌, Bool, true, false, cond, eqb, nat_eq, ◌&&◌, ◌||◌, List, [], ◌∷◌, ◌++◌, length, take, drop, get_or, slice_range, codes, map, refl, sym, ap, subst, ◌∙◌, arith}
+use Rattle.std.proofs.Common.{◌≡◌, ℕ, zero, suc, ◌+◌, ◌-◌, ◌<◌, ◌≤◌, Bool, true, false, cond, eqb, nat_eq, ◌&&◌, ◌||◌, List, [], ◌∷◌, ◌++◌, length, take, drop, get_or, slice_range, codes, map, refl, sym, ap, ◌∙◌, arith}
 use Rattle.std.proofs.lemmas.Bool.{ne_eqb, eqb-false, eqb-true, and_parts}
-use Rattle.std.proofs.lemmas.Grind.{common_steps}
 use Rattle.std.proofs.lemmas.List.{length-drop, drop-drop, drop_all, length-append, append_assoc, get_or-drop, get_or-append-add}
 use Rattle.std.proofs.lemmas.List.Prefix.{front_reads}
 use Rattle.std.proofs.lemmas.Slice.Eq.{starts_is}
@@ -100,8 +99,8 @@ pieces-run [] (suc n) le none = absurd (omega (arith, le))
 pieces-run (x ∷ xs) (suc n) le none =
     let first : piece_at (x ∷ xs) ≡ Byte x = byte_here x xs (none 0 (omega arith)) in
     pieces-some (x ∷ xs) (omega arith)
-      ∙ ap (λ p. p ∷ pieces (drop (piece_len p) (x ∷ xs))) first
-      ∙ ap (λ ps. Byte x ∷ ps) (pieces-run xs n (omega (arith, le)) (λ k lt. none (suc k) (omega (arith, lt))))
+    ∙ ap (λ p. p ∷ pieces (drop (piece_len p) (x ∷ xs))) first
+    ∙ ap (λ ps. Byte x ∷ ps) (pieces-run xs n (omega (arith, le)) (λ k lt. none (suc k) (omega (arith, lt))))
 
 flat_map-append : (yaml : List ℕ) (ps qs : List Piece) → flat_map (printed yaml) (ps ++ qs) ≡ flat_map (printed yaml) ps ++ flat_map (printed yaml) qs
 flat_map-append yaml [] qs = refl
@@ -130,8 +129,8 @@ run_pieces body at mark run =
     let more : at + n ≡ mark = omega arith in
     let rest : drop n (drop at body) ≡ drop mark body = drop-drop n at body ∙ ap (λ k. drop k body) more in
     pieces-run (drop at body) n (omega (arith, length-drop at body))
-      (λ k lt. ap is_mark (drop-drop k at body) ∙ run.none (at + k) (omega arith) (omega (arith, lt)))
-      ∙ ap (λ t. map (λ b. Byte b) (take n (drop at body)) ++ pieces t) rest
+    (λ k lt. ap is_mark (drop-drop k at body) ∙ run.none (at + k) (omega arith) (omega (arith, lt)))
+    ∙ ap (λ t. map (λ b. Byte b) (take n (drop at body)) ++ pieces t) rest
 
 -- what a run prints, and what follows it
 pub text-run : (yaml body : List ℕ) (at mark : ℕ) → IsRun body at mark → page_text yaml (drop at body) ≡ slice_range body at mark ++ page_text yaml (drop mark body)
@@ -139,8 +138,8 @@ unfolding page_text
 text-run yaml body at mark run =
     let bytes = slice_range body at mark in
     ap (flat_map (printed yaml)) (run_pieces body at mark run)
-      ∙ flat_map-append yaml (map (λ b. Byte b) bytes) (pieces (drop mark body))
-      ∙ ap (λ t. t ++ flat_map (printed yaml) (pieces (drop mark body))) (bytes_print yaml bytes)
+    ∙ flat_map-append yaml (map (λ b. Byte b) bytes) (pieces (drop mark body))
+    ∙ ap (λ t. t ++ flat_map (printed yaml) (pieces (drop mark body))) (bytes_print yaml bytes)
 
 pub stray-run : (body : List ℕ) (at mark : ℕ) → IsRun body at mark → has_stray_mark (drop at body) ≡ has_stray_mark (drop mark body)
 unfolding has_stray_mark
@@ -168,8 +167,8 @@ text-output yaml body key at next lt o k n =
     let piece : piece_at (drop at body) ≡ Output key = piece_output (drop at body) o ∙ ap (λ x. Output x) (sym k) in
     let past : at + piece_len (Output key) ≡ next = omega arith in
     ap (flat_map (printed yaml)) (pieces-at body at lt)
-      ∙ ap (λ p. printed yaml p ++ flat_map (printed yaml) (pieces (drop (at + piece_len p) body))) piece
-      ∙ ap (λ j. variable yaml key ++ flat_map (printed yaml) (pieces (drop j body))) past
+    ∙ ap (λ p. printed yaml p ++ flat_map (printed yaml) (pieces (drop (at + piece_len p) body))) piece
+    ∙ ap (λ j. variable yaml key ++ flat_map (printed yaml) (pieces (drop j body))) past
 
 pub stray-output : (body key : List ℕ) (at next : ℕ) → at < length body → is_output (drop at body) ≡ true → key ≡ output_key (drop at body) → next ≡ at + length key + 11
     → has_stray_mark (drop next body) ≡ has_stray_mark (drop at body)
@@ -178,7 +177,7 @@ stray-output body key at next lt o k n =
     let past : next ≡ at + (length key + 11) = omega arith in
     let len : length key + 11 ≡ piece_len (Output key) = omega arith in
     ap (λ j. has_stray_mark (drop j body)) past
-      ∙ stray-past body at (length key + 11) lt (len ∙ ap piece_len (sym piece)) (ap is_stray piece)
+    ∙ stray-past body at (length key + 11) lt (len ∙ ap piece_len (sym piece)) (ap is_stray piece)
 
 -- the last byte of an output
 output_end : (text : List ℕ) → is_output text ≡ true → get_or text (8 + (length (output_key text) + 2)) 0 ≡ 125
@@ -189,8 +188,8 @@ output_end text o =
     let starts : starts_with nat_eq rest front ≡ true = (and_parts _ (starts_with nat_eq rest front) (and_parts (starts_with nat_eq text (codes "{{ page.")) _ o).1).1 in
     let whole : rest ≡ front ++ drop (length front) rest = (starts_is Decides-eqb rest front true (sym starts)).0 refl in
     sym (get_or-drop 8 text (length key + 2) 0)
-      ∙ front_reads 0 rest front (drop (length front) rest) whole (length key + 2) (omega (arith, length-append key (codes " }}")))
-      ∙ get_or-append-add key (codes " }}") 2 0
+    ∙ front_reads 0 rest front (drop (length front) rest) whole (length key + 2) (omega (arith, length-append key (codes " }}")))
+    ∙ get_or-append-add key (codes " }}") 2 0
 
 pub output_end-at : (body key : List ℕ) (at i : ℕ) → is_output (drop at body) ≡ true → key ≡ output_key (drop at body) → i ≡ at + length key + 10 → get_or body i 0 ≡ 125
 output_end-at body key at i o k e =

@@ -1,5 +1,5 @@
 -- The texts that lines set are ASCII.
-use Rattle.std.proofs.Common.{◌≡◌, ℕ, zero, suc, ◌+◌, ◌<◌, Bool, true, false, cond, eqb, ◌&&◌, ◌||◌, List, [], ◌∷◌, length, get_or, filter, Option, Some, None, refl, sym, ap, ◌∙◌, subst, arith, inl, inr, not, nat_lt, nat_le, ◌==◌, codes}
+use Rattle.std.proofs.Common.{◌≡◌, ℕ, zero, suc, ◌<◌, Bool, true, false, cond, ◌&&◌, ◌||◌, List, [], ◌∷◌, length, get_or, filter, Option, Some, None, refl, sym, ap, ◌∙◌, subst, arith, inl, inr, not, nat_lt, nat_le, ◌==◌, codes}
 use Rattle.page_render.specs.Keys.{begins_with_key}
 use Rattle.std.specs.List.{list_all, last_or, slice_split, onto_first}
 use Rattle.std.specs.Char.{is_ascii_alphanumeric}
@@ -58,15 +58,15 @@ text_utf8 : (text : List ℕ) → is_text text ≡ true → IsUtf8 text
 text_utf8 text h =
     let words_pass = (and_parts ((nat_le (length text) 40 && begins_with_letter text) && list_all is_word (words text)) (not (is_value_word text)) h).0 in
     let letters = all_weaker is_word (list_all is_ascii_alphanumeric) word_letters (words text)
-      (and_parts (nat_le (length text) 40 && begins_with_letter text) (list_all is_word (words text)) words_pass).1 in
+    (and_parts (nat_le (length text) 40 && begins_with_letter text) (list_all is_word (words text)) words_pass).1 in
     IsUtf8-from_ascii text (bytes_below (λ c. (c == 32) || is_ascii_alphanumeric c) low_byte text (in_parts (λ c. c == 32) is_ascii_alphanumeric text letters))
 
 -- what a line sets, where the line is empty or sets something
 line_utf8 : (line : List ℕ) → is_line line ≡ true → IsUtf8 (text_of line)
 line_utf8 line h = elim (or_cases (length line == 0) (is_setting line) h) [
-      | inl e ↦ let none : line ≡ [] = nil_from_length line (eqb-true (length line) 0 e) in subst (λ l. IsUtf8 (text_of l)) (sym none) IsUtf8-nil
-      | inr e ↦ text_utf8 (text_of line) (and_parts (begins_with_key (codes ": ") line) (is_text (text_of line)) e).1
-    ]
+  | inl e ↦ let none : line ≡ [] = nil_from_length line (eqb-true (length line) 0 e) in subst (λ l. IsUtf8 (text_of l)) (sym none) IsUtf8-nil
+  | inr e ↦ text_utf8 (text_of line) (and_parts (begins_with_key (codes ": ") line) (is_text (text_of line)) e).1
+]
 
 -- the last of the elements that pass one test passes another that they all pass
 abbrev Passes : {X : Type 0} → (X → Bool) → Option X → Type 0

@@ -1,5 +1,5 @@
 -- Thin sites: what is made of each file, and which forms are not built yet.
-use Rattle.std.specs.Prelude.{ℕ, Bool, true, false, ◌&&◌, ◌||◌, not, List, length, drop, nat_eq, nat_le, codes, Option, find, slice_range}
+use Rattle.std.specs.Prelude.{◌≡◌, ℕ, Bool, true, false, ◌&&◌, ◌||◌, not, List, length, drop, nat_eq, nat_le, codes, Option, find, slice_range}
 use Rattle.std.specs.List.{ends_with}
 use Rattle.std.specs.Option.{option_map}
 use Rattle.std.specs.Str.{is_utf8}
@@ -55,3 +55,8 @@ is_thin_page bytes Plain = false
 -- the first file that is not built yet, by its path
 unfoldable pub first_unbuilt : List (List ℕ × List ℕ) → Option (List ℕ)
 first_unbuilt files = option_map (λ file. file.0) (find (λ file. is_unbuilt file.0 file.1) files)
+
+-- a page of which no form is unbuilt
+pub record IsBuiltPage (path bytes : List ℕ) : Type 0 where
+  pub page : is_page bytes ≡ true
+  pub built : is_unbuilt path bytes ≡ false

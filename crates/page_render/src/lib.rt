@@ -10,4 +10,4 @@ mod setting;
 mod site;
 
 pub use page::is_page;
-pub use site::is_unbuilt;
+pub use site::{render_thin, unbuilt};

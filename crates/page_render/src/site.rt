@@ -1,13 +1,42 @@
 // The files of a site: which forms are not built yet, and what is made of a page.
-ghost use Rattle.std.specs.Prelude.{◌≡◌};
-ghost use Rattle.page_render.specs.Thin.{is_unbuilt};
+ghost use Rattle.std.specs.Prelude.{◌≡◌, IfOk, IfSome, IsSomeAnd};
+ghost use Rattle.std.specs.FinMap as map;
+ghost use Rattle.std.specs.Option.{option_copied};
+ghost use Rattle.page_render.specs.Thin.{IsBuiltPage, first_unbuilt, is_unbuilt, output_of};
 
-use crate::page::has_unbuilt_content;
+use crate::page::{has_unbuilt_content, render_page};
 use crate::path::is_set_apart;
+use site_base::{Memory, SitePath, Text};
+use source_tree::Held;
+use std::alloc::Global;
+
+/// The first file, in byte order of the paths, that has a form that is not built yet.
+pub fn unbuilt(held: &Held) -> Option<&SitePath>
+    ensures { option_copied result ≡ first_unbuilt (map.entries held.now) }
+{
+    for place in 0..held.len() {
+        let (path, bytes) = held.at(place);
+        if is_unbuilt(path.text(), bytes) {
+            return Some(path);
+        }
+    }
+    None
+}
+
+/// The text of a held page of which no form is unbuilt.
+pub fn render_thin(alloc: Global, held: &Held, path: &SitePath) -> Result<Text, Memory>
+    requires { IsSomeAnd (map.get held.now path.now) (IsBuiltPage path.now) }
+    ensures { IfSome (map.get held.now path.now) (λ bytes. IfOk result (λ text. text ≡ output_of bytes)) }
+{
+    match held.get(path) {
+        Some(bytes) => render_page(alloc, bytes),
+        None => unreachable!(),
+    }
+}
 
 /// Whether a file has a form that is not built yet, by its path and its bytes.
 #[tactic(auto, unfolding(crate::specs::Thin::is_unbuilt))]
-pub fn is_unbuilt(path: &str, bytes: &[u8]) -> bool
+fn is_unbuilt(path: &str, bytes: &[u8]) -> bool
     ensures { result ≡ is_unbuilt path.now bytes.now }
 {
     is_set_apart(path.as_bytes()) || has_unbuilt_content(path, bytes)

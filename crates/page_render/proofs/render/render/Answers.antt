@@ -1,4 +1,4 @@
-use Rattle.std.proofs.Common.{◌≡◌, ◌+◌, ◌-◌, ◌<◌, ◌≤◌, refl, ◌++◌, [], true, false, List, ℕ, length, drop, slice_range, arith, sym, ap, subst, ◌∙◌}
+use Rattle.std.proofs.Common.{◌≡◌, ◌+◌, ◌<◌, ◌≤◌, refl, ◌++◌, [], true, false, List, ℕ, length, drop, slice_range, arith, sym, ap, subst, ◌∙◌}
 use Rattle.std.specs.List.{slice_index}
 use Rattle.std.specs.Str.{IsCharBoundary}
 use Rattle.std.proofs.lemmas.List.{append-nil, append_assoc}
@@ -62,12 +62,12 @@ pieces-preserved c =
     let place : (mark + (length key + 10)) + 1 ≡ next = omega arith in
     let shown : page_text yaml (drop mark body) ≡ variable yaml key ++ page_text yaml (drop next body) = text-output yaml body key mark next lt here key_is refl in
     let printed = c.in_ok-push_str-2.ensures.ok ∙ ap (λ t. t ++ c.text_of.result.now) (c.in_ok-push_str.ensures.ok ∙ ap (λ t. c.pieces.text ++ t) c.range.ensures.value)
-      ∙ ap (λ t. (c.pieces.text ++ slice_range body at mark) ++ t) c.text_of.ensures in
+    ∙ ap (λ t. (c.pieces.text ++ slice_range body at mark) ++ t) c.text_of.ensures in
     record {
       cut = subst (IsCharBoundary body) place (IsCharBoundary-after_ascii body (mark + (length key + 10)) c.utf8.body (omega (arith, within)) (omega (arith, last)));
       marks = stray-output body key mark next lt here key_is refl ∙ fine;
       printed =
-        ap (λ t. t ++ page_text yaml (drop next body)) printed
+          ap (λ t. t ++ page_text yaml (drop next body)) printed
           ∙ grown c.pieces.text (slice_range body at mark) (variable yaml key) (page_text yaml (drop next body))
           ∙ ap (λ t. c.pieces.text ++ t) (ap (λ t. slice_range body at mark ++ t) (sym shown) ∙ sym (text-run yaml body at mark run))
           ∙ c.pieces.invariant.printed;
