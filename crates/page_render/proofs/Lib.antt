@@ -5,3 +5,4 @@ pub mod Utf8
 pub mod TextLemmas
 pub mod ThinLemmas
 pub mod SiteLemmas
+mod Rows

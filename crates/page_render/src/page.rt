@@ -101,3 +101,46 @@ fn is_utf8(bytes: &[u8]) -> bool
 {
     str::from_utf8(bytes).is_ok()
 }
+
+#[cfg(test)]
+mod tests {
+    use super::*;
+    use crate::site::is_unbuilt;
+    use std::test::Fail;
+
+    fn rendered(alloc: Global, page: &[u8]) -> Option<Text> {
+        if !is_page(page) {
+            return None;
+        }
+        if is_unbuilt("x.html", page) {
+            return None;
+        }
+        render_page(alloc, page).ok()
+    }
+
+    #[test]
+    fn renders_pages(rt: HostRuntime) -> Result<(), Fail> {
+        let rows = [
+            (
+                "---\ntitle: Hi\n---\n<h1>{{ page.title }}</h1>\n",
+                "<h1>Hi</h1>\n",
+            ),
+            (
+                "---\na: One\na: Two 2\n---\n\n \n{{ page.a }}|{{ page.b }}|",
+                "Two 2||",
+            ),
+            (
+                "\u{feff}---\na: B\n...\n\u{e4}{{ page.a }}\u{20ac}",
+                "\u{e4}B\u{20ac}",
+            ),
+            ("---\r\n---\r\nx\r\n", "x\r\n"),
+            ("---\n---", ""),
+        ];
+        for (page, want) in rows {
+            let text = rendered(rt.alloc(), page.as_bytes()).ok_or("no text")?;
+            assert_eq!(rt; text.as_str(), want, "at {page:?}");
+        }
+        assert!(rt; !is_page(b"x"));
+        Ok(())
+    }
+}

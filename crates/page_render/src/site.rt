@@ -34,10 +34,75 @@ pub fn render_thin(alloc: Global, held: &Held, path: &SitePath) -> Result<Text, 
     }
 }
 
-/// Whether a file has a form that is not built yet, by its path and its bytes.
+// Whether a file has a form that is not built yet, by its path and its bytes.
 #[tactic(auto, unfolding(crate::specs::Thin::is_unbuilt))]
-fn is_unbuilt(path: &str, bytes: &[u8]) -> bool
+pub(crate) fn is_unbuilt(path: &str, bytes: &[u8]) -> bool
     ensures { result ≡ is_unbuilt path.now bytes.now }
 {
     is_set_apart(path.as_bytes()) || has_unbuilt_content(path, bytes)
+}
+
+#[cfg(test)]
+mod tests {
+    use super::*;
+    use std::test::Fail;
+
+    #[test]
+    fn finds_unbuilt_forms(rt: HostRuntime) {
+        let rows = [
+            (
+                "index.html",
+                "---\ntitle: Hi\n---\n<h1>{{ page.title }}</h1>\n",
+                false,
+            ),
+            ("a.txt", "{{ x", false),
+            ("Gemfile.locked", "x", false),
+            ("a.md", "---\n---\nx", true),
+            ("x.html", "---\ntitle: x", true),
+            (".htaccess", "x", true),
+            ("_config.yml", "x", true),
+            ("_x/y", "x", true),
+            ("a~", "x", true),
+            ("vendor/bundle/x", "x", true),
+            ("node_modules", "x", true),
+            ("x.html", "---\nurl: x\n---\n", true),
+            ("x.html", "---\ntitle: yes\n---\n", true),
+            ("x.html", "---\ntitle: a  b\n---\n", true),
+            (
+                "x.html",
+                "---\ntitle: a123456789b123456789c123456789d123456789\n---\n",
+                false,
+            ),
+            (
+                "x.html",
+                "---\ntitle: a123456789b123456789c123456789d1234567890\n---\n",
+                true,
+            ),
+            ("x.html", "---\ntitle: a\r\n---\n", true),
+            ("x.html", "---\r\n---\r\nx", false),
+            ("x.html", "\u{feff}---\n---\nx", false),
+            ("x.html", "---\n---\n{{page.title}}", true),
+            ("x.html", "---\n---\n{{ page.url }}", true),
+            ("x.html", "---\n---\n{% x %}", true),
+        ];
+        for (path, text, want) in rows {
+            assert_eq!(rt;
+                is_unbuilt(path, text.as_bytes()),
+                want,
+                "at {path} {text:?}"
+            );
+        }
+    }
+
+    #[test]
+    fn limits_pages(rt: HostRuntime) -> Result<(), Fail> {
+        let mut page = b"---\n---\n".to_vec(rt.alloc())?;
+        page.resize(1_024, b'x')?;
+        assert!(rt; !is_unbuilt("x.html", &page));
+        page.push(b'x')?;
+        assert!(rt; is_unbuilt("x.html", &page));
+        assert!(rt; is_unbuilt("x.html", b"---\n---\n\xff"));
+        assert!(rt; !is_unbuilt("x.html", b"\xff"));
+        Ok(())
+    }
 }
