@@ -36,7 +36,7 @@ pub fn render_thin(alloc: Global, held: &Held, path: &SitePath) -> Result<Text, 
 
 // Whether a file has a form that is not built yet, by its path and its bytes.
 #[tactic(auto, unfolding(crate::specs::Thin::is_unbuilt))]
-pub(crate) fn is_unbuilt(path: &str, bytes: &[u8]) -> bool
+fn is_unbuilt(path: &str, bytes: &[u8]) -> bool
     ensures { result ≡ is_unbuilt path.now bytes.now }
 {
     is_set_apart(path.as_bytes()) || has_unbuilt_content(path, bytes)
@@ -45,17 +45,59 @@ pub(crate) fn is_unbuilt(path: &str, bytes: &[u8]) -> bool
 #[cfg(test)]
 mod tests {
     use super::*;
+    use crate::is_page;
     use std::test::Fail;
 
+    fn held(rt: &HostRuntime, files: &[(&str, &[u8])]) -> Result<Held, Fail> {
+        let mut held = Held::new(rt.alloc());
+        for (path, bytes) in files {
+            held.put(SitePath::read(rt.alloc(), path)?, bytes.to_vec(rt.alloc())?)?;
+        }
+        Ok(held)
+    }
+
+    fn rendered(alloc: Global, held: &Held, path: &SitePath) -> Option<Text> {
+        match held.get(path) {
+            Some(bytes) => {
+                if !is_page(bytes) {
+                    return None;
+                }
+                if is_unbuilt(path.text(), bytes) {
+                    return None;
+                }
+                render_thin(alloc, held, path).ok()
+            }
+            None => None,
+        }
+    }
+
     #[test]
-    fn finds_unbuilt_forms(rt: HostRuntime) {
+    fn finds_the_first_unbuilt_file(rt: HostRuntime) -> Result<(), Fail> {
+        let page = b"---\n---\nx".as_slice();
+        let site = held(
+            &rt,
+            &[
+                ("b.md", page),
+                ("a.txt", b"{{ x"),
+                ("c.md", page),
+                ("a.html", page),
+            ],
+        )?;
+        let first = unbuilt(&site).ok_or("all is built")?;
+        assert_eq!(rt; first.text(), "b.md");
+        let site = held(&rt, &[("a.txt", b"x"), ("a.html", page)])?;
+        assert!(rt; unbuilt(&site).is_none());
+        Ok(())
+    }
+
+    #[test]
+    fn knows_unbuilt_forms(rt: HostRuntime) -> Result<(), Fail> {
         let rows = [
             (
                 "index.html",
                 "---\ntitle: Hi\n---\n<h1>{{ page.title }}</h1>\n",
                 false,
             ),
-            ("a.txt", "{{ x", false),
             ("Gemfile.locked", "x", false),
             ("a.md", "---\n---\nx", true),
             ("x.html", "---\ntitle: x", true),
@@ -86,16 +128,14 @@ mod tests {
             ("x.html", "---\n---\n{% x %}", true),
         ];
         for (path, text, want) in rows {
-            assert_eq!(rt;
-                is_unbuilt(path, text.as_bytes()),
-                want,
-                "at {path} {text:?}"
-            );
+            let site = held(&rt, &[(path, text.as_bytes())])?;
+            assert_eq!(rt; unbuilt(&site).is_some(), want, "at {path} {text:?}");
         }
+        Ok(())
     }
 
     #[test]
-    fn limits_pages(rt: HostRuntime) -> Result<(), Fail> {
+    fn knows_long_pages_and_other_bytes(rt: HostRuntime) -> Result<(), Fail> {
         let mut page = b"---\n---\n".to_vec(rt.alloc())?;
         page.resize(1_024, b'x')?;
         assert!(rt; !is_unbuilt("x.html", &page));
@@ -103,6 +143,34 @@ mod tests {
         assert!(rt; is_unbuilt("x.html", &page));
         assert!(rt; is_unbuilt("x.html", b"---\n---\n\xff"));
         assert!(rt; !is_unbuilt("x.html", b"\xff"));
+        Ok(())
+    }
+
+    #[test]
+    fn renders_pages(rt: HostRuntime) -> Result<(), Fail> {
+        let rows = [
+            (
+                "---\ntitle: Hi\n---\n<h1>{{ page.title }}</h1>\n",
+                "<h1>Hi</h1>\n",
+            ),
+            (
+                "---\na: One\na: Two 2\n---\n\n \n{{ page.a }}|{{ page.b }}|",
+                "Two 2||",
+            ),
+            (
+                "\u{feff}---\na: B\n...\n\u{e4}{{ page.a }}\u{20ac}",
+                "\u{e4}B\u{20ac}",
+            ),
+            ("---\r\n---\r\nx\r\n", "x\r\n"),
+            ("---\n---", ""),
+        ];
+        let path = SitePath::read(rt.alloc(), "x.html")?;
+        for (page, want) in rows {
+            let site = held(&rt, &[("x.html", page.as_bytes())])?;
+            let text = rendered(rt.alloc(), &site, &path).ok_or("no text")?;
+            assert_eq!(rt; text.as_str(), want, "at {page:?}");
+        }
+        assert!(rt; !is_page(b"x"));
         Ok(())
     }
 }
