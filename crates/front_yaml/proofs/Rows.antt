@@ -1,5 +1,5 @@
 -- Worked rows: front matter, computed at small files.
-use Rattle.std.proofs.Common.{◌≡◌, ◌∷◌, ◌++◌, codes, refl}
+use Rattle.std.proofs.Common.{◌≡◌, ◌∷◌, codes, refl}
 use Rattle.site_base.specs.Lines.{lines}
 use Rattle.front_yaml.specs.declared.front_matter.Front.TheVariants.{Page, Open, Plain}
 use Rattle.front_yaml.specs.Front.{front}

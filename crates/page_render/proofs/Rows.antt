@@ -1,5 +1,5 @@
 -- Worked rows: the definitions, computed at small files.
-use Rattle.std.proofs.Common.{◌≡◌, ℕ, true, false, List, [], ◌∷◌, ◌++◌, codes, refl, Some, None}
+use Rattle.std.proofs.Common.{◌≡◌, true, false, [], ◌∷◌, codes, refl, Some}
 use Rattle.std.specs.List.{list_all, list_any}
 use lib.Utf8.{encode}
 use Rattle.std.specs.Str.{chars, is_utf8}

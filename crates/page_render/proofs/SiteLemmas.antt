@@ -4,7 +4,7 @@ use Rattle.std.specs.Option.{option_map}
 use Rattle.std.proofs.lemmas.List.{at_drop_more, drop_all}
 use Rattle.page_render.specs.Thin.{first_unbuilt, is_unbuilt}
 
-abbrev File : Type 0
+abbrev pub File : Type 0
 File = List ℕ × List ℕ
 
 abbrev test : File → Bool

@@ -3,7 +3,7 @@ use Rattle.std.specs.List.{last_or}
 use Rattle.std.proofs.lemmas.Iterator.Consumers.{YieldsList-at, YieldsList-from_filter}
 use Rattle.std.proofs.lemmas.Iterator.Splits.{YieldsList-from_slice_split}
 use Rattle.page_render.specs.Settings.{lines, sets, text_in, variable}
-use Rattle.page_render.proofs.LineLemmas.{last_from_yields_List}
+use Rattle.page_render.proofs.Last.{last_from_yields_List}
 use Rattle.page_render.proofs.setting.variable.Goals as goal
 
 pub returns-in-Some : goal.returns-in-Some

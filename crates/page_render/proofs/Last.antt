@@ -1,4 +1,4 @@
--- The texts that lines set.
+-- The last item of a chain of iterators.
 use Rattle.std.proofs.Common.{◌≡◌, List, [], ◌∷◌, map, Option, Some, None, refl, ap, ◌∙◌}
 use Rattle.std.specs.List.{last_or}
 use Rattle.std.specs.Option.{option_map}
