@@ -10,7 +10,7 @@ use site_base::{Memory, SitePath, Text};
 use source_tree::Held;
 use std::alloc::Global;
 
-/// The first file, in byte order of the paths, that has a form that is not built yet.
+/// The path of the first file, in byte order, that has a form that is not built yet. It takes no memory.
 pub fn unbuilt(held: &Held) -> Option<&SitePath>
     ensures { option_copied result ≡ first_unbuilt (map.entries held.now) }
 {
@@ -23,7 +23,7 @@ pub fn unbuilt(held: &Held) -> Option<&SitePath>
     None
 }
 
-/// The text of a held page of which no form is unbuilt.
+/// The text of a held page of which no form is unbuilt. The one error is want of memory.
 pub fn render_thin(alloc: Global, held: &Held, path: &SitePath) -> Result<Text, Memory>
     requires { IsSomeAnd (map.get held.now path.now) (IsBuiltPage path.now) }
     ensures { IfSome (map.get held.now path.now) (λ bytes. IfOk result (λ text. text ≡ output_of bytes)) }
