@@ -1,0 +1,58 @@
+-- Front matter, one line after another, as a loop finds it.
+use Rattle.std.proofs.Common.{◌≡◌, ℕ, zero, suc, ◌+◌, true, false, List, [], ◌∷◌, length, take, refl, ap, ◌∙◌, arith}
+use Rattle.std.specs.List.{concat}
+use Rattle.std.proofs.lemmas.List.{length-append}
+use Rattle.front_yaml.specs.declared.front_matter.Front.{Front}
+use Rattle.front_yaml.specs.declared.front_matter.Front.TheVariants.{Page, Plain}
+use Rattle.site_base.specs.Lines.{lines}
+use Rattle.site_base.proofs.LinesLaws.{first_line, line_len}
+use Rattle.front_yaml.specs.Front.{begins_fence, closes, stays_open, closed, front_at, lines_while, lines_from, total, is_blank}
+
+-- front matter from `start`, of which the lines from `at` on are to be read
+abbrev pub open_at : ℕ → ℕ → List (List ℕ) → Front
+open_at start at ls = closed start (at + total (lines_while stays_open ls)) (lines_from stays_open ls)
+
+total_more : (line : List ℕ) (ls : List (List ℕ)) → total (line ∷ ls) ≡ length line + total ls
+total_more line ls = length-append line (concat ls)
+
+-- a line that does not close it
+pub goes_on : (start at : ℕ) (line : List ℕ) (ls : List (List ℕ)) → closes line ≡ false → open_at start at (line ∷ ls) ≡ open_at start (at + length line) ls
+goes_on start at line ls stays =
+    let e : at + total (line ∷ lines_while stays_open ls) ≡ (at + length line) + total (lines_while stays_open ls) = omega (arith, total_more line (lines_while stays_open ls)) in
+    rw (stays, e) refl
+
+-- the line that does
+pub ends_here : (start at : ℕ) (line : List ℕ) (ls : List (List ℕ)) → closes line ≡ true → open_at start at (line ∷ ls) ≡ Page start at (at + length line + total (lines_while is_blank ls))
+ends_here start at line ls shut = let e : at + 0 ≡ at = omega arith in rw (shut, e) refl
+
+-- a blank line more
+pub blank_more : (line : List ℕ) (ls : List (List ℕ)) → is_blank line ≡ true → total (lines_while is_blank (line ∷ ls)) ≡ length line + total (lines_while is_blank ls)
+blank_more line ls blank = rw blank (total_more line (lines_while is_blank ls))
+
+pub blank_none : (line : List ℕ) (ls : List (List ℕ)) → is_blank line ≡ false → total (lines_while is_blank (line ∷ ls)) ≡ 0
+blank_none line ls blank = rw blank refl
+
+-- where no fence stands at the front of a text, none stands at that of its first line
+begins_not : (b : ℕ) (xs : List ℕ) (n : ℕ) → begins_fence b xs ≡ false → begins_fence b (take n xs) ≡ false
+begins_not b [] zero e = e
+begins_not b [] (suc n) e = e
+begins_not b (x ∷ []) zero e = refl
+begins_not b (x ∷ []) (suc zero) e = refl
+begins_not b (x ∷ []) (suc (suc n)) e = refl
+begins_not b (x ∷ y ∷ []) zero e = refl
+begins_not b (x ∷ y ∷ []) (suc zero) e = refl
+begins_not b (x ∷ y ∷ []) (suc (suc zero)) e = refl
+begins_not b (x ∷ y ∷ []) (suc (suc (suc n))) e = refl
+begins_not b (x ∷ y ∷ z ∷ xs) zero e = refl
+begins_not b (x ∷ y ∷ z ∷ xs) (suc zero) e = refl
+begins_not b (x ∷ y ∷ z ∷ xs) (suc (suc zero)) e = refl
+begins_not b (x ∷ y ∷ z ∷ xs) (suc (suc (suc n))) e = e
+
+-- a text at whose front no fence stands has no front matter
+pub plain_at : (at : ℕ) (xs : List ℕ) → begins_fence 45 xs ≡ false → front_at at (lines xs) ≡ Plain
+unfolding lines
+plain_at at [] e = refl
+plain_at at (c ∷ cs) e =
+    let n = line_len (c ∷ cs) in
+    let none : begins_fence 45 (take n (c ∷ cs)) ≡ false = begins_not 45 (c ∷ cs) n e in
+    ap (front_at at) (first_line c cs) ∙ rw none refl

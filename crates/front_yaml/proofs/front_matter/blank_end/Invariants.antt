@@ -1,0 +1,15 @@
+use Rattle.std.proofs.Common.{length, ◌-◌, ◌≡◌, ◌≤◌, ◌+◌, drop}
+use Rattle.site_base.specs.Lines.{lines}
+use Rattle.front_yaml.specs.Front.{lines_while, total, is_blank, IsCut}
+use Rattle.front_yaml.proofs.front_matter.blank_end.Given as goal
+
+abbrev pub invariant-loop-at : goal.invariant-loop-at
+invariant-loop-at l = record {
+  order : l.from ≤ l.at;
+  within : l.at ≤ length l.bytes;
+  cut : IsCut l.bytes l.at;
+  rest : l.at + total (lines_while is_blank (lines (drop l.at l.bytes))) ≡ l.from + total (lines_while is_blank (lines (drop l.from l.bytes)));
+}
+
+abbrev pub decreases-loop-at : goal.decreases-loop-at
+decreases-loop-at l = length l.bytes - l.at

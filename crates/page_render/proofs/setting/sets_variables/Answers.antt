@@ -1,0 +1,12 @@
+use Rattle.std.proofs.Common.{rules, tests, ◌==◌}
+use Rattle.std.proofs.lemmas.Iterator.Search.{all_from_yields_List}
+use Rattle.std.proofs.lemmas.Iterator.Splits.{YieldsList-from_slice_split}
+use Rattle.page_render.specs.Settings.{is_line, sets_variables}
+use Rattle.page_render.proofs.setting.sets_variables.Goals as goal
+
+pub returns : goal.returns
+unfolding sets_variables
+returns c =
+    all_from_yields_List is_line _ _ c.all.result c.all.ensures.ran
+    (YieldsList-from_slice_split _ (λ b. b == 10) c.args.yaml.now c.split.ensures.rest c.split.ensures.done c.split.ensures.closure (λ x b q k. search (rules, tests)))
+    (λ x b q k. search (rules, tests))

@@ -1,0 +1,5 @@
+pub mod Paths
+pub mod Keys
+pub mod Settings
+pub mod Pieces
+pub mod Thin
