@@ -1,5 +1,5 @@
 // The bytes of a line.
-ghost use Rattle.std.specs.Prelude.{◌≡◌, ℕ, List, Some, IfOk, if◌then◌else◌};
+ghost use Rattle.std.specs.Prelude.{◌≡◌, ◌==◌, ℕ, List, length, false, Some, IfOk, if◌then◌else◌};
 ghost use Rattle.std.specs.Io.BufRead.{strip_last};
 ghost use Rattle.site_base.specs.Ends.{HasCause, HasCauseOf};
 ghost use Rattle.site_script.specs.Reading.{NextIs, IsRawLine};
