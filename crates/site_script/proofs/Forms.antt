@@ -1,9 +1,9 @@
 -- What the methods of a text give, in the words of the forms of a line.
-use Rattle.std.proofs.Common.{◌≡◌, ◌≢◌, ℕ, zero, suc, ◌+◌, ◌-◌, ◌^◌, ◌≤◌, ◌<◌, ◌≤◌, Bool, true, false, List, [], ◌∷◌, length, take, drop, get_or, refl, sym, ◌∙◌, ap, subst, Option, Some, None, Result, Err, arith, rules, Bor, length-drop, leb-true}
-use Rattle.std.specs.Prelude.{MatchOption, codes, nat_eq, nat_le, not, ◌&&◌, ◌||◌, ◌==◌}
-use Rattle.std.specs.List.{list_any, list_all, starts_with, suffix_len, before_last, after_last, All}
+use Rattle.std.proofs.Common.{◌≡◌, ◌≢◌, ℕ, ◌+◌, ◌-◌, ◌^◌, ◌≤◌, ◌<◌, ◌≤◌, Bool, true, false, List, [], ◌∷◌, length, take, drop, get_or, refl, sym, ◌∙◌, ap, subst, None, Result, Err, arith, rules, length-drop, leb-true}
+use Rattle.std.specs.Prelude.{codes, nat_eq, nat_le, not, ◌&&◌, ◌==◌}
+use Rattle.std.specs.List.{list_any, list_all, starts_with, suffix_len, before_last, after_last}
 use Rattle.std.specs.Char.{is_ascii_digit}
-use Rattle.std.specs.Str.{NoCharPasses, bytes_eq}
+use Rattle.std.specs.Str.{NoCharPasses}
 use Rattle.std.specs.Str.Parse.{ParsesUnsigned, digits_value}
 use Rattle.std.specs.Str.Pattern.{RFindsChar, SplitsAroundMatch}
 use Rattle.std.proofs.lemmas.Bool.{ne_eqb}
@@ -20,7 +20,7 @@ use Rattle.std.specs.Result.{IfOk}
 use Rattle.std.specs.Prelude.{if◌then◌else◌}
 use Rattle.std.specs.Str.{IsUtf8, is_utf8}
 use Rattle.std.proofs.lemmas.Str.{is_utf8-from_IsUtf8, IsUtf8-from_is_utf8}
-use Rattle.std.proofs.lemmas.Bool.{lt-ltb, le-ltb}
+use Rattle.std.proofs.lemmas.Bool.{le-ltb}
 use Rattle.site_script.specs.declared.head.Head.{Head}
 use Rattle.site_script.specs.declared.head.Head.TheVariants as head
 use Rattle.site_script.specs.declared.line.ScriptKind.TheVariants as kind
@@ -43,9 +43,9 @@ at_last_space s path count (i, j, (none, at), front, back, le, front_len, back_l
     let within : i < length s = omega (arith, ap length split, length-drop i s) in
     let is : get_or s i 0 ≡ 32 = at.byte (omega arith) in
     let later : ((k : ℕ) → j ≤ k → k < length s → not (is_space (get_or s k 0)) ≡ true) = λ k low high.
-        let other : get_or (drop j s) (k - j) 0 ≢ 32 = NoCharPasses-char 32 (drop j s) (k - j) none (omega arith) (omega (arith, length-drop j s)) in
-        let same : get_or (drop j s) (k - j) 0 ≡ get_or s k 0 = get_or-drop j s (k - j) 0 ∙ ap (λ n. get_or s n 0) (omega arith) in
-        ap not (ne_eqb (get_or s k 0) 32 (λ e. other (same ∙ e))) in
+    let other : get_or (drop j s) (k - j) 0 ≢ 32 = NoCharPasses-char 32 (drop j s) (k - j) none (omega arith) (omega (arith, length-drop j s)) in
+    let same : get_or (drop j s) (k - j) 0 ≡ get_or s k 0 = get_or-drop j s (k - j) 0 ∙ ap (λ n. get_or s n 0) (omega arith) in
+    ap not (ne_eqb (get_or s k 0) 32 (λ e. other (same ∙ e))) in
     let here : not (is_space (get_or s (j - 1) 0)) ≡ false = ap (λ n. not (is_space (get_or s n 0))) (omega arith) ∙ ap (λ b. not (b == 32)) is in
     let count_is : suffix_len (λ x. not (is_space x)) s ≡ length s - j = suffix_len_is (λ x. not (is_space x)) s j 0 (omega arith) later (λ _. here) in
     record {
@@ -94,7 +94,7 @@ no_number {E} most text e small is refused =
     let digits = and_true (list_all is_ascii_digit text) _ is in
     let some = and_true (not (length text == 0)) _ digits.1 in
     let large : nat_le (digits_value 10 text) most ≡ false = is_false _ (λ within.
-        parse_digits own 64 text (Err e) refused digits.0 (some_length text some.0, omega (arith, leb-true _ _ within))) in
+    parse_digits own 64 text (Err e) refused digits.0 (some_length text some.0, omega (arith, leb-true _ _ within))) in
     sym (rw (is, large) refl)
   where
     some_length : (text : List ℕ) → not (length text == 0) ≡ true → 0 < length text

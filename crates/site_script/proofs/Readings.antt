@@ -1,18 +1,17 @@
 -- Reading a line byte by byte, and a body block by block.
-use Rattle.std.proofs.Common.{zero, suc, ◌≡◌, ℕ, ◌+◌, ◌-◌, ◌≤◌, ◌<◌, Bool, true, false, cond, List, [], ◌∷◌, ◌++◌, length, take, drop, get_or, refl, sym, ◌∙◌, ap, subst, Option, Some, None, append_assoc, length-append, arith, zero-add, add_assoc}
+use Rattle.std.proofs.Common.{zero, suc, ◌≡◌, ℕ, ◌+◌, ◌-◌, ◌≤◌, ◌<◌, Bool, true, false, cond, List, [], ◌∷◌, ◌++◌, length, take, drop, get_or, refl, sym, ◌∙◌, ap, subst, Option, Some, None, append_assoc, length-append, arith, zero-add}
 use Rattle.std.specs.Prelude.{◌==◌, ◌||◌, not, nat_lt, if◌then◌else◌}
 use Rattle.std.specs.List.{list_any, position_or_len}
 use Rattle.std.specs.Io.BufRead.{strip_last, ends_with_byte}
 use Rattle.std.proofs.Math.Seq.{take-append_seam, drop-append_seam, take-append-add, drop-append-add}
 use Rattle.std.proofs.lemmas.Bool.{lt-ltb, le-ltb, eqb-true}
-use Rattle.std.proofs.lemmas.List.{append-nil, take-append-drop, length-take-le, drop_all, take_all}
+use Rattle.std.proofs.lemmas.List.{append-nil, take-append-drop, length-take-le}
 use Rattle.std.proofs.lemmas.List.Folds.{list_any-append}
-use Rattle.site_script.specs.Script.{is_lf, front_line, has_end, after_line, head_of, form_of, content, first_line, whole_line, IsFirst}
+use Rattle.site_script.specs.Script.{is_lf, front_line, has_end, after_line, head_of, content, first_line, whole_line, IsFirst}
 use Rattle.site_script.specs.Reading.{NextIs, Filling, AddsFrom, IsBody}
 use Rattle.site_script.specs.declared.line.Line.{Line}
 use Rattle.site_script.specs.declared.line.Line.TheVariants as line
 use Rattle.site_script.specs.declared.line.ScriptKind.TheVariants as kind
-use Rattle.site_script.specs.declared.head.Head.{Head}
 use Rattle.site_script.specs.declared.head.Head.TheVariants as head
 
 empty_drop : (n : ℕ) → drop n (let none : List ℕ = [] in none) ≡ []
@@ -70,18 +69,20 @@ no_lf_more bytes b none other = list_any-append is_lf bytes (b ∷ []) ∙ rw (n
 pub line_ends : (text bytes : List ℕ) (b : ℕ) (old new : Option (List ℕ)) (r : Filling text bytes old) → list_any is_lf bytes ≡ false → b ≡ 10 → NextIs r.rest (Some b) new
     → (bytes ≡ front_line text) × (true ≡ has_end text) × (new ≡ Some (after_line text))
 line_ends text bytes b old new r none end next =
-    let is : text ≡ bytes ++ (10 ∷ next.0) = r.whole ∙ ap (λ t. bytes ++ t) (next.1 ∙ ap (λ x. x ∷ next.0) end) in
-    (sym (ap front_line is ∙ front_after bytes (10 ∷ next.0) none ∙ append-nil bytes),
-    sym (ap has_end is ∙ ended_after bytes (10 ∷ next.0) none),
-    next.2 ∙ ap Some (sym (ap after_line is ∙ left_after bytes (10 ∷ next.0) none)))
+    let is : text ≡ bytes ++ (10 ∷ next.0) = r.whole ∙ ap (λ t. bytes ++ t) (next.1 ∙ ap (λ x. x ∷ next.0) end) in (
+      sym (ap front_line is ∙ front_after bytes (10 ∷ next.0) none ∙ append-nil bytes),
+      sym (ap has_end is ∙ ended_after bytes (10 ∷ next.0) none),
+      next.2 ∙ ap Some (sym (ap after_line is ∙ left_after bytes (10 ∷ next.0) none)),
+    )
 
 pub text_ends : (text bytes : List ℕ) (old new : Option (List ℕ)) (r : Filling text bytes old) → list_any is_lf bytes ≡ false → NextIs r.rest None new
     → (bytes ≡ front_line text) × (false ≡ has_end text) × (new ≡ Some (after_line text))
 text_ends text bytes old new r none next =
-    let is : text ≡ bytes ++ [] = r.whole ∙ ap (λ t. bytes ++ t) next.0 in
-    (sym (ap front_line is ∙ front_after bytes [] none ∙ append-nil bytes),
-    sym (ap has_end is ∙ ended_after bytes [] none),
-    next.1 ∙ ap Some (sym (ap after_line is ∙ left_after bytes [] none)))
+    let is : text ≡ bytes ++ [] = r.whole ∙ ap (λ t. bytes ++ t) next.0 in (
+      sym (ap front_line is ∙ front_after bytes [] none ∙ append-nil bytes),
+      sym (ap has_end is ∙ ended_after bytes [] none),
+      next.1 ∙ ap Some (sym (ap after_line is ∙ left_after bytes [] none)),
+    )
 
 pub line_goes_on : (text bytes : List ℕ) (old : Option (List ℕ)) → Filling text bytes old → list_any is_lf bytes ≡ false → length bytes ≤ length (front_line text)
 line_goes_on text bytes old r none = omega (arith, ap length (ap front_line r.whole ∙ front_after bytes r.rest none), length-append bytes (front_line r.rest))
@@ -140,16 +141,18 @@ filled_more text old more count before after r adds = record {
 }
 
 pub body_whole : (count : ℕ) (text bytes : List ℕ) (after : Option (List ℕ)) → Filling text bytes after → length bytes ≡ count → IsBody count text (Some bytes) after
-body_whole count text bytes after r long =
-    (sym (ap (λ t. take count t) r.whole ∙ ap (λ n. take n (bytes ++ r.rest)) (sym long) ∙ take-append_seam bytes r.rest),
-    (let all : length text ≡ length bytes + length r.rest = ap length r.whole ∙ length-append bytes r.rest in omega arith),
-    r.left ∙ ap Some (sym (ap (λ t. drop count t) r.whole ∙ ap (λ n. drop n (bytes ++ r.rest)) (sym long) ∙ drop-append_seam bytes r.rest)))
+body_whole count text bytes after r long = (
+  sym (ap (λ t. take count t) r.whole ∙ ap (λ n. take n (bytes ++ r.rest)) (sym long) ∙ take-append_seam bytes r.rest),
+  (let all : length text ≡ length bytes + length r.rest = ap length r.whole ∙ length-append bytes r.rest in omega arith),
+  r.left ∙ ap Some (sym (ap (λ t. drop count t) r.whole ∙ ap (λ n. drop n (bytes ++ r.rest)) (sym long) ∙ drop-append_seam bytes r.rest)),
+)
 
 pub body_cut : (count : ℕ) (text old more : List ℕ) (before after : Option (List ℕ)) (r : Filling text old before) → length old < count → AddsFrom r.rest old more 0 after → IsBody count text None after
 body_cut count text old more before after r short adds =
-    let none : r.rest ≡ [] = adds.none_at_end refl in
-    ((let all : length text ≡ length old = ap length (r.whole ∙ ap (λ t. old ++ t) none ∙ append-nil old) in omega arith),
-    adds.left ∙ ap Some none)
+    let none : r.rest ≡ [] = adds.none_at_end refl in (
+      (let all : length text ≡ length old = ap length (r.whole ∙ ap (λ t. old ++ t) none ∙ append-nil old) in omega arith),
+      adds.left ∙ ap Some none,
+    )
 
 -- a put with all its bytes, and one that the input's end cuts
 pub put_whole : (number count : ℕ) (path text bytes : List ℕ) (after : Option (List ℕ)) → IsBody count text (Some bytes) after → IsFirst (whole_line number (head.Put path count) text) (line.Put path bytes) after

@@ -1,9 +1,8 @@
 -- How far a script is read.
-use Rattle.std.specs.Prelude.{◌≡◌, ◌≤◌, ◌<◌, length, take, drop, ℕ, Bool, false, List, [], ◌∷◌, ◌++◌, Option, Some, None}
-use Rattle.std.specs.List.{list_any}
+use Rattle.std.specs.Prelude.{◌≡◌, ◌≤◌, ◌<◌, length, take, drop, ℕ, List, [], ◌∷◌, ◌++◌, Option, Some, None}
 use Rattle.site_base.specs.Path.{path_refusal}
 use Rattle.site_base.specs.declared.path.PathError.{PathError}
-use Rattle.site_script.specs.Script.{is_lf, front_line, has_end, after_line}
+use Rattle.site_script.specs.Script.{front_line, has_end, after_line}
 use Rattle.site_script.specs.declared.raw_line.RawLine.{RawLine}
 
 -- the path is these bytes, or they are refused

@@ -1,5 +1,5 @@
 -- What the bytes of a session's script say, line by line.
-use Rattle.std.specs.Prelude.{◌≡◌, ℕ, ◌+◌, Bool, true, false, not, ◌==◌, nat_lt, List, [], ◌∷◌, length, take, drop, nat_eq, codes, ℤ, pos, Option, Some, is_some, if◌then◌else◌}
+use Rattle.std.specs.Prelude.{◌≡◌, ℕ, ◌+◌, Bool, true, false, not, ◌==◌, nat_lt, List, [], ◌∷◌, length, take, drop, nat_eq, codes, pos, Option, Some, is_some, if◌then◌else◌}
 use Rattle.std.specs.Option.{option_map_or}
 use Rattle.std.specs.List.{list_any, starts_with, before_first, after_first, before_last, after_last}
 use Rattle.std.specs.Io.BufRead.{strip_last}

@@ -1,4 +1,4 @@
-use Rattle.std.proofs.Common.{◌≡◌, ◌≤◌, ◌+◌, ap, subst, length, arith, ℕ}
+use Rattle.std.proofs.Common.{subst, arith, ℕ}
 use Rattle.std.proofs.lemmas.List.{length-take}
 use Rattle.site_script.specs.Reading.{AddsFrom}
 use Rattle.site_script.proofs.Readings.{filled_more, body_whole, body_cut}

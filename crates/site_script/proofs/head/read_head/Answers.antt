@@ -1,6 +1,5 @@
 use Rattle.std.proofs.Common.{◌≡◌, subst, sym, ap, ◌∙◌}
 use Rattle.std.specs.Result.{IfOk}
-use Rattle.std.specs.Str.{IsUtf8}
 use Rattle.site_script.specs.Script.{form_of}
 use Rattle.site_script.specs.declared.head.Head.{Head}
 use Rattle.site_script.proofs.Forms.{text_head, no_text_head}

@@ -1,4 +1,4 @@
-use Rattle.std.proofs.Common.{◌≡◌, ◌<◌, ◌∙◌, ap, Some, length, rules, arith}
+use Rattle.std.proofs.Common.{◌≡◌, ◌∙◌, ap, Some, length, rules, arith}
 use Rattle.site_script.proofs.Readings.{nothing_left, one_byte}
 use Rattle.site_script.proofs.raw_line.next_byte.Goals as goal
 

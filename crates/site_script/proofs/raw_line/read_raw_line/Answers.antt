@@ -1,7 +1,7 @@
-use Rattle.std.proofs.Common.{◌≡◌, ◌<◌, ◌+◌, ◌∙◌, ◌++◌, ◌∷◌, [], ap, sym, subst, Some, length, rules, arith, length-append, Option, List, ℕ, false}
+use Rattle.std.proofs.Common.{◌≡◌, ◌+◌, ◌∙◌, ◌++◌, ◌∷◌, [], ap, sym, subst, length, rules, arith, length-append, Option, List, ℕ}
 use Rattle.std.specs.List.{list_any}
 use Rattle.std.proofs.lemmas.Bool.{ne_eqb}
-use Rattle.site_script.specs.Script.{is_lf, front_line}
+use Rattle.site_script.specs.Script.{is_lf}
 use Rattle.site_script.specs.Reading.{NextIs, Filling}
 use Rattle.site_script.proofs.Readings.{filled_byte, no_lf_more, line_ends, text_ends, line_goes_on}
 use Rattle.site_script.proofs.raw_line.read_raw_line.Goals as goal

@@ -1,4 +1,4 @@
-use Rattle.std.proofs.Common.{◌≡◌, ◌⊎◌, ◌∙◌, inl, inr, ap, sym, subst, Some, List, ℕ, Option, length, true, false, rules, arith}
+use Rattle.std.proofs.Common.{◌≡◌, ◌⊎◌, ◌∙◌, inr, ap, sym, subst, List, ℕ, Option}
 use Rattle.site_script.specs.Script.{IsFirst, whole_line, first_line, after_line, head_of}
 use Rattle.site_script.specs.Reading.{IsRawLine}
 use Rattle.site_script.specs.declared.line.Line.{Line}
@@ -22,7 +22,7 @@ returns-in-Ok-clause-line g c = λ text w.
     let raw = subst (λ (o : Option RawLine). IsRawLine text o (g.I.ByteSource.left c.read_raw_line.new.input)) c.in-Ok-Some.field-0-is (c.in-Ok-Some.ensures.ok text w) in
     let some = sym c.is_nothing.ensures ∙ c.if-is_nothing.false in
     let is : first_line c.args.number text ≡ whole_line c.args.number c.in-Ok.head (after_line text) =
-        some_line c.args.number text c.in-Ok-Some.raw.bytes.items c.in-Ok-Some.raw.ended raw.0 raw.1 some
-        ∙ ap (λ h. whole_line c.args.number h (after_line text)) (ap head_of (sym c.content.ensures) ∙ sym c.in-Ok.ensures) in
+    some_line c.args.number text c.in-Ok-Some.raw.bytes.items c.in-Ok-Some.raw.ended raw.0 raw.1 some
+    ∙ ap (λ h. whole_line c.args.number h (after_line text)) (ap head_of (sym c.content.ensures) ∙ sym c.in-Ok.ensures) in
     subst (λ (f : Line × List ℕ). (c.finish.result ≡ line.Failed) ⊎ ((c.finish.result ≡ line.Memory) ⊎ IsFirst f c.finish.result (g.I.ByteSource.left c.finish.new.input))) (sym is)
     (c.finish.ensures.line (after_line text) raw.2)
