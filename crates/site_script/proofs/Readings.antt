@@ -8,7 +8,7 @@ use Rattle.std.proofs.lemmas.Bool.{lt-ltb, le-ltb, eqb-true}
 use Rattle.std.proofs.lemmas.List.{append-nil, take-append-drop, length-take-le}
 use Rattle.std.proofs.lemmas.List.Folds.{list_any-append}
 use Rattle.site_script.specs.Script.{is_lf, front_line, has_end, after_line, head_of, content, first_line, whole_line, IsFirst}
-use Rattle.site_script.specs.Reading.{NextIs, Filling, AddsFrom, IsBody}
+use Rattle.site_script.specs.Reading.{IsNext, HasRead, AddsFrom, IsBody}
 use Rattle.site_script.specs.declared.line.Line.{Line}
 use Rattle.site_script.specs.declared.line.Line.TheVariants as line
 use Rattle.site_script.specs.declared.line.ScriptKind.TheVariants as kind
@@ -56,7 +56,7 @@ left_after bytes rest none =
     let place : position_or_len is_lf (bytes ++ rest) + 1 ≡ length bytes + (position_or_len is_lf rest + 1) = omega (arith, place_after bytes rest none) in
     ap (λ n. drop n (bytes ++ rest)) place ∙ drop-append-add bytes rest (position_or_len is_lf rest + 1)
 
-pub filled_byte : (text bytes : List ℕ) (b : ℕ) (old new : Option (List ℕ)) (r : Filling text bytes old) → NextIs r.rest (Some b) new → Filling text (bytes ++ b ∷ []) new
+pub filled_byte : (text bytes : List ℕ) (b : ℕ) (old new : Option (List ℕ)) (r : HasRead text bytes old) → IsNext r.rest (Some b) new → HasRead text (bytes ++ b ∷ []) new
 filled_byte text bytes b old new r next = record {
   rest = next.0;
   left = next.2;
@@ -66,7 +66,7 @@ filled_byte text bytes b old new r next = record {
 pub no_lf_more : (bytes : List ℕ) (b : ℕ) → list_any is_lf bytes ≡ false → (b == 10) ≡ false → list_any is_lf (bytes ++ b ∷ []) ≡ false
 no_lf_more bytes b none other = list_any-append is_lf bytes (b ∷ []) ∙ rw (none, other) refl
 
-pub line_ends : (text bytes : List ℕ) (b : ℕ) (old new : Option (List ℕ)) (r : Filling text bytes old) → list_any is_lf bytes ≡ false → b ≡ 10 → NextIs r.rest (Some b) new
+pub line_ends : (text bytes : List ℕ) (b : ℕ) (old new : Option (List ℕ)) (r : HasRead text bytes old) → list_any is_lf bytes ≡ false → b ≡ 10 → IsNext r.rest (Some b) new
     → (bytes ≡ front_line text) × (true ≡ has_end text) × (new ≡ Some (after_line text))
 line_ends text bytes b old new r none end next =
     let is : text ≡ bytes ++ (10 ∷ next.0) = r.whole ∙ ap (λ t. bytes ++ t) (next.1 ∙ ap (λ x. x ∷ next.0) end) in (
@@ -75,7 +75,7 @@ line_ends text bytes b old new r none end next =
       next.2 ∙ ap Some (sym (ap after_line is ∙ left_after bytes (10 ∷ next.0) none)),
     )
 
-pub text_ends : (text bytes : List ℕ) (old new : Option (List ℕ)) (r : Filling text bytes old) → list_any is_lf bytes ≡ false → NextIs r.rest None new
+pub text_ends : (text bytes : List ℕ) (old new : Option (List ℕ)) (r : HasRead text bytes old) → list_any is_lf bytes ≡ false → IsNext r.rest None new
     → (bytes ≡ front_line text) × (false ≡ has_end text) × (new ≡ Some (after_line text))
 text_ends text bytes old new r none next =
     let is : text ≡ bytes ++ [] = r.whole ∙ ap (λ t. bytes ++ t) next.0 in (
@@ -84,7 +84,7 @@ text_ends text bytes old new r none next =
       next.1 ∙ ap Some (sym (ap after_line is ∙ left_after bytes [] none)),
     )
 
-pub line_goes_on : (text bytes : List ℕ) (old : Option (List ℕ)) → Filling text bytes old → list_any is_lf bytes ≡ false → length bytes ≤ length (front_line text)
+pub line_goes_on : (text bytes : List ℕ) (old : Option (List ℕ)) → HasRead text bytes old → list_any is_lf bytes ≡ false → length bytes ≤ length (front_line text)
 line_goes_on text bytes old r none = omega (arith, ap length (ap front_line r.whole ∙ front_after bytes r.rest none), length-append bytes (front_line r.rest))
 
 pub nothing_read : (bytes : List ℕ) (ended : Bool) → (if ended then false else (length bytes == 0)) ≡ true → (ended ≡ false) × (length bytes ≡ 0)
@@ -133,21 +133,21 @@ end_first number text after none left =
     let is : first_line number text ≡ (line.Eof, []) = ap (first_line number) none in
     (ap (λ (p : Line × List ℕ). p.0) is, λ _. left ∙ ap (λ t. Some (after_line t)) none ∙ ap (λ (p : Line × List ℕ). Some p.1) (sym is))
 
-pub filled_more : (text old more : List ℕ) (count : ℕ) (before after : Option (List ℕ)) (r : Filling text old before) → AddsFrom r.rest old more count after → Filling text more after
+pub filled_more : (text old more : List ℕ) (count : ℕ) (before after : Option (List ℕ)) (r : HasRead text old before) → AddsFrom r.rest old more count after → HasRead text more after
 filled_more text old more count before after r adds = record {
   rest = drop count r.rest;
   left = adds.left;
   whole = r.whole ∙ ap (λ t. old ++ t) (sym (take-append-drop count r.rest)) ∙ sym (append_assoc old (take count r.rest) (drop count r.rest)) ∙ ap (λ t. t ++ drop count r.rest) (sym adds.added);
 }
 
-pub body_whole : (count : ℕ) (text bytes : List ℕ) (after : Option (List ℕ)) → Filling text bytes after → length bytes ≡ count → IsBody count text (Some bytes) after
+pub body_whole : (count : ℕ) (text bytes : List ℕ) (after : Option (List ℕ)) → HasRead text bytes after → length bytes ≡ count → IsBody count text (Some bytes) after
 body_whole count text bytes after r long = (
   sym (ap (λ t. take count t) r.whole ∙ ap (λ n. take n (bytes ++ r.rest)) (sym long) ∙ take-append_seam bytes r.rest),
   (let all : length text ≡ length bytes + length r.rest = ap length r.whole ∙ length-append bytes r.rest in omega arith),
   r.left ∙ ap Some (sym (ap (λ t. drop count t) r.whole ∙ ap (λ n. drop n (bytes ++ r.rest)) (sym long) ∙ drop-append_seam bytes r.rest)),
 )
 
-pub body_cut : (count : ℕ) (text old more : List ℕ) (before after : Option (List ℕ)) (r : Filling text old before) → length old < count → AddsFrom r.rest old more 0 after → IsBody count text None after
+pub body_cut : (count : ℕ) (text old more : List ℕ) (before after : Option (List ℕ)) (r : HasRead text old before) → length old < count → AddsFrom r.rest old more 0 after → IsBody count text None after
 body_cut count text old more before after r short adds =
     let none : r.rest ≡ [] = adds.none_at_end refl in (
       (let all : length text ≡ length old = ap length (r.whole ∙ ap (λ t. old ++ t) none ∙ append-nil old) in omega arith),

@@ -11,12 +11,12 @@ IsPathOf bytes (Some path) = (path ≡ bytes) × (path_refusal bytes ≡ None)
 IsPathOf bytes None = (refusal : PathError) × (path_refusal bytes ≡ Some refusal)
 
 -- the first byte of a text and what follows it, or the text has none
-abbrev pub NextIs : List ℕ → Option ℕ → Option (List ℕ) → Type 0
-NextIs text None after = (text ≡ []) × (after ≡ Some [])
-NextIs text (Some b) after = (rest : List ℕ) × (text ≡ b ∷ rest) × (after ≡ Some rest)
+abbrev pub IsNext : List ℕ → Option ℕ → Option (List ℕ) → Type 0
+IsNext text None after = (text ≡ []) × (after ≡ Some [])
+IsNext text (Some b) after = (rest : List ℕ) × (text ≡ b ∷ rest) × (after ≡ Some rest)
 
 -- these bytes of a text were read
-pub record Filling (text bytes : List ℕ) (after : Option (List ℕ)) : Type 0 where
+pub record HasRead (text bytes : List ℕ) (after : Option (List ℕ)) : Type 0 where
   pub rest : List ℕ
   pub left : after ≡ Some rest
   pub whole : text ≡ bytes ++ rest

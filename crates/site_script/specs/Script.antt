@@ -1,5 +1,5 @@
 -- What the bytes of a session's script say, line by line.
-use Rattle.std.specs.Prelude.{◌≡◌, ℕ, ◌+◌, Bool, true, false, not, ◌==◌, nat_lt, List, [], ◌∷◌, length, take, drop, nat_eq, codes, pos, Option, Some, is_some, if◌then◌else◌}
+use Rattle.std.specs.Prelude.{◌≡◌, ◌⊎◌, ℕ, ◌+◌, Bool, true, false, not, ◌==◌, nat_lt, List, [], ◌∷◌, length, take, drop, nat_eq, codes, pos, Option, Some, is_some, if◌then◌else◌}
 use Rattle.std.specs.Option.{option_map_or}
 use Rattle.std.specs.List.{list_any, starts_with, before_first, after_first, before_last, after_last}
 use Rattle.std.specs.Io.BufRead.{strip_last}
@@ -99,16 +99,17 @@ Taken before text (line ∷ lines) left = ((first_line (line_number before) text
 
 abbrev pub is_bad : Line → Bool
 is_bad (Bad number kind) = true
-is_bad End = false
-is_bad Eof = false
-is_bad Failed = false
-is_bad Memory = false
-is_bad Scan = false
-is_bad (Put path bytes) = false
-is_bad (Delete path) = false
-is_bad (Time seconds) = false
-is_bad Build = false
+is_bad _ = false
 
 -- the line read is this first line, and where it is not bad, this is left; what is left after a bad line is not said
 abbrev pub IsFirst : Line × List ℕ → Line → Option (List ℕ) → Type 0
 IsFirst first line left = (first.0 ≡ line) × (is_bad line ≡ false → left ≡ Some first.1)
+
+-- the same, unless the input failed or memory was wanting
+abbrev pub ReadsFirst : Line × List ℕ → Line → Option (List ℕ) → Type 0
+ReadsFirst first line left = (line ≡ Failed) ⊎ ((line ≡ Memory) ⊎ IsFirst first line left)
+
+-- if the line is bad, it bears this number
+abbrev pub BearsNumber : ℕ → Line → Type 0
+BearsNumber number (Bad n kind) = n ≡ number
+BearsNumber number _ = Unit {0}

@@ -2,7 +2,7 @@
 ghost use Rattle.std.specs.Prelude.{◌≡◌, ◌==◌, ℕ, List, length, false, Some, IfOk, if◌then◌else◌};
 ghost use Rattle.std.specs.Io.BufRead.{strip_last};
 ghost use Rattle.site_base.specs.Ends.{HasCause, HasCauseOf};
-ghost use Rattle.site_script.specs.Reading.{NextIs, IsRawLine};
+ghost use Rattle.site_script.specs.Reading.{IsNext, IsRawLine};
 
 use site_base::{ByteSource, Failed, ReadError};
 use std::alloc::Global;
@@ -71,7 +71,7 @@ pub(crate) fn read_raw_line<I: ByteSource>(
 
 // None at the input's end.
 fn next_byte<I: ByteSource>(input: &mut I) -> Result<Option<u8>, Failed>
-    ensures byte { (text : List ℕ) → I.left input.old ≡ Some text → IfOk result (λ byte. NextIs text byte (I.left input.new)) }
+    ensures byte { (text : List ℕ) → I.left input.old ≡ Some text → IfOk result (λ byte. IsNext text byte (I.left input.new)) }
     ensures cause { HasCause (I.faults input.old) (I.faults input.new) result }
 {
     let mut one = [0u8; 1];

@@ -1,8 +1,8 @@
 // The lines of a script, read one after another.
-ghost use Rattle.std.specs.Prelude.{◌≡◌, ◌⊎◌, ◌≤◌, ℕ, List, Some, true, false};
+ghost use Rattle.std.specs.Prelude.{◌≡◌, ◌≤◌, ℕ, List, Some, true, false};
 ghost use Rattle.site_base.specs.Ends.{Rose};
 ghost use Rattle.site_script.specs.Line.{line_number, ends};
-ghost use Rattle.site_script.specs.Script.{first_line, whole_line, IsFirst};
+ghost use Rattle.site_script.specs.Script.{first_line, whole_line, ReadsFirst, BearsNumber};
 
 use crate::body::read_body;
 use crate::head::{Head, read_head};
@@ -51,9 +51,9 @@ impl ScriptReader {
 pub fn next_line<I: ByteSource>(alloc: Global, reader: &mut ScriptReader, input: &mut I) -> Line
     // Where the input tells its bytes, the line is the first of them, and what follows it is left.
     ensures line { (text : List ℕ) → reader.old.over ≡ false → I.left input.old ≡ Some text →
-        (result ≡ Line.Failed) ⊎ ((result ≡ Line.Memory)
-        ⊎ IsFirst (first_line (line_number reader.old.lines) text) result (I.left input.new)) }
+        ReadsFirst (first_line (line_number reader.old.lines) text) result (I.left input.new) }
     ensures number { reader.old.over ≡ false → reader.new.lines ≡ line_number reader.old.lines }
+    ensures bad { BearsNumber reader.new.lines result }
     ensures over { reader.new.over ≡ ends result }
 
     // Once the script is over, no call touches the input.
@@ -85,7 +85,8 @@ fn is_last(line: &Line) -> bool
 // The line that comes next, which has this number.
 fn read_line<I: ByteSource>(alloc: Global, number: u64, input: &mut I) -> Line
     ensures line { (text : List ℕ) → I.left input.old ≡ Some text →
-        (result ≡ Line.Failed) ⊎ ((result ≡ Line.Memory) ⊎ IsFirst (first_line number text) result (I.left input.new)) }
+        ReadsFirst (first_line number text) result (I.left input.new) }
+    ensures bad { BearsNumber number result }
     ensures later { I.faults input.old ≤ I.faults input.new }
     ensures failed { result ≡ Line.Failed → Rose (I.faults input.old) (I.faults input.new) }
 {
@@ -107,7 +108,8 @@ fn read_line<I: ByteSource>(alloc: Global, number: u64, input: &mut I) -> Line
 // The line that a head begins.
 fn finish<I: ByteSource>(alloc: Global, number: u64, head: Head, input: &mut I) -> Line
     ensures line { (text : List ℕ) → I.left input.old ≡ Some text →
-        (result ≡ Line.Failed) ⊎ ((result ≡ Line.Memory) ⊎ IsFirst (whole_line number head text) result (I.left input.new)) }
+        ReadsFirst (whole_line number head text) result (I.left input.new) }
+    ensures bad { BearsNumber number result }
     ensures later { I.faults input.old ≤ I.faults input.new }
     ensures failed { result ≡ Line.Failed → Rose (I.faults input.old) (I.faults input.new) }
 {

@@ -1,5 +1,5 @@
 // Standard input as a source of bytes.
-ghost use Rattle.std.specs.Prelude.{None};
+ghost use Rattle.std.specs.Prelude.{◌≡◌, None};
 
 use site_base::{ByteSource, Failed};
 use std::io::Read;
@@ -28,8 +28,10 @@ impl<R: Input + Drop> Model for StdInput<R> {
 }
 
 impl<R: Input + Drop> StdInput<R> {
-    /// The whole of standard input, of which nothing is read yet.
-    pub fn new(rt: R) -> StdInput<R> {
+    /// The whole of standard input, of which nothing is read yet, so that it has never failed.
+    pub fn new(rt: R) -> StdInput<R>
+        ensures { result ≡ 0 }
+    {
         StdInput {
             rt,
             block: [0; BLOCK],
