@@ -1,4 +1,4 @@
--- How far a script is read.
+-- How far a script is read, by bytes, by lines and by bodies.
 use Rattle.std.specs.Prelude.{◌≡◌, ◌≤◌, ◌<◌, length, take, drop, ℕ, List, [], ◌∷◌, ◌++◌, Option, Some, None}
 use Rattle.site_base.specs.Path.{path_refusal}
 use Rattle.site_base.specs.declared.path.PathError.{PathError}

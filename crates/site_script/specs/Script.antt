@@ -38,24 +38,24 @@ content text = if has_end text then strip_last 13 (front_line text) else front_l
 abbrev pub is_space : ℕ → Bool
 is_space b = b == 32
 
--- a path and a length, at most that of the longest file
+-- a path, and a length that is at most a file's
 abbrev pub put_of : List ℕ → List ℕ → Head
 put_of path count = if is_some (path_refusal path) then head.Bad Path
     else option_map_or (λ n. head.Put path n) (number_up_to 16777216 count) (head.Bad Length)
 
--- after `put `: the path is all before the last space
+-- what follows `put `: a path, the last space, and a length
 abbrev pub put_form : List ℕ → Head
 put_form rest = if list_any is_space rest then put_of (before_last is_space rest) (after_last is_space rest) else head.Bad Unknown
 
--- after `delete `
+-- what follows `delete `
 abbrev pub delete_form : List ℕ → Head
 delete_form path = if is_some (path_refusal path) then head.Bad Path else head.Delete path
 
--- after `time `: a moment before the year 10000
+-- what follows `time `: seconds, at most those of the last moment
 abbrev pub time_form : List ℕ → Head
 time_form seconds = option_map_or (λ n. head.Time (pos n)) (number_up_to 253402214399 seconds) (head.Bad Seconds)
 
--- the forms with more than one word
+-- a line of more than one word
 abbrev pub long_form : List ℕ → Head
 long_form line =
     if starts_with nat_eq line (codes "put ") then put_form (drop 4 line)
@@ -63,6 +63,7 @@ long_form line =
     else if starts_with nat_eq line (codes "time ") then time_form (drop 5 line)
     else head.Bad Unknown
 
+-- a line that is text
 abbrev pub form_of : List ℕ → Head
 form_of line =
     if bytes_eq line (codes "scan") then head.Scan
@@ -70,13 +71,14 @@ form_of line =
     else if bytes_eq line (codes "end") then head.End
     else long_form line
 
+-- the content of any line: at most 2,048 bytes, which are text
 abbrev pub head_of : List ℕ → Head
 head_of line =
     if nat_lt 2048 (length line) then head.Bad LongLine
     else if not (is_utf8 line) then head.Bad NotText
     else form_of line
 
--- the line that a head begins, and what is left of the bytes after the head
+-- the line that a head begins, and what is left of the bytes that follow the head
 abbrev pub whole_line : ℕ → Head → List ℕ → Line × List ℕ
 whole_line number head.Scan rest = (Scan, rest)
 whole_line number head.Build rest = (Build, rest)
@@ -97,6 +99,7 @@ Taken before text [] left = left ≡ text
 Taken before text (line ∷ lines) left = ((first_line (line_number before) text).0 ≡ line)
     × Taken (before + 1) (first_line (line_number before) text).1 lines left
 
+-- the bytes of the line break a rule
 abbrev pub is_bad : Line → Bool
 is_bad (Bad number kind) = true
 is_bad _ = false

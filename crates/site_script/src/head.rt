@@ -8,6 +8,7 @@ use crate::number::read_number;
 use site_base::{Memory, PathError, SitePath};
 use std::alloc::Global;
 
+// The most bytes of a line's content, the most bytes of a file, and the last moment.
 const MAX_LINE: usize = 2048;
 
 const MAX_FILE: u64 = 16_777_216;
@@ -26,6 +27,7 @@ pub enum Head {
     Bad(ScriptKind),
 }
 
+/// Reads what the content of a line says; it fails only for want of memory.
 pub(crate) fn read_head(alloc: Global, content: &[u8]) -> Result<Head, Memory>
     ensures { IfOk result (λ head. head ≡ head_of content.now) }
 {

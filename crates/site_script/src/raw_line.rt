@@ -7,7 +7,7 @@ ghost use Rattle.site_script.specs.Reading.{IsNext, IsRawLine};
 use site_base::{ByteSource, Failed, ReadError};
 use std::alloc::Global;
 
-// The bytes of the longest line, with a CR.
+// The most bytes of a line's content, and a CR.
 const MOST_BYTES: u32 = 2049;
 
 /// The bytes of a line without its LF, and whether it has one.
@@ -37,7 +37,7 @@ impl RawLine {
     }
 }
 
-// The line that comes next; None as soon as it is seen to be too long.
+/// The line that comes next; None as soon as it is seen to be too long. It reads to the line's LF, and no further.
 pub(crate) fn read_raw_line<I: ByteSource>(
     alloc: Global,
     input: &mut I,

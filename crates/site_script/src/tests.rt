@@ -3,7 +3,10 @@ ghost use Rattle.std.specs.Prelude.{None};
 
 use crate::{Line, ScriptReader, StdInput, next_line};
 use site_base::{ByteSource, Failed, MemoryInput};
-use std::alloc::{AllocError, Global};
+use std::alloc::{AllocError, Allocator, Global};
+use std::cell::Cell;
+use std::io;
+use std::io::{BufRead, ErrorKind, Read};
 use std::test::Fail;
 
 // An input that gives no more than so many bytes at first, and then the others.
@@ -277,4 +280,78 @@ fn leaves_what_follows_the_end(rt: HostRuntime) -> Result<(), Fail> {
 fn reads_standard_input(rt: HostRuntime) {
     let mut input = StdInput::new(rt);
     assert_eq!(rt; input.read(&mut [0; 4]), Ok(0));
+}
+
+// The pieces that the reads of an input give one after another, and None where one fails.
+const PIECES: [Option<&'static [u8]>; 6] = [
+    Some(b"sc"),
+    Some(b"an\nput a 4\nx"),
+    Some(b"yz"),
+    Some(b"\nbuil"),
+    None,
+    Some(b"d"),
+];
+
+// An input whose reads give pieces.
+#[derive(Drop)]
+struct PieceInput {
+    turn: Cell<usize>,
+}
+
+#[derive(Drop)]
+struct Piece {
+    bytes: Option<&'static [u8]>,
+}
+
+impl Read for Piece {
+    fn read(&mut self, into: &mut [u8]) -> io::Result<usize> {
+        let Some(bytes) = self.bytes else {
+            return Err(io::Error::from(ErrorKind::Other));
+        };
+        let count = into.len().min(bytes.len());
+        into[..count].copy_from_slice(&bytes[..count]);
+        Ok(count)
+    }
+}
+
+impl BufRead for Piece {
+    fn fill_buf(&mut self) -> io::Result<&[u8]> {
+        Ok(&[])
+    }
+
+    fn consume(&mut self, _amount: usize) {}
+}
+
+impl Input for PieceInput {
+    type Reader = Piece;
+
+    fn read_line<A: Allocator + Clone>(&self, _buf: &mut String<A>) -> io::Result<usize> {
+        Ok(0)
+    }
+
+    fn lines<A: Allocator>(&self, alloc: A) -> io::Lines<Piece, A> {
+        self.reader().lines(alloc)
+    }
+
+    fn reader(&self) -> Piece {
+        let turn = self.turn.get();
+        self.turn.set(turn.saturating_add(1));
+        Piece {
+            bytes: PIECES.get(turn).copied().unwrap_or(Some(&[])),
+        }
+    }
+}
+
+#[test]
+fn reads_pieces_of_standard_input(rt: HostRuntime) -> Result<(), Fail> {
+    let alloc = rt.alloc();
+    let mut input = StdInput::new(PieceInput { turn: Cell::new(0) });
+    assert_eq!(rt;
+        all_lines(alloc, &mut input)?.as_str(),
+        "scan, put a [120, 121, 122, 10], failed, eof",
+    );
+    let mut next = [0; 2];
+    assert_eq!(rt; input.read(&mut next), Ok(1));
+    assert_eq!(rt; next, [b'd', 0]);
+    Ok(())
 }
