@@ -7,7 +7,8 @@ ghost use Rattle.site_script.specs.Reading.{AddsFrom, IsBody};
 use site_base::{ByteSource, Failed, ReadError};
 use std::alloc::Global;
 
-const BLOCK: usize = 65_536;
+// As many bytes as one read of standard input gives; a larger block costs more to clear than it saves.
+const BLOCK: usize = 8192;
 
 /// So many bytes; None where the input ends before.
 pub(crate) fn read_body<I: ByteSource>(
