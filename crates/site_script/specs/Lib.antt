@@ -1,1 +1,5 @@
 pub mod Line
+pub mod Number
+pub mod Reader
+pub mod Reading
+pub mod Script

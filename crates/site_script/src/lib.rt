@@ -1,6 +1,17 @@
 //! The lines of a session's script.
 #![tactic(auto)]
 
+mod body;
+mod head;
 mod line;
+mod number;
+mod raw_line;
+mod reader;
+mod std_input;
 
 pub use line::{Line, ScriptKind};
+pub use reader::{ScriptReader, next_line};
+pub use std_input::StdInput;
+
+#[cfg(test)]
+mod tests;

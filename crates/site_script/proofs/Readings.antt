@@ -1,0 +1,168 @@
+-- Reading a line byte by byte, and a body block by block.
+use Rattle.std.proofs.Common.{zero, suc, ◌≡◌, ℕ, ◌+◌, ◌-◌, ◌≤◌, ◌<◌, Bool, true, false, cond, List, [], ◌∷◌, ◌++◌, length, take, drop, get_or, refl, sym, ◌∙◌, ap, subst, Option, Some, None, append_assoc, length-append, arith, zero-add}
+use Rattle.std.specs.Prelude.{◌==◌, ◌||◌, not, nat_lt, if◌then◌else◌}
+use Rattle.std.specs.List.{list_any, position_or_len}
+use Rattle.std.specs.Io.BufRead.{strip_last, ends_with_byte}
+use Rattle.std.proofs.Math.Seq.{take-append_seam, drop-append_seam, take-append-add, drop-append-add}
+use Rattle.std.proofs.lemmas.Bool.{lt-ltb, le-ltb, eqb-true}
+use Rattle.std.proofs.lemmas.List.{append-nil, take-append-drop, length-take-le}
+use Rattle.std.proofs.lemmas.List.Folds.{list_any-append}
+use Rattle.site_script.specs.Script.{is_lf, front_line, has_end, after_line, head_of, content, first_line, whole_line, IsFirst}
+use Rattle.site_script.specs.Reading.{IsNext, HasRead, AddsFrom, IsBody}
+use Rattle.site_script.specs.declared.line.Line.{Line}
+use Rattle.site_script.specs.declared.line.Line.TheVariants as line
+use Rattle.site_script.specs.declared.line.ScriptKind.TheVariants as kind
+use Rattle.site_script.specs.declared.head.Head.TheVariants as head
+
+empty_drop : (n : ℕ) → drop n (let none : List ℕ = [] in none) ≡ []
+empty_drop zero = refl
+empty_drop (suc n) = refl
+
+pub nothing_left : (n : ℕ) (text : List ℕ) → text ≡ [] → drop n text ≡ []
+nothing_left n [] is = empty_drop n
+nothing_left n (b ∷ text) is = absurd (cc (is))
+
+pub one_byte : (n : ℕ) (text into : List ℕ) (after : Option (List ℕ)) → n ≤ length into → (n ≡ 0 → ⊥) → length into ≡ 1 → take n into ≡ take n text → n ≤ length text → after ≡ Some (drop n text)
+    → (rest : List ℕ) × (text ≡ get_or into 0 0 ∷ rest) × (after ≡ Some rest)
+one_byte n [] into after bound some one front many left = absurd (some (omega arith))
+one_byte n (b ∷ rest) [] after bound some one front many left = absurd (omega arith)
+one_byte n (b ∷ rest) (x ∷ into) after bound some one front many left =
+    let is : n ≡ 1 = omega arith in
+    let first : take 1 (x ∷ into) ≡ take 1 (b ∷ rest) = subst (λ m. take m (x ∷ into) ≡ take m (b ∷ rest)) is front in
+    let same : x ≡ b = ap (λ l. get_or l 0 0) first in
+    (rest, ap (λ y. y ∷ rest) (sym same), left ∙ ap (λ m. Some (drop m (b ∷ rest))) is)
+
+or_false : (a b : Bool) → (a || b) ≡ false → (a ≡ false) × (b ≡ false)
+or_false true b is = absurd (cc (is))
+or_false false b is = (refl, is)
+
+-- the first LF stands after bytes that have none
+place_after : (bytes rest : List ℕ) → list_any is_lf bytes ≡ false → position_or_len is_lf (bytes ++ rest) ≡ length bytes + position_or_len is_lf rest
+place_after [] rest none = sym (zero-add (position_or_len is_lf rest))
+place_after (b ∷ bytes) rest none =
+    let parts = or_false (is_lf b) (list_any is_lf bytes) none in
+    let more : position_or_len is_lf (bytes ++ rest) ≡ length bytes + position_or_len is_lf rest = place_after bytes rest parts.1 in
+    let first : position_or_len is_lf (b ∷ bytes ++ rest) ≡ 1 + position_or_len is_lf (bytes ++ rest) = ap (λ c. cond (not c) (1 + position_or_len is_lf (bytes ++ rest)) 0) parts.0 in
+    omega (arith, more, first)
+
+front_after : (bytes rest : List ℕ) → list_any is_lf bytes ≡ false → front_line (bytes ++ rest) ≡ bytes ++ front_line rest
+front_after bytes rest none = ap (λ n. take n (bytes ++ rest)) (place_after bytes rest none) ∙ take-append-add bytes rest (position_or_len is_lf rest)
+
+ended_after : (bytes rest : List ℕ) → list_any is_lf bytes ≡ false → has_end (bytes ++ rest) ≡ has_end rest
+ended_after bytes rest none = list_any-append is_lf bytes rest ∙ ap (λ b. b || has_end rest) none
+
+left_after : (bytes rest : List ℕ) → list_any is_lf bytes ≡ false → after_line (bytes ++ rest) ≡ after_line rest
+left_after bytes rest none =
+    let place : position_or_len is_lf (bytes ++ rest) + 1 ≡ length bytes + (position_or_len is_lf rest + 1) = omega (arith, place_after bytes rest none) in
+    ap (λ n. drop n (bytes ++ rest)) place ∙ drop-append-add bytes rest (position_or_len is_lf rest + 1)
+
+pub filled_byte : (text bytes : List ℕ) (b : ℕ) (old new : Option (List ℕ)) (r : HasRead text bytes old) → IsNext r.rest (Some b) new → HasRead text (bytes ++ b ∷ []) new
+filled_byte text bytes b old new r next = record {
+  rest = next.0;
+  left = next.2;
+  whole = r.whole ∙ ap (λ t. bytes ++ t) next.1 ∙ sym (append_assoc bytes (b ∷ []) next.0);
+}
+
+pub no_lf_more : (bytes : List ℕ) (b : ℕ) → list_any is_lf bytes ≡ false → (b == 10) ≡ false → list_any is_lf (bytes ++ b ∷ []) ≡ false
+no_lf_more bytes b none other = list_any-append is_lf bytes (b ∷ []) ∙ rw (none, other) refl
+
+pub line_ends : (text bytes : List ℕ) (b : ℕ) (old new : Option (List ℕ)) (r : HasRead text bytes old) → list_any is_lf bytes ≡ false → b ≡ 10 → IsNext r.rest (Some b) new
+    → (bytes ≡ front_line text) × (true ≡ has_end text) × (new ≡ Some (after_line text))
+line_ends text bytes b old new r none end next =
+    let is : text ≡ bytes ++ (10 ∷ next.0) = r.whole ∙ ap (λ t. bytes ++ t) (next.1 ∙ ap (λ x. x ∷ next.0) end) in (
+      sym (ap front_line is ∙ front_after bytes (10 ∷ next.0) none ∙ append-nil bytes),
+      sym (ap has_end is ∙ ended_after bytes (10 ∷ next.0) none),
+      next.2 ∙ ap Some (sym (ap after_line is ∙ left_after bytes (10 ∷ next.0) none)),
+    )
+
+pub text_ends : (text bytes : List ℕ) (old new : Option (List ℕ)) (r : HasRead text bytes old) → list_any is_lf bytes ≡ false → IsNext r.rest None new
+    → (bytes ≡ front_line text) × (false ≡ has_end text) × (new ≡ Some (after_line text))
+text_ends text bytes old new r none next =
+    let is : text ≡ bytes ++ [] = r.whole ∙ ap (λ t. bytes ++ t) next.0 in (
+      sym (ap front_line is ∙ front_after bytes [] none ∙ append-nil bytes),
+      sym (ap has_end is ∙ ended_after bytes [] none),
+      next.1 ∙ ap Some (sym (ap after_line is ∙ left_after bytes [] none)),
+    )
+
+pub line_goes_on : (text bytes : List ℕ) (old : Option (List ℕ)) → HasRead text bytes old → list_any is_lf bytes ≡ false → length bytes ≤ length (front_line text)
+line_goes_on text bytes old r none = omega (arith, ap length (ap front_line r.whole ∙ front_after bytes r.rest none), length-append bytes (front_line r.rest))
+
+pub nothing_read : (bytes : List ℕ) (ended : Bool) → (if ended then false else (length bytes == 0)) ≡ true → (ended ≡ false) × (length bytes ≡ 0)
+nothing_read bytes true is = absurd (cc (is))
+nothing_read bytes false is = (refl, eqb-true (length bytes) 0 is)
+
+-- an empty line without an end is the end of the text
+pub no_line : (text bytes : List ℕ) → bytes ≡ front_line text → false ≡ has_end text → length bytes ≡ 0 → text ≡ []
+no_line [] bytes front end none = refl
+no_line (b ∷ text) bytes front end none =
+    let parts = or_false (is_lf b) (has_end text) (sym end) in
+    let first : position_or_len is_lf (b ∷ text) ≡ 1 + position_or_len is_lf text = ap (λ c. cond (not c) (1 + position_or_len is_lf text) 0) parts.0 in
+    let next : position_or_len is_lf (b ∷ text) ≡ suc (position_or_len is_lf text) = omega (arith, first) in
+    let front_is : front_line (b ∷ text) ≡ b ∷ front_line text = ap (λ n. take n (b ∷ text)) next in
+    absurd (omega (arith, ap length (front ∙ front_is)))
+
+-- a line that is not the end
+pub some_line : (number : ℕ) (text bytes : List ℕ) (ended : Bool) → bytes ≡ front_line text → ended ≡ has_end text → (if ended then false else (length bytes == 0)) ≡ false
+    → first_line number text ≡ whole_line number (head_of (if ended then strip_last 13 bytes else bytes)) (after_line text)
+some_line number [] bytes ended front end some = absurd (cc (sym some ∙ ap (λ e. if e then false else (length bytes == 0)) end ∙ ap (λ l. length l == 0) front))
+some_line number (b ∷ text) bytes ended front end some = λ i. whole_line number (head_of (if sym end i then strip_last 13 (sym front i) else sym front i)) (after_line (b ∷ text))
+
+cr_length : (l : List ℕ) → length l ≤ length (strip_last 13 l) + 1
+cr_length l = by (ends_with_byte 13 l)
+  where
+    by : (b : Bool) → length l ≤ length (if b then take (length l - 1) l else l) + 1
+    by true = omega (arith, length-take-le (length l - 1) l (omega arith))
+    by false = omega arith
+
+content_length : (text : List ℕ) → length (front_line text) ≤ length (content text) + 1
+content_length text = by (has_end text)
+  where
+    by : (b : Bool) → length (front_line text) ≤ length (if b then strip_last 13 (front_line text) else front_line text) + 1
+    by true = cr_length (front_line text)
+    by false = omega arith
+
+pub long_first : (number : ℕ) (text : List ℕ) (after : Option (List ℕ)) → 2049 < length (front_line text) → IsFirst (first_line number text) (line.Bad number kind.LongLine) after
+long_first number [] after long = absurd (omega arith)
+long_first number (b ∷ text) after long =
+    let more : 2048 < length (content (b ∷ text)) = omega (arith, content_length (b ∷ text)) in
+    let is : head_of (content (b ∷ text)) ≡ head.Bad kind.LongLine = rw (lt-ltb _ _ more) refl in
+    (ap (λ h. (whole_line number h (after_line (b ∷ text))).0) is, λ good. absurd (cc (good)))
+
+pub end_first : (number : ℕ) (text : List ℕ) (after : Option (List ℕ)) → text ≡ [] → after ≡ Some (after_line text) → IsFirst (first_line number text) line.Eof after
+end_first number text after none left =
+    let is : first_line number text ≡ (line.Eof, []) = ap (first_line number) none in
+    (ap (λ (p : Line × List ℕ). p.0) is, λ _. left ∙ ap (λ t. Some (after_line t)) none ∙ ap (λ (p : Line × List ℕ). Some p.1) (sym is))
+
+pub filled_more : (text old more : List ℕ) (count : ℕ) (before after : Option (List ℕ)) (r : HasRead text old before) → AddsFrom r.rest old more count after → HasRead text more after
+filled_more text old more count before after r adds = record {
+  rest = drop count r.rest;
+  left = adds.left;
+  whole = r.whole ∙ ap (λ t. old ++ t) (sym (take-append-drop count r.rest)) ∙ sym (append_assoc old (take count r.rest) (drop count r.rest)) ∙ ap (λ t. t ++ drop count r.rest) (sym adds.added);
+}
+
+pub body_whole : (count : ℕ) (text bytes : List ℕ) (after : Option (List ℕ)) → HasRead text bytes after → length bytes ≡ count → IsBody count text (Some bytes) after
+body_whole count text bytes after r long = (
+  sym (ap (λ t. take count t) r.whole ∙ ap (λ n. take n (bytes ++ r.rest)) (sym long) ∙ take-append_seam bytes r.rest),
+  (let all : length text ≡ length bytes + length r.rest = ap length r.whole ∙ length-append bytes r.rest in omega arith),
+  r.left ∙ ap Some (sym (ap (λ t. drop count t) r.whole ∙ ap (λ n. drop n (bytes ++ r.rest)) (sym long) ∙ drop-append_seam bytes r.rest)),
+)
+
+pub body_cut : (count : ℕ) (text old more : List ℕ) (before after : Option (List ℕ)) (r : HasRead text old before) → length old < count → AddsFrom r.rest old more 0 after → IsBody count text None after
+body_cut count text old more before after r short adds =
+    let none : r.rest ≡ [] = adds.none_at_end refl in (
+      (let all : length text ≡ length old = ap length (r.whole ∙ ap (λ t. old ++ t) none ∙ append-nil old) in omega arith),
+      adds.left ∙ ap Some none,
+    )
+
+-- a put with all its bytes, and one that the input's end cuts
+pub put_whole : (number count : ℕ) (path text bytes : List ℕ) (after : Option (List ℕ)) → IsBody count text (Some bytes) after → IsFirst (whole_line number (head.Put path count) text) (line.Put path bytes) after
+put_whole number count path text bytes after body =
+    let enough : nat_lt (length text) count ≡ false = le-ltb _ _ body.1 in
+    let is : whole_line number (head.Put path count) text ≡ (line.Put path (take count text), drop count text) = ap (λ b. if b then (line.Bad number kind.Cut, []) else (line.Put path (take count text), drop count text)) enough in
+    (ap (λ (p : Line × List ℕ). p.0) is ∙ ap (λ b. line.Put path b) (sym body.0), λ _. body.2 ∙ ap (λ (p : Line × List ℕ). Some p.1) (sym is))
+
+pub put_cut : (number count : ℕ) (path text : List ℕ) (after : Option (List ℕ)) → IsBody count text None after → IsFirst (whole_line number (head.Put path count) text) (line.Bad number kind.Cut) after
+put_cut number count path text after body =
+    let short : nat_lt (length text) count ≡ true = lt-ltb _ _ body.0 in
+    let is : whole_line number (head.Put path count) text ≡ (line.Bad number kind.Cut, []) = ap (λ b. if b then (line.Bad number kind.Cut, []) else (line.Put path (take count text), drop count text)) short in
+    (ap (λ (p : Line × List ℕ). p.0) is, λ good. absurd (cc (good)))
