@@ -1,0 +1,13 @@
+//! The top calls of sitebuild: all that the program does, from the words of its command line to its status.
+#![tactic(auto)]
+
+mod line;
+mod once;
+mod std_sink;
+mod status;
+mod usage;
+
+pub use once::run_once;
+pub use std_sink::StdSink;
+pub use status::Status;
+pub use usage::UsageKind;

@@ -1,0 +1,62 @@
+// One line of a session, with its reply.
+ghost use Rattle.std.specs.Prelude.{◌≡◌, ◌+◌, ◌-◌, ◌^◌, ◌≤◌, ◌++◌, [], min, ℕ, List, Some, Err, IfOk, IfErr, false};
+ghost use Rattle.site_base.specs.Places.{Files};
+ghost use Rattle.site_base.specs.Ends.{Rose};
+ghost use Rattle.site_session.specs.Standing.{Holds};
+ghost use Rattle.site_session.specs.Session.{Given, Answers, output_faults, source_faults};
+ghost use Rattle.site_session.specs.Replies.{LeavesBy, has_called_output};
+ghost use Rattle.site_session.specs.Bytes.{reply_bytes};
+ghost use Rattle.site_program.specs.Runs.{Stopped};
+
+use crate::status::Stop;
+use out_tree::OutTree;
+use site_base::{ByteSink, Memory};
+use site_script::Line;
+use site_session::{Reply, Session};
+use source_tree::SourceTree;
+use std::alloc::Global;
+
+// Does a line, and writes what is replied.
+pub(crate) fn do_line<S: SourceTree, O: OutTree, K: ByteSink>(
+    alloc: Global,
+    session: &mut Session,
+    number: u64,
+    line: Line,
+    source: &mut S,
+    out: &mut O,
+    sink: &mut K,
+) -> Result<Reply, Stop>
+    ensures answers { (given : Given) → S.files source.old ≡ Some given.source → Holds (O.contents out.old) session.old.belief given.output →
+        IfOk result (λ reply. Answers given session.old number line reply session.new) }
+    ensures bytes { (before : List ℕ) → K.taken sink.old ≡ Some before → IfOk result (λ reply. K.taken sink.new ≡ Some (before ++ reply_bytes reply)) }
+    ensures belief { (first : Files) → Holds (O.contents out.old) session.old.belief first → Holds (O.contents out.new) session.new.belief first }
+    ensures leaves { (first : Files) → Holds (O.contents out.old) session.old.belief first →
+        IfOk result (λ reply. LeavesBy session.old.files reply (O.contents out.old) (O.contents out.new) session.new.belief) }
+    ensures untouched { IfOk result (λ reply. has_called_output reply ≡ false → out.new ≡ out.old) }
+
+    // Where the run is cut short, the line was not done, or done without its whole reply.
+    ensures stopped { (given : Given) (before : List ℕ) → S.files source.old ≡ Some given.source →
+        Holds (O.contents out.old) session.old.belief given.output → K.taken sink.old ≡ Some before →
+        IfErr result (λ stop. (part : List ℕ) × Stopped given session.old number line (O.contents out.new) part
+            × (K.taken sink.new ≡ Some (before ++ part)) × (stop ≡ Stop.Memory → part ≡ [])) }
+
+    ensures source_same { S.files source.new ≡ S.files source.old }
+    ensures source_later { S.faults source.old ≤ S.faults source.new }
+    ensures source_cause { IfOk result (λ reply. min (S.faults source.old + source_faults reply) (2 ^ 64 - 1) ≤ S.faults source.new) }
+    ensures output_later { O.faults out.old ≤ O.faults out.new }
+    ensures output_cause { IfOk result (λ reply. min (O.faults out.old + output_faults reply) (2 ^ 64 - 1) ≤ O.faults out.new) }
+    ensures sink_later { K.faults sink.old ≤ K.faults sink.new }
+    ensures sink_cause { result ≡ Err Stop.Sink → Rose (K.faults sink.old) (K.faults sink.new) }
+{
+    let reply = match session.answer(alloc, number, line, source, out) {
+        Ok(reply) => reply,
+        Err(Memory) => return Err(Stop::Memory),
+    };
+    let Ok(text) = reply.text(alloc) else {
+        return Err(Stop::Memory);
+    };
+    match sink.write(text.as_bytes()) {
+        Ok(()) => Ok(reply),
+        Err(_) => Err(Stop::Sink),
+    }
+}

@@ -1,0 +1,24 @@
+use Rattle.std.proofs.Common.{◌≡◌, ◌∙◌, ap, sym, Some, None}
+use Rattle.site_session.proofs.Builds.{Listed, make_answers, mid_true, holds_again, same_told}
+use Rattle.site_session.proofs.build.make.Goals as goal
+
+listed : (g : Rattle.site_session.proofs.build.make.Given.Over) (c : goal.After-make_listed g) → Listed c.args.keeper.now c.list_once.new.self (g.O.OutTree.contents c.args.out.now)
+listed g c = record {
+  again = λ some. (c.list_once.ensures.again some).1;
+  marks = λ none files told. c.in-Ok.ensures.marked none files told;
+}
+
+pub returns-in-Ok-clause-answers : goal.returns-in-Ok-clause-answers
+returns-in-Ok-clause-answers g c = λ given now reply was h is.
+    make_answers given now c.args.tree.now c.args.rendered reply c.args.keeper.now _ _ _ (listed g c) h (c.make_listed.ensures.unlisted reply is) (c.make_listed.ensures.answers now reply is)
+
+pub returns-in-Ok-clause-belief : goal.returns-in-Ok-clause-belief
+returns-in-Ok-clause-belief g c = λ first h.
+    let mid = mid_true c.args.keeper.now _ _ first c.in-Ok.ensures.listed c.list_once.ensures.holds h in
+    holds_again _ _ first mid.0 c.make_listed.ensures.listed (c.make_listed.ensures.belief mid.0 (c.list_once.ensures.same ∙ mid.1) mid.2)
+
+pub returns-in-Ok-clause-made : goal.returns-in-Ok-clause-made
+returns-in-Ok-clause-made g c = λ first failed h is.
+    let mid = mid_true c.args.keeper.now _ _ first c.in-Ok.ensures.listed c.list_once.ensures.holds h in
+    let made = c.make_listed.ensures.made mid.0 failed (c.list_once.ensures.same ∙ mid.1) mid.2 is in
+    (same_told failed c.args.tree.now _ _ _ c.list_once.ensures.same made.0, made.1)

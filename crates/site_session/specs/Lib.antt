@@ -1,0 +1,5 @@
+pub mod Bytes
+pub mod Full
+pub mod Replies
+pub mod Session
+pub mod Standing

@@ -1,0 +1,151 @@
+-- A session: what each line of a script does, and its reply. It is a fold over the lines, and knows neither how the
+-- output is compared nor what is kept from one build to the next.
+use Rattle.std.specs.Prelude.{◌≡◌, ℕ, ℤ, ◌+◌, Bool, true, false, List, [], ◌∷◌, length, max, Option, Some, None, if◌then◌else◌}
+use Rattle.std.specs.FinMap.{entries, empty, insert, remove, contains_key, len}
+use Rattle.site_base.specs.Places.{Files}
+use Rattle.site_base.specs.declared.faults.SiteFault.{SiteFault}
+use Rattle.site_script.specs.Line.{line_number}
+use Rattle.site_script.specs.declared.line.Line.{Line}
+use Rattle.site_script.specs.declared.line.Line.TheVariants.{Scan, Put, Delete, Time, Build, End, Eof, Bad, Failed, Memory}
+use Rattle.site_script.specs.declared.line.ScriptKind.TheVariants as kind
+pub use Rattle.site_session.specs.declared.reply.Reply.{Reply}
+pub use Rattle.site_session.specs.declared.reply.Reply.TheVariants.{Scanned, ScanFault, Faulty, Fine, Absent, Built, Marked, Unlisted, BadLine, Silent}
+use Rattle.source_tree.specs.Put.{put_refusal}
+use Rattle.source_tree.specs.Scan.{scan_fault}
+use Rattle.source_tree.specs.declared.put_error.PutError.{PutError}
+use Rattle.source_tree.specs.declared.put_error.PutError.TheVariants as refusal
+use Rattle.out_tree.specs.Plan.{planned, removals, writes}
+use Rattle.out_tree.specs.Belief.{Belief, after, all_marked}
+use Rattle.site_session.specs.Standing.{Standing}
+use Rattle.site_session.specs.Full.{Full, Gives, Fails, full, kept}
+
+-- the session before its first line
+abbrev pub start : ℤ → Standing
+start moment = record { files = empty; moment = moment; belief = None }
+
+-- what is given: the files of the source, and those that the output has at first
+pub record Given : Type 0 where
+  pub source : Files
+  pub output : Files
+
+-- what failed at a line
+pub data Event : Type 0 where
+  Nothing : Event
+  TheScan : Event
+  TheList : Event
+  TheSteps : List (List ℕ) → Event
+
+-- a reply shows what failed
+abbrev pub event_of : Reply → Event
+event_of ScanFault = TheScan
+event_of Unlisted = TheList
+event_of (Marked paths) = TheSteps paths
+event_of (Scanned count) = Nothing
+event_of (Faulty fault) = Nothing
+event_of Fine = Nothing
+event_of Absent = Nothing
+event_of (Built report) = Nothing
+event_of (BadLine number bad) = Nothing
+event_of Silent = Nothing
+
+-- a scan that does not fail holds the source's files in place of all others, or tells their first fault
+abbrev pub scan : Given → Standing → Option SiteFault → Event → Standing × Reply
+scan given now None Nothing = (record now { files = given.source }, Scanned (len given.source))
+scan given now (Some fault) Nothing = (now, Faulty fault)
+scan given now fault TheScan = (now, ScanFault)
+scan given now fault TheList = (now, Silent)
+scan given now fault (TheSteps paths) = (now, Silent)
+
+-- a file that may not be held makes its line bad
+abbrev pub refused : PutError → ℕ → Reply
+refused refusal.Clash number = BadLine number kind.Clash
+refused refusal.FileTooLong number = BadLine number kind.Limit
+refused refusal.TooManyFiles number = BadLine number kind.Limit
+refused refusal.SiteTooLong number = BadLine number kind.Limit
+refused refusal.Memory number = Silent
+
+abbrev pub put : Standing → ℕ → List ℕ → List ℕ → Option PutError → Standing × Reply
+put now number path bytes None = (record now { files = insert now.files path bytes }, Fine)
+put now number path bytes (Some error) = (now, refused error number)
+
+-- the paths at which a step of a build failed
+abbrev pub failed_of : Event → List (List ℕ)
+failed_of (TheSteps paths) = paths
+failed_of Nothing = []
+failed_of TheScan = []
+failed_of TheList = []
+
+abbrev pub build_reply : Belief → Files → ℕ → List (List ℕ) → Reply
+build_reply belief tree pages [] =
+    Built (record { rendered = pages; reused = 0; written = length (writes belief tree); removed = length (removals belief tree kept) })
+build_reply belief tree pages (path ∷ paths) = Marked (path ∷ paths)
+
+-- an output that has been listed is made equal to the tree, but for what failed
+abbrev pub build_listed : Standing → Files → ℕ → Belief → List (List ℕ) → Standing × Reply
+build_listed now tree pages belief failed =
+    (record now { belief = Some (after belief (planned belief tree kept) failed) }, build_reply belief tree pages failed)
+
+-- the first build whose list of the output succeeds marks every path that is there
+abbrev pub build_tree : Given → Standing → Files → ℕ → Option Belief → Event → Standing × Reply
+build_tree given now tree pages (Some belief) event = build_listed now tree pages belief (failed_of event)
+build_tree given now tree pages None TheList = (now, Unlisted)
+build_tree given now tree pages None Nothing = build_listed now tree pages (all_marked given.output) []
+build_tree given now tree pages None TheScan = build_listed now tree pages (all_marked given.output) []
+build_tree given now tree pages None (TheSteps paths) = build_listed now tree pages (all_marked given.output) paths
+
+-- a build tells the first fault of the files that are held, or makes the output equal to what they stand for
+abbrev pub build : Given → Standing → Full → Event → Standing × Reply
+build given now (Fails fault) event = (now, Faulty fault)
+build given now (Gives tree pages) event = build_tree given now tree pages now.belief event
+
+-- what follows a line that has this number, and its reply
+abbrev pub step : Given → Standing → ℕ → Line → Event → Standing × Reply
+step given now number Scan event = scan given now (scan_fault (entries given.source)) event
+step given now number (Put path bytes) event = put now number path bytes (put_refusal now.files path bytes)
+step given now number (Delete path) event =
+    (record now { files = remove now.files path }, if contains_key now.files path then Fine else Absent)
+step given now number (Time seconds) event = (record now { moment = seconds }, Fine)
+step given now number Build event = build given now (full now.files) event
+step given now number (Bad at bad) event = (now, BadLine at bad)
+step given now number End event = (now, Silent)
+step given now number Eof event = (now, Silent)
+step given now number Failed event = (now, Silent)
+step given now number Memory event = (now, Silent)
+
+-- at this line the session may give this reply and go on to the new standing
+abbrev pub Answers : Given → Standing → ℕ → Line → Reply → Standing → Type 0
+Answers given old number line reply new = step given old number line (event_of reply) ≡ (new, reply)
+
+-- after so many lines, the session gives these replies to these lines, one each
+abbrev pub Run : Given → Standing → ℕ → List Line → List Reply → Standing → Type 0
+Run given old before [] [] new = new ≡ old
+Run given old before (line ∷ lines) (reply ∷ replies) new =
+    (mid : Standing) × Answers given old (line_number before) line reply mid × Run given mid (before + 1) lines replies new
+Run given old before [] (reply ∷ replies) new = ⊥
+Run given old before (line ∷ lines) [] new = ⊥
+
+-- by how much the output's count of faults rises at least
+abbrev pub output_faults : Reply → ℕ
+output_faults (Marked paths) = max (length paths) 1
+output_faults Unlisted = 1
+output_faults (Scanned count) = 0
+output_faults ScanFault = 0
+output_faults (Faulty fault) = 0
+output_faults Fine = 0
+output_faults Absent = 0
+output_faults (Built report) = 0
+output_faults (BadLine number bad) = 0
+output_faults Silent = 0
+
+-- by how much the source's count of faults rises at least
+abbrev pub source_faults : Reply → ℕ
+source_faults ScanFault = 1
+source_faults (Marked paths) = 0
+source_faults Unlisted = 0
+source_faults (Scanned count) = 0
+source_faults (Faulty fault) = 0
+source_faults Fine = 0
+source_faults Absent = 0
+source_faults (Built report) = 0
+source_faults (BadLine number bad) = 0
+source_faults Silent = 0

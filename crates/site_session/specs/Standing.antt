@@ -1,0 +1,46 @@
+-- Where a session stands.
+use Rattle.std.specs.Prelude.{◌≡◌, ◌↔◌, ℕ, ℤ, true, false, List, Option, Some, None, refl}
+use Rattle.std.specs.Coded.{Coded, code_by, coded×, coded_ℕ, coded_ℤ, coded_list}
+use Rattle.std.specs.FinMap as map
+use Rattle.std.specs.FinMap.{get}
+use Rattle.site_base.specs.Places.{Files, is_listed}
+use Rattle.out_tree.specs.Belief.{Belief, believed, IsTrueOf}
+use Rattle.out_tree.specs.BeliefCode.{belief_code}
+use Rattle.out_tree.specs.Exact.{IsExactlyBut}
+use Rattle.out_tree.specs.Keep.{is_kept}
+use Rattle.out_tree.specs.declared.state.State.TheVariants.{Marked}
+use Rattle.site_session.specs.Full.{kept}
+
+-- the files that are held, the moment, and what is believed of the output: nothing until it has been listed
+pub record Standing : Type 0 where
+  pub files : Files
+  pub moment : ℤ
+  pub belief : Option Belief
+
+abbrev pub standing_code : Coded Standing
+standing_code =
+    code_by (Files × (ℤ × Option Belief)) (coded× (map.code (coded_list coded_ℕ) (coded_list coded_ℕ)) (coded× coded_ℤ belief_code))
+    (λ s. (s.files, (s.moment, s.belief))) (λ p. record { files = p.0; moment = p.1.0; belief = p.1.1 }) (λ _. refl)
+
+-- an output that has not been listed is as it was at first
+abbrev pub TrueTo : Option Belief → Files → Files → Type 0
+TrueTo None first files = files ≡ first
+TrueTo (Some belief) first files = IsTrueOf belief files
+
+-- the output tells its contents, and what is believed is true of them
+pub record Holds (told : Option Files) (belief : Option Belief) (first : Files) : Type 0 where
+  pub there : Files
+  pub told_is : told ≡ Some there
+  pub is_true : TrueTo belief first there
+
+-- but for these paths, the output was made exactly this tree, kept paths aside
+pub record MakesBut (failed : List (List ℕ)) (tree : Files) (told tells : Option Files) : Type 0 where
+  pub old : Files
+  pub new : Files
+  pub told_is : told ≡ Some old
+  pub tells_is : tells ≡ Some new
+  pub exactly : IsExactlyBut failed tree kept old new
+
+-- kept paths aside, these and no others are marked
+abbrev pub MarksExactly : List (List ℕ) → Option Belief → Type 0
+MarksExactly failed belief = (path : List ℕ) → is_kept kept path ≡ false → (get (believed belief) path ≡ Some Marked) ↔ (is_listed path failed ≡ true)

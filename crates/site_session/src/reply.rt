@@ -1,0 +1,97 @@
+// What a session replies to a line.
+ghost use Rattle.std.specs.Prelude.{◌≡◌, ◌++◌, ◌∷◌, [], IfOk, OnOk, codes, length, flat_map};
+ghost use Rattle.std.specs.Fmt.{decimal};
+ghost use Rattle.std.specs.String.{string_bytes};
+ghost use Rattle.site_script.specs.Line.{script_number};
+ghost use Rattle.site_session.specs.Bytes.{fault_line, built_line, marked_line};
+
+use crate::Report;
+use site_base::{PathList, SiteFault};
+use site_script::ScriptKind;
+use std::alloc::{AllocError, Global};
+
+/// What a session replies to a line.
+#[derive(Drop)]
+pub enum Reply {
+    /// The source was scanned, and has so many files.
+    Scanned(u32),
+    /// The source failed.
+    ScanFault,
+    /// The site has this first fault.
+    Faulty(SiteFault),
+    /// The line was done.
+    Fine,
+    /// No file of that path was held.
+    Absent,
+    Built(Report),
+    /// The writes and removals of these paths failed.
+    Marked(PathList),
+    /// The output gave no list of its files.
+    Unlisted,
+    /// The line of this number is bad, and the session ends.
+    BadLine(u64, ScriptKind),
+    /// A line that has no reply.
+    Silent,
+}
+
+impl Reply {
+    ghost use Rattle.site_session.specs.Bytes.{reply_bytes};
+
+    /// The bytes of the reply, each line with its end.
+    pub fn text(&self, alloc: Global) -> Result<String, AllocError>
+        ensures { IfOk result (λ text. string_bytes text ≡ reply_bytes self.now) }
+    {
+        match self {
+            Reply::Scanned(count) => format!(in alloc; "scanned {count}\n"),
+            Reply::ScanFault => String::from_str(alloc, "scan-fault\n"),
+            Reply::Faulty(fault) => fault_text(alloc, fault),
+            Reply::Fine => String::from_str(alloc, "ok\n"),
+            Reply::Absent => String::from_str(alloc, "absent\n"),
+            Reply::Built(report) => built_text(alloc, report),
+            Reply::Marked(paths) => marked_text(alloc, paths),
+            Reply::Unlisted => String::from_str(alloc, "out-fault 0\n"),
+            Reply::BadLine(number, kind) => bad_line_text(alloc, *number, *kind),
+            Reply::Silent => Ok(String::new(alloc)),
+        }
+    }
+}
+
+fn fault_text(alloc: Global, fault: &SiteFault) -> Result<String, AllocError>
+    ensures { IfOk result (λ text. string_bytes text ≡ fault_line fault.now) }
+{
+    let kind = fault.kind.number();
+    let line = fault.line;
+    let path = fault.path.text();
+    format!(in alloc; "fault F{kind} {line} {path}\n")
+}
+
+fn built_text(alloc: Global, report: &Report) -> Result<String, AllocError>
+    ensures { IfOk result (λ text. string_bytes text ≡ built_line report.now) }
+{
+    let rendered = report.rendered;
+    let reused = report.reused;
+    let written = report.written;
+    let removed = report.removed;
+    format!(in alloc; "built rendered={rendered} reused={reused} written={written} removed={removed}\n")
+}
+
+fn marked_text(alloc: Global, paths: &PathList) -> Result<String, AllocError>
+    ensures { IfOk result (λ text. string_bytes text ≡ codes "out-fault " ++ (decimal (length paths.now) ++ (codes "\n" ++ flat_map marked_line paths.now))) }
+{
+    let paths = paths.as_slice();
+    let count = paths.len();
+    let mut text = format!(in alloc; "out-fault {count}\n")?;
+    for path in paths {
+        text.push_str("marked ")?;
+        text.push_str(path.text())?;
+        text.push('\n')?;
+    }
+    Ok(text)
+}
+
+fn bad_line_text(alloc: Global, number: u64, kind: ScriptKind) -> Result<String, AllocError>
+    ensures { IfOk result (λ text. string_bytes text ≡ codes "script " ++ (decimal number ++ (codes " " ++ (decimal (script_number kind) ++ codes "\n")))) }
+{
+    let kind = kind.number();
+    format!(in alloc; "script {number} {kind}\n")
+}

@@ -1,0 +1,240 @@
+// A session.
+ghost use Rattle.std.specs.Prelude.{◌≡◌, ◌⊎◌, ◌+◌, ◌-◌, ◌^◌, ◌≤◌, min, ℕ, Option, Some, None, Ok, Err, OnOk, OnErr, IfOk, MatchResult, List, length, if◌then◌else◌, codes, true, false, ◌++◌, [], ◌∷◌};
+ghost use Rattle.std.specs.FinMap as map;
+ghost use Rattle.site_base.specs.Places.{Files};
+ghost use Rattle.site_base.specs.Ends.{HasCauseOf, Rose};
+ghost use Rattle.source_tree.specs.Put.{put_refusal};
+ghost use Rattle.site_base.specs.declared.faults.SiteFault.{SiteFault};
+ghost use Rattle.site_session.specs.Full.{full, Fails};
+ghost use Rattle.site_session.specs.Standing.{Holds};
+ghost use Rattle.site_session.specs.Session.{Given, Reply, Fine, Absent, Answers, start, output_faults, source_faults};
+ghost use Rattle.site_session.specs.Replies.{scan_reply, built_reply, FailedAt, Leaves, LeavesBy, IsQuiet, has_called_output};
+ghost use Rattle.site_script.specs.declared.line.Line.TheVariants as line;
+
+use crate::build::{Rebuilt, make};
+use crate::reply::Reply;
+use crate::tree::{first_fault, render_all};
+use out_tree::{OutKeeper, OutTree};
+use site_base::{FileBytes, Memory, Settings, SitePath};
+use site_script::{Line, ScriptKind};
+use source_tree::{Held, PutError, ScanError, SourceTree};
+use std::alloc::Global;
+use std::marker::Model;
+
+/// The files that are held, the moment, and what is believed of the output.
+#[derive(Drop)]
+pub struct Session {
+    held: Held,
+    settings: Settings,
+    moment: i64,
+    keeper: OutKeeper,
+}
+
+impl Model for Session {
+    ghost use Rattle.site_session.specs.Standing.{Standing, standing_code};
+
+    ghost Value = { Standing };
+
+    ghost coded = { standing_code };
+
+    ghost view = { λ s. record { files = s.held; moment = s.moment; belief = s.keeper } };
+}
+
+impl Session {
+    /// A session that holds no files, over an output that has not been listed. It takes no memory.
+    pub fn open(alloc: Global, settings: Settings, moment: i64) -> Session
+        ensures { result ≡ start moment }
+    {
+        Session {
+            held: Held::new(alloc),
+            settings,
+            moment,
+            keeper: OutKeeper::open(),
+        }
+    }
+
+    /// Adds or replaces a file.
+    pub fn put(&mut self, path: SitePath, bytes: Vec<u8>) -> Result<(), PutError>
+        ensures cases { MatchResult result
+            (λ _. (self.new ≡ record self.old { files = map.insert self.old.files path bytes.items }) × (put_refusal self.old.files path bytes.items ≡ None))
+            (λ error. (self.new ≡ self.old) × ((error ≡ PutError.Memory) ⊎ (put_refusal self.old.files path bytes.items ≡ Some error))) }
+    {
+        self.held.put(path, bytes)
+    }
+
+    /// Deletes a file, and says whether it was held. It takes no memory.
+    pub fn delete(&mut self, path: &SitePath) -> bool
+        ensures files { self.new ≡ record self.old { files = map.remove self.old.files path.now } }
+        ensures was { result ≡ map.contains_key self.old.files path.now }
+    {
+        self.held.delete(path)
+    }
+
+    /// Sets the moment, in seconds from 1970 in UTC. It takes no memory.
+    pub fn set_moment(&mut self, moment: i64)
+        ensures { self.new ≡ record self.old { moment = moment } }
+    {
+        self.moment = moment;
+    }
+
+    /// Reads the whole source, holds its files in place of all that was held, and answers their number.
+    pub fn scan<S: SourceTree>(&mut self, alloc: Global, source: &mut S) -> Result<u32, ScanError>
+        ensures answers { (given : Given) (number : ℕ) (reply : Reply) → S.files source.old ≡ Some given.source →
+            scan_reply result ≡ Some reply → Answers given self.old number line.Scan reply self.new }
+        ensures kept { (self.new.moment ≡ self.old.moment) × (self.new.belief ≡ self.old.belief) }
+        ensures err { OnErr result (self.new ≡ self.old) }
+        ensures same { S.files source.new ≡ S.files source.old }
+        ensures cause { HasCauseOf ScanError.Failed (S.faults source.old) (S.faults source.new) result }
+    {
+        self.held.scan(alloc, source)
+    }
+
+    /// Makes the output equal to what the held files stand for, one file after another.
+    pub fn rebuild_serial<O: OutTree>(
+        &mut self,
+        alloc: Global,
+        out: &mut O,
+    ) -> Result<Rebuilt, Memory>
+        ensures answers { (given : Given) (number : ℕ) (reply : Reply) → Holds (O.contents out.old) self.old.belief given.output →
+            built_reply result ≡ Some reply → Answers given self.old number line.Build reply self.new }
+        // What is believed stays true,
+        ensures belief { (first : Files) → Holds (O.contents out.old) self.old.belief first → Holds (O.contents out.new) self.new.belief first }
+        // and the output is exactly what the held files stand for, but for the paths that failed, and these are marked.
+        ensures leaves { (first : Files) (failed : List (List ℕ)) → Holds (O.contents out.old) self.old.belief first → FailedAt result failed →
+            Leaves self.old.files failed (O.contents out.old) (O.contents out.new) self.new.belief }
+        ensures unlisted { result ≡ Ok Rebuilt.Unlisted → O.contents out.new ≡ O.contents out.old }
+        ensures fault { (fault : SiteFault) → result ≡ Ok (Rebuilt.Fault fault) → (full self.old.files ≡ Fails fault) × (self.new ≡ self.old) × (out.new ≡ out.old) }
+        ensures later { O.faults out.old ≤ O.faults out.new }
+        ensures cause { (reply : Reply) → built_reply result ≡ Some reply → min (O.faults out.old + output_faults reply) (2 ^ 64 - 1) ≤ O.faults out.new }
+        ensures same { (self.new.files ≡ self.old.files) × (self.new.moment ≡ self.old.moment) }
+        ensures err { OnErr result (O.contents out.new ≡ O.contents out.old) }
+    {
+        let fault = match first_fault(alloc, &self.held) {
+            Ok(fault) => fault,
+            Err(Memory) => return Err(Memory),
+        };
+        match fault {
+            Some(fault) => Ok(Rebuilt::Fault(fault)),
+            None => match render_all(alloc, &self.held) {
+                Ok(outputs) => make(
+                    &mut self.keeper,
+                    alloc,
+                    &outputs.tree,
+                    outputs.rendered,
+                    out,
+                ),
+                Err(Memory) => Err(Memory),
+            },
+        }
+    }
+
+    /// Does a line of a script, and says what is replied.
+    pub fn answer<S: SourceTree, O: OutTree>(
+        &mut self,
+        alloc: Global,
+        number: u64,
+        line: Line,
+        source: &mut S,
+        out: &mut O,
+    ) -> Result<Reply, Memory>
+        ensures answers { (given : Given) → S.files source.old ≡ Some given.source → Holds (O.contents out.old) self.old.belief given.output →
+            IfOk result (λ reply. Answers given self.old number line reply self.new) }
+        ensures belief { (first : Files) → Holds (O.contents out.old) self.old.belief first → Holds (O.contents out.new) self.new.belief first }
+        ensures err { OnErr result (O.contents out.new ≡ O.contents out.old) }
+        ensures leaves { (first : Files) → Holds (O.contents out.old) self.old.belief first →
+            IfOk result (λ reply. LeavesBy self.old.files reply (O.contents out.old) (O.contents out.new) self.new.belief) }
+        // Where no build was tried, the output is the same value as before.
+        ensures untouched { IfOk result (λ reply. has_called_output reply ≡ false → out.new ≡ out.old) }
+        ensures source_same { S.files source.new ≡ S.files source.old }
+        ensures source_later { S.faults source.old ≤ S.faults source.new }
+        ensures source_cause { IfOk result (λ reply. min (S.faults source.old + source_faults reply) (2 ^ 64 - 1) ≤ S.faults source.new) }
+        ensures output_later { O.faults out.old ≤ O.faults out.new }
+        ensures output_cause { IfOk result (λ reply. min (O.faults out.old + output_faults reply) (2 ^ 64 - 1) ≤ O.faults out.new) }
+    {
+        match line {
+            Line::Scan => self.scan_line(alloc, number, source),
+            Line::Put(path, bytes) => self.put_line(number, path, bytes),
+            Line::Delete(path) => Ok(self.delete_line(number, &path)),
+            Line::Time(moment) => {
+                self.set_moment(moment);
+                Ok(Reply::Fine)
+            }
+            Line::Build => self.build_line(alloc, number, out),
+            Line::Bad(at, kind) => Ok(Reply::BadLine(at, kind)),
+            Line::End | Line::Eof | Line::Failed | Line::Memory => Ok(Reply::Silent),
+        }
+    }
+
+    fn scan_line<S: SourceTree>(
+        &mut self,
+        alloc: Global,
+        number: u64,
+        source: &mut S,
+    ) -> Result<Reply, Memory>
+        ensures answers { (given : Given) → S.files source.old ≡ Some given.source →
+            IfOk result (λ reply. Answers given self.old number line.Scan reply self.new) }
+        ensures belief { self.new.belief ≡ self.old.belief }
+        ensures same { S.files source.new ≡ S.files source.old }
+        ensures later { S.faults source.old ≤ S.faults source.new }
+        ensures cause { IfOk result (λ reply. min (S.faults source.old + source_faults reply) (2 ^ 64 - 1) ≤ S.faults source.new) }
+        ensures quiet { IfOk result (λ reply. IsQuiet reply) }
+    {
+        match self.scan(alloc, source) {
+            Ok(count) => Ok(Reply::Scanned(count)),
+            Err(ScanError::Failed) => Ok(Reply::ScanFault),
+            Err(ScanError::Limit(fault)) => Ok(Reply::Faulty(fault)),
+            Err(ScanError::Memory) => Err(Memory),
+        }
+    }
+
+    fn put_line(&mut self, number: u64, path: SitePath, bytes: FileBytes) -> Result<Reply, Memory>
+        ensures answers { (given : Given) → IfOk result (λ reply. Answers given self.old number (line.Put path bytes) reply self.new) }
+        ensures belief { self.new.belief ≡ self.old.belief }
+        ensures quiet { IfOk result (λ reply. IsQuiet reply × (source_faults reply ≡ 0)) }
+    {
+        match self.put(path, bytes.into_vec()) {
+            Ok(()) => Ok(Reply::Fine),
+            Err(PutError::Memory) => Err(Memory),
+            Err(PutError::Clash) => Ok(Reply::BadLine(number, ScriptKind::Clash)),
+            Err(_) => Ok(Reply::BadLine(number, ScriptKind::Limit)),
+        }
+    }
+
+    fn delete_line(&mut self, number: u64, path: &SitePath) -> Reply
+        ensures answers { (given : Given) → Answers given self.old number (line.Delete path.now) result self.new }
+        ensures belief { self.new.belief ≡ self.old.belief }
+        ensures quiet { IsQuiet result × (source_faults result ≡ 0) }
+    {
+        if self.delete(path) {
+            Reply::Fine
+        } else {
+            Reply::Absent
+        }
+    }
+
+    fn build_line<O: OutTree>(
+        &mut self,
+        alloc: Global,
+        number: u64,
+        out: &mut O,
+    ) -> Result<Reply, Memory>
+        ensures answers { (given : Given) → Holds (O.contents out.old) self.old.belief given.output →
+            IfOk result (λ reply. Answers given self.old number line.Build reply self.new) }
+        ensures belief { (first : Files) → Holds (O.contents out.old) self.old.belief first → Holds (O.contents out.new) self.new.belief first }
+        ensures leaves { (first : Files) → Holds (O.contents out.old) self.old.belief first →
+            IfOk result (λ reply. LeavesBy self.old.files reply (O.contents out.old) (O.contents out.new) self.new.belief) }
+        ensures untouched { IfOk result (λ reply. has_called_output reply ≡ false → out.new ≡ out.old) }
+        ensures err { OnErr result (O.contents out.new ≡ O.contents out.old) }
+        ensures later { O.faults out.old ≤ O.faults out.new }
+        ensures cause { IfOk result (λ reply. min (O.faults out.old + output_faults reply) (2 ^ 64 - 1) ≤ O.faults out.new) }
+        ensures quiet { IfOk result (λ reply. source_faults reply ≡ 0) }
+    {
+        match self.rebuild_serial(alloc, out) {
+            Ok(Rebuilt::Built(report)) => Ok(Reply::Built(report)),
+            Ok(Rebuilt::Fault(fault)) => Ok(Reply::Faulty(fault)),
+            Ok(Rebuilt::Marked(paths)) => Ok(Reply::Marked(paths)),
+            Ok(Rebuilt::Unlisted) => Ok(Reply::Unlisted),
+            Err(Memory) => Err(Memory),
+        }
+    }
+}

@@ -1,0 +1,61 @@
+// The program: builds the site of the current folder into `_site`.
+#![tactic(auto)]
+
+use out_tree::DiskOut;
+use site_base::Words;
+use site_program::{StdSink, run_once};
+use source_tree::DiskSource;
+use std::env;
+use std::process::ExitCode;
+use std::time::SystemTime;
+
+// What stands for a clock that cannot be read, or stands before 1970: no moment of a build.
+const NO_MOMENT: i64 = -1;
+
+// The status numbers of a run that does not come to its top call.
+const USAGE: u8 = 2;
+const MEMORY: u8 = 8;
+
+fn main(rt: HostRuntime) -> ExitCode {
+    let words = match words(&rt) {
+        Ok(words) => words,
+        Err(status) => return ExitCode::from(status),
+    };
+    let mut source = DiskSource::new(rt);
+    let mut out = DiskOut::new(rt);
+    let mut sink = StdSink::new(rt);
+    let status = run_once(
+        rt.alloc(),
+        &words,
+        moment(&rt),
+        &mut source,
+        &mut out,
+        &mut sink,
+    );
+    ExitCode::from(status.number())
+}
+
+// The words of the command line, without the program's name; or the status of a run that has none.
+fn words(rt: &HostRuntime) -> Result<Words, u8> {
+    let Ok(arguments) = env::args(rt) else {
+        return Err(USAGE);
+    };
+    let mut words = Words::new(rt.alloc());
+    for word in arguments.skip(1) {
+        if words.push(rt.alloc(), word.as_str()).is_err() {
+            return Err(MEMORY);
+        }
+    }
+    Ok(words)
+}
+
+// The moment of the clock, in seconds from 1970.
+fn moment(rt: &HostRuntime) -> i64 {
+    let Ok(now) = SystemTime::now(rt) else {
+        return NO_MOMENT;
+    };
+    match now.duration_since(SystemTime::UNIX_EPOCH) {
+        Ok(since) => i64::try_from(since.as_secs()).unwrap_or(NO_MOMENT),
+        Err(_) => NO_MOMENT,
+    }
+}
