@@ -1,0 +1,9 @@
+//! Scenarios that cross the crates: whole runs over ends in memory, and over real folders.
+#![tactic(auto)]
+
+#[cfg(test)]
+mod once;
+#[cfg(test)]
+mod real;
+#[cfg(test)]
+mod run;

@@ -1,0 +1,179 @@
+// Worked runs of `once`.
+use crate::run::{Given, MOMENT};
+use site_program::{Status, UsageKind};
+use std::test::Fail;
+
+const PAGE: &str = "---\ntitle: Hi\n---\n<h1>{{ page.title }}</h1>\n";
+
+// What is given, and what comes of it: the status number, the replies, and the output's files.
+type Row<'a> = (Given<'a>, u8, &'a str, &'a [(&'a str, &'a str)]);
+
+#[test]
+fn builds_and_refuses(rt: HostRuntime) -> Result<(), Fail> {
+    let alloc = rt.alloc();
+    let rows: [Row<'_>; 12] = [
+        (
+            Given::once(&[("index.html", PAGE)]),
+            0,
+            "scanned 1\nbuilt rendered=1 reused=0 written=1 removed=0\n",
+            &[("index.html", "<h1>Hi</h1>\n")],
+        ),
+        (
+            Given::once(&[("index.html", PAGE), ("a.txt", "x")]),
+            0,
+            "scanned 2\nbuilt rendered=1 reused=0 written=2 removed=0\n",
+            &[("a.txt", "x"), ("index.html", "<h1>Hi</h1>\n")],
+        ),
+        // A form that is not built yet: the output is untouched.
+        (
+            Given {
+                outputs: &[("old.html", "old")],
+                ..Given::once(&[("a.md", "---\n---\nx")])
+            },
+            1,
+            "scanned 1\nfault F0 0 a.md\n",
+            &[("old.html", "old")],
+        ),
+        // What is kept stays, what the site lacks goes.
+        (
+            Given {
+                outputs: &[(".git/HEAD", "ref"), ("old.html", "old")],
+                ..Given::once(&[])
+            },
+            0,
+            "scanned 0\nbuilt rendered=0 reused=0 written=0 removed=1\n",
+            &[(".git/HEAD", "ref")],
+        ),
+        // The source gives no list.
+        (
+            Given {
+                outputs: &[("old.html", "old")],
+                source_fails: &[1],
+                ..Given::once(&[("a.txt", "x")])
+            },
+            3,
+            "scan-fault\n",
+            &[("old.html", "old")],
+        ),
+        // The source gives no bytes of its second file.
+        (
+            Given {
+                source_fails: &[3],
+                ..Given::once(&[("a.txt", "x"), ("b.txt", "y")])
+            },
+            3,
+            "scan-fault\n",
+            &[],
+        ),
+        // The output gives no list.
+        (
+            Given {
+                outputs: &[("old.html", "old")],
+                output_fails: &[1],
+                ..Given::once(&[("a.txt", "x")])
+            },
+            4,
+            "scanned 1\nout-fault 0\n",
+            &[("old.html", "old")],
+        ),
+        // A write fails: the path is named, and the other file is right.
+        (
+            Given {
+                output_fails: &[2],
+                ..Given::once(&[("p.html", "p"), ("q.html", "q")])
+            },
+            4,
+            "scanned 2\nout-fault 1\nmarked p.html\n",
+            &[("q.html", "q")],
+        ),
+        // A removal fails: all else is done all the same.
+        (
+            Given {
+                outputs: &[("n.html", "n"), ("o.html", "o")],
+                output_fails: &[2],
+                ..Given::once(&[("p.html", "p")])
+            },
+            4,
+            "scanned 1\nout-fault 1\nmarked n.html\n",
+            &[("n.html", "n"), ("p.html", "p")],
+        ),
+        // A file where a folder has to be is removed first.
+        (
+            Given {
+                outputs: &[("a", "x")],
+                ..Given::once(&[("a/index.html", "y")])
+            },
+            0,
+            "scanned 1\nbuilt rendered=0 reused=0 written=1 removed=1\n",
+            &[("a/index.html", "y")],
+        ),
+        // The sink fails at its first call, and at its second.
+        (
+            Given {
+                sink_fails: &[1],
+                ..Given::once(&[("a.txt", "x")])
+            },
+            6,
+            "",
+            &[],
+        ),
+        (
+            Given {
+                sink_fails: &[2],
+                ..Given::once(&[("a.txt", "x")])
+            },
+            6,
+            "scanned 1\n",
+            &[("a.txt", "x")],
+        ),
+    ];
+    for (place, (given, status, replies, outputs)) in rows.iter().enumerate() {
+        let outcome = given.run(alloc)?;
+        assert_eq!(rt; outcome.status.number(), *status, "row {place}");
+        assert_eq!(rt; outcome.replies.as_str(), *replies, "row {place}");
+        assert!(rt; outcome.has(alloc, outputs)?, "row {place}");
+    }
+    Ok(())
+}
+
+#[test]
+fn refuses_words(rt: HostRuntime) -> Result<(), Fail> {
+    let alloc = rt.alloc();
+    let site: &[(&str, &str)] = &[("a.txt", "x")];
+    let rows: [(&[&str], i64, UsageKind, &str); 9] = [
+        (&[], MOMENT, UsageKind::Missing, "usage 1\n"),
+        (&["build"], MOMENT, UsageKind::Command, "usage 2\n"),
+        (&[""], MOMENT, UsageKind::Command, "usage 2\n"),
+        (&["Once"], MOMENT, UsageKind::Command, "usage 2\n"),
+        (&["build", "once"], MOMENT, UsageKind::Command, "usage 2\n"),
+        (&["once", "--drafts"], -1, UsageKind::Option, "usage 3\n"),
+        (&["once", "once"], MOMENT, UsageKind::Option, "usage 3\n"),
+        (&["once"], -1, UsageKind::Moment, "usage 5\n"),
+        (&["once"], 253_402_214_400, UsageKind::Moment, "usage 5\n"),
+    ];
+    for (words, moment, kind, reply) in rows {
+        let given = Given {
+            words,
+            moment,
+            ..Given::once(site)
+        };
+        let outcome = given.run(alloc)?;
+        assert!(rt;
+            matches!(outcome.status, Status::Usage(other) if other == kind),
+            "{reply}"
+        );
+        assert_eq!(rt;
+            (outcome.status.number(), outcome.replies.as_str()),
+            (2, reply)
+        );
+        assert!(rt; outcome.out.is_empty());
+    }
+    for moment in [0, 253_402_214_399] {
+        let given = Given {
+            moment,
+            ..Given::once(site)
+        };
+        assert_eq!(rt; given.run(alloc)?.status.number(), 0, "moment {moment}");
+    }
+    Ok(())
+}
