@@ -1,6 +1,7 @@
 //! The lines of a session's script.
 #![tactic(auto)]
 
+mod ahead;
 mod body;
 mod head;
 mod line;

@@ -1,30 +1,24 @@
 // Standard input as a source of bytes.
 ghost use Rattle.std.specs.Prelude.{◌≡◌, None};
 
+use crate::ahead::Ahead;
 use site_base::{ByteSource, Failed};
-use std::io::Read;
 use std::marker::Model;
-
-const BLOCK: usize = 8192;
 
 /// Standard input, read in blocks. It tells nothing of its bytes.
 #[derive(Drop)]
 pub struct StdInput<R: Input + Drop> {
     rt: R,
-    block: [u8; BLOCK],
-    start: usize,
-    end: usize,
+    ahead: Ahead,
     faults: u64,
 }
 
 impl<R: Input + Drop> Model for StdInput<R> {
-    ghost use Rattle.std.specs.Prelude.{ℕ, ◌≤◌};
+    ghost use Rattle.std.specs.Prelude.{ℕ};
 
     ghost Value = { ℕ };
 
     ghost view = { λ input. input.faults };
-
-    ghost invariant = { λ input. (input.start ≤ input.end) × (input.end ≤ 8192) };
 }
 
 impl<R: Input + Drop> StdInput<R> {
@@ -34,9 +28,7 @@ impl<R: Input + Drop> StdInput<R> {
     {
         StdInput {
             rt,
-            block: [0; BLOCK],
-            start: 0,
-            end: 0,
+            ahead: Ahead::new(),
             faults: 0,
         }
     }
@@ -48,21 +40,10 @@ impl<R: Input + Drop> ByteSource for StdInput<R> {
     ghost faults = { λ input. input };
 
     fn read(&mut self, into: &mut [u8]) -> Result<usize, Failed> {
-        if self.start == self.end {
-            match self.rt.reader().read(&mut self.block) {
-                Ok(count) => {
-                    self.start = 0;
-                    self.end = count;
-                }
-                Err(_) => {
-                    self.faults = self.faults.saturating_add(1);
-                    return Err(Failed);
-                }
-            }
+        if self.ahead.is_empty() && self.ahead.fill(&mut self.rt.reader()).is_err() {
+            self.faults = self.faults.saturating_add(1);
+            return Err(Failed);
         }
-        let count = into.len().min(self.end - self.start);
-        into[..count].copy_from_slice(&self.block[self.start..self.start + count]);
-        self.start = self.start + count;
-        Ok(count)
+        Ok(self.ahead.give(into))
     }
 }
