@@ -6,6 +6,7 @@ pub mod Listed
 pub mod Plain
 pub mod ReadSite
 pub mod Results
+mod Rows
 pub mod ScanFaults
 pub mod Steps
 pub mod Sums

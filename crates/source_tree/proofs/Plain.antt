@@ -78,10 +78,3 @@ absent_later p ps d = apart_any p ps d.0
 pub differ_later : (p : List ℕ) (ps : List (List ℕ)) → AllDiffer (p ∷ ps) → AllDiffer ps
 unfolding IsDistinct
 differ_later p ps d = d.1
-
-pub no_file : {V : Type 0} (q : List ℕ) (es : List (List ℕ × V)) → is_listed q (paths_of es) ≡ false → find path_cmp q es ≡ None
-no_file {V} q es absent = by (find path_cmp q es) (is_some-find path_cmp q es ∙ absent)
-  where
-    by : (there : Option V) → is_some there ≡ false → there ≡ None
-    by None e = refl
-    by (Some v) e = absurd (cc (e))

@@ -5,7 +5,7 @@ use Rattle.std.specs.declared.cmp.Ordering.TheVariants.{Less, Equal, Greater}
 use Rattle.std.specs.declared.cmp.Ordering.{Ordering}
 use Rattle.std.specs.Ordering.{is_lt, is_eq, ordering_reverse}
 use Rattle.std.specs.Cmp.{tied_itself}
-use Rattle.std.specs.FinMap.{contains_key, entries, entries_sorted, entries-from_sorted, find, from_sorted, get, get-entries, keys, same_entries_map}
+use Rattle.std.specs.FinMap.{contains_key, entries, entries_sorted, entries-from_sorted, find, from_sorted, get, get-entries, same_entries_map}
 use Rattle.std.specs.FinMap.Entries.{below_all}
 use Rattle.std.specs.Option.{is_some}
 use Rattle.std.proofs.lemmas.Bool.{le-ltb, lt-ltb, ltb-false, ltb-true}
@@ -100,17 +100,6 @@ cut_whole b short = take_all 16777217 b (omega (arith, length-take 16777217 b))
 cut_long : (b : List ℕ) → most_bytes < length (take 16777217 b) → most_bytes < length b
 cut_long b long = omega (arith, length-take 16777217 b)
 
-pub going-start : (files : Files) (left : List (List ℕ)) (reading : Reading) → left ≡ keys files → reading.over ≡ None → reading.total ≡ 0 → reading.files.items ≡ [] → Going files left reading
-going-start files left reading is none zero_total empty = record {
-  front = [];
-  rest = entries files;
-  whole = refl;
-  left_is = is;
-  long = refl;
-  over = λ p over. absurd (cc (none, over));
-  within = λ _. (empty, ap (λ n. first_over n (entries files)) (sym zero_total));
-}
-
 over_by : (files : Files) (path : List ℕ) (left : List (List ℕ)) (old new : Reading) (n : Next files path left old) → Adds old new path n.file.1 → (was : Option (List ℕ)) → old.over ≡ was → (b : Bool) → nat_lt most_site_bytes (old.total + length n.file.1) ≡ b → (p : List ℕ) → new.over ≡ Some p → first_over 0 (entries files) ≡ Some p
 over_by files path left old new n a (Some q) was b t p is = n.over q was ∙ sym (a.was_over q was) ∙ is
 over_by files path left old new n a None was true t p is =
@@ -167,9 +156,6 @@ all_read files m reading g none made rise =
     tell b e = subst T (sym e) tt
 
 -- whether the source tells its files or not, what was read has the paths that were to be read
-pub follows-start : (paths left : List (List ℕ)) (reading : Reading) → left ≡ paths → reading.files.items ≡ [] → Follows paths left reading
-follows-start paths left reading is empty none = sym is ∙ ap (λ (l : List File). paths_of l ++ left) (sym empty)
-
 pub follows-step : (paths left : List (List ℕ)) (path bytes : List ℕ) (old new : Reading) → Follows paths (path ∷ left) old → Adds old new path bytes → Follows paths left new
 follows-step paths left path bytes old new follows added none = by old.over refl (nat_lt most_site_bytes (old.total + length bytes)) refl
   where
