@@ -67,15 +67,22 @@ impl OutKeeper {
     /// Lists the output, unless that has succeeded before: every path that is there becomes marked.
     pub fn list_once<O: OutTree>(&mut self, alloc: Global, device: &mut O) -> Result<(), ListError>
         // Where it has succeeded before, nothing happens.
-        ensures again { IsSome self.old → IsOk result × (self.new ≡ self.old) × (device.new ≡ device.old) }
+        ensures again { IsSome self.old
+            → IsOk result × (self.new ≡ self.old) × (device.new ≡ device.old) }
 
         ensures listed { OnOk result (IsSome self.new) }
-        ensures marked { self.old ≡ None → OnOk result ((files : Files) → O.contents device.old ≡ Some files → self.new ≡ Some (all_marked files)) }
-        ensures holds { (files : Files) → O.contents device.old ≡ Some files → HoldsOf self.old files → HoldsOf self.new files }
+        ensures marked { self.old ≡ None
+            → OnOk result ((files : Files) → O.contents device.old ≡ Some files
+            → self.new ≡ Some (all_marked files)) }
+        ensures holds { (files : Files)
+            → O.contents device.old ≡ Some files → HoldsOf self.old files
+            → HoldsOf self.new files }
         ensures err { OnErr result (self.new ≡ self.old) }
         ensures same { O.contents device.new ≡ O.contents device.old }
-        ensures calls { self.old ≡ None → Calls (O.calls device.old) (O.calls device.new) (call.List ∷ []) }
-        ensures cause { HasCauseOf ListError.Failed (O.faults device.old) (O.faults device.new) result }
+        ensures calls { self.old ≡ None
+            → Calls (O.calls device.old) (O.calls device.new) (call.List ∷ []) }
+        ensures cause { HasCauseOf ListError.Failed
+            (O.faults device.old) (O.faults device.new) result }
     {
         if self.belief.is_some() {
             return Ok(());
@@ -113,21 +120,34 @@ impl OutKeeper {
     ) -> Result<Applied, Memory>
         requires { IsSome self.old }
         ensures err { OnErr result ((self.new ≡ self.old) × (device.new ≡ device.old)) }
-        ensures written { IfOk result (λ applied. applied.written ≡ length (writes (believed self.old) tree.now)) }
-        ensures removed { IfOk result (λ applied. applied.removed ≡ length (removals (believed self.old) tree.now keep.now)) }
-        ensures in_order { IfOk result (λ applied. InOrder (planned (believed self.old) tree.now keep.now) applied.failed) }
-        ensures belief { IfOk result (λ applied. self.new ≡ Some (after (believed self.old) (planned (believed self.old) tree.now keep.now) applied.failed)) }
-        ensures contents { IfOk result (λ applied. DoneBut applied.failed (planned (believed self.old) tree.now keep.now) (O.contents device.old) (O.contents device.new)) }
-        ensures truth { OnOk result (StaysTrue (believed self.old) (believed self.new) (O.contents device.old) (O.contents device.new)) }
-        ensures calls { OnOk result (CallsFor (planned (believed self.old) tree.now keep.now) (O.calls device.old) (O.calls device.new)) }
-        ensures cause { IfOk result (λ applied. RoseBy (length applied.failed) (O.faults device.old) (O.faults device.new)) }
+        ensures written { IfOk result (λ applied.
+            applied.written ≡ length (writes (believed self.old) tree.now)) }
+        ensures removed { IfOk result (λ applied.
+            applied.removed ≡ length (removals (believed self.old) tree.now keep.now)) }
+        ensures in_order { IfOk result (λ applied.
+            InOrder (planned (believed self.old) tree.now keep.now) applied.failed) }
+        ensures belief { IfOk result (λ applied. self.new ≡ Some (after (believed self.old)
+            (planned (believed self.old) tree.now keep.now) applied.failed)) }
+        ensures contents { IfOk result (λ applied.
+            DoneBut applied.failed (planned (believed self.old) tree.now keep.now)
+            (O.contents device.old) (O.contents device.new)) }
+        ensures truth { OnOk result (StaysTrue (believed self.old) (believed self.new)
+            (O.contents device.old) (O.contents device.new)) }
+        ensures calls { OnOk result (CallsFor (planned (believed self.old) tree.now keep.now)
+            (O.calls device.old) (O.calls device.new)) }
+        ensures cause { IfOk result (λ applied.
+            RoseBy (length applied.failed) (O.faults device.old) (O.faults device.new)) }
         ensures later { O.faults device.old ≤ O.faults device.new }
         ensures idle { planned (believed self.old) tree.now keep.now ≡ [] → device.new ≡ device.old }
 
         // Where the belief was true of the output, it is now exactly the tree, but for the paths that failed.
-        ensures made { IfOk result (λ applied. MadeBut applied.failed (believed self.old) tree.now keep.now (O.contents device.old) (O.contents device.new)) }
-        ensures marked { IfOk result (λ applied. MarksThose applied.failed keep.now (believed self.old) (believed self.new)) }
-        ensures settled { IfOk result (λ applied. Settles applied.failed (believed self.new) tree.now keep.now) }
+        ensures made { IfOk result (λ applied.
+            MadeBut applied.failed (believed self.old) tree.now keep.now
+            (O.contents device.old) (O.contents device.new)) }
+        ensures marked { IfOk result (λ applied.
+            MarksThose applied.failed keep.now (believed self.old) (believed self.new)) }
+        ensures settled { IfOk result (λ applied.
+            Settles applied.failed (believed self.new) tree.now keep.now) }
     {
         let plan = self.plan(alloc, tree, keep)?;
         Ok(self.apply(device, plan))
@@ -141,8 +161,11 @@ impl OutKeeper {
         ensures removed { result.removed ≡ length plan.removals }
         ensures in_order { InOrder (steps_of plan) result.failed }
         ensures belief { self.new ≡ Some (after (believed self.old) (steps_of plan) result.failed) }
-        ensures contents { DoneBut result.failed (steps_of plan) (O.contents device.old) (O.contents device.new) }
-        ensures truth { StaysTrue (believed self.old) (believed self.new) (O.contents device.old) (O.contents device.new) }
+        ensures contents { DoneBut result.failed (steps_of plan)
+            (O.contents device.old) (O.contents device.new) }
+        ensures truth { StaysTrue
+            (believed self.old) (believed self.new) (O.contents device.old)
+            (O.contents device.new) }
         ensures calls { CallsFor (steps_of plan) (O.calls device.old) (O.calls device.new) }
         ensures cause { RoseBy (length result.failed) (O.faults device.old) (O.faults device.new) }
         ensures later { O.faults device.old ≤ O.faults device.new }
@@ -177,7 +200,9 @@ impl OutKeeper {
 // The belief in which these paths are marked.
 fn all_marked(alloc: Global, paths: Vec<SitePath>) -> Result<PathMap<State>, Memory>
     requires { AllDiffer paths.items }
-    ensures { IfOk result (λ belief. (q : List ℕ) → finmap.get (as_map belief) q ≡ (if is_listed q paths.items then Some Marked else None)) }
+    ensures { IfOk result (λ belief.
+        (q : List ℕ)
+        → finmap.get (as_map belief) q ≡ (if is_listed q paths.items then Some Marked else None)) }
 {
     let mut entries = match Vec::with_capacity(alloc, paths.len()) {
         Ok(entries) => entries,
@@ -229,7 +254,8 @@ fn plan_removals(
     tree: &Tree,
     keep: &KeepList,
 ) -> Result<Vec<Planned>, Memory>
-    ensures { IfOk result (λ steps. map (λ p. p.step) steps.items ≡ removals (as_map belief.now) tree.now keep.now) }
+    ensures { IfOk result (λ steps.
+        map (λ p. p.step) steps.items ≡ removals (as_map belief.now) tree.now keep.now) }
 {
     let mut steps = Vec::new(alloc);
     for place in 0..belief.len() {
@@ -246,7 +272,8 @@ fn plan_removals(
 }
 
 fn plan_writes(alloc: Global, belief: &PathMap<State>, tree: &Tree) -> Result<Vec<Planned>, Memory>
-    ensures { IfOk result (λ steps. map (λ p. p.step) steps.items ≡ writes (as_map belief.now) tree.now) }
+    ensures { IfOk result (λ steps.
+        map (λ p. p.step) steps.items ≡ writes (as_map belief.now) tree.now) }
 {
     let mut steps = Vec::new(alloc);
     for place in 0..tree.len() {

@@ -149,7 +149,8 @@ impl MemoryOut {
     // Gives the path these bytes.
     fn store(&mut self, path: &SitePath, bytes: &[u8]) -> Result<(), Memory>
         requires { stands_in_way self.old.files path.now ≡ false }
-        ensures ok { OnOk result (self.new ≡ record self.old { files = finmap.insert self.old.files path.now bytes.now }) }
+        ensures ok { OnOk result (
+            self.new ≡ record self.old { files = finmap.insert self.old.files path.now bytes.now }) }
         ensures err { OnErr result (self.new ≡ self.old) }
     {
         let path = path.copy(self.alloc)?;

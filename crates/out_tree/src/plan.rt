@@ -71,7 +71,8 @@ impl Plan {
 // Adds a step at the end.
 pub(crate) fn push_step(steps: &mut Vec<Planned>, step: Step, path: SitePath) -> Result<(), Memory>
     requires { path ≡ path_of step }
-    ensures { OnOk result (map (λ p. p.step) steps.new.items ≡ map (λ p. p.step) steps.old.items ++ step ∷ []) }
+    ensures { OnOk result (
+        map (λ p. p.step) steps.new.items ≡ map (λ p. p.step) steps.old.items ++ step ∷ []) }
 {
     match steps.push(Planned { step, path }) {
         Ok(()) => Ok(()),
