@@ -27,3 +27,6 @@ pub use sink::{ByteSink, MemorySink};
 pub use source::{ByteSource, MemoryInput};
 pub use text::Text;
 pub use words::Words;
+
+#[cfg(test)]
+mod tests;

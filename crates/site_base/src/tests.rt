@@ -1,0 +1,95 @@
+// What the calls answer for rows of values.
+use crate::{
+    ByteSink, ByteSource, Failed, MemoryInput, MemorySink, PathError, PathMap, SitePath, Text,
+    Words,
+};
+use std::test::Fail;
+
+#[test]
+fn reads_paths(rt: HostRuntime) -> Result<(), Fail> {
+    let alloc = rt.alloc();
+    for (text, refusal) in [
+        ("", Some(PathError::Empty)),
+        ("/a", Some(PathError::Absolute)),
+        ("a/../b", Some(PathError::DotSegment)),
+        (".", Some(PathError::DotSegment)),
+        ("a//..", Some(PathError::DotSegment)),
+        ("a//b", Some(PathError::EmptySegment)),
+        ("a/", Some(PathError::EmptySegment)),
+        ("a\u{7f}", Some(PathError::Control)),
+        ("a/b", None),
+        ("...", None),
+        ("caf\u{e9}.html", None),
+    ] {
+        assert_eq!(rt; SitePath::read(alloc, text).err(), refusal, "at {text}");
+    }
+    let mut long = String::new(alloc);
+    for _ in 0..1024 {
+        long.push('a')?;
+    }
+    assert_eq!(rt; SitePath::read(alloc, long.as_str())?.text().len(), 1024);
+    long.push('a')?;
+    assert_eq!(rt;
+        SitePath::read(alloc, long.as_str()).err(),
+        Some(PathError::Long)
+    );
+    Ok(())
+}
+
+#[test]
+fn keeps_a_map_of_paths(rt: HostRuntime) -> Result<(), Fail> {
+    let alloc = rt.alloc();
+    let mut map: PathMap<u8> = PathMap::new(alloc);
+    for (text, value) in [("b", 1), ("a/c", 2), ("a-c", 3), ("b", 4)] {
+        map.put(SitePath::read(alloc, text)?, value)?;
+    }
+    assert_eq!(rt; map.len(), 3);
+    for (place, wanted, number) in [(0, "a-c", 3), (1, "a/c", 2), (2, "b", 4)] {
+        let (path, value) = map.at(place);
+        assert_eq!(rt; (path.text(), *value), (wanted, number));
+    }
+    let a = SitePath::read(alloc, "a")?;
+    assert!(rt; map.has_below(&a));
+    assert!(rt; map.has_folder(&SitePath::read(alloc, "b/x")?));
+    assert!(rt; map.find_clash().is_none());
+    map.put(a.copy(alloc)?, 5)?;
+    assert_eq!(rt; map.find_clash().map(|path| path.text()), Some("a"));
+    assert!(rt; map.remove(&a));
+    assert!(rt; !map.remove(&a));
+    assert_eq!(rt; map.get(&a), None);
+    Ok(())
+}
+
+#[test]
+fn ends_fail_at_listed_calls(rt: HostRuntime) -> Result<(), Fail> {
+    let alloc = rt.alloc();
+    let mut sink = MemorySink::new(alloc, vec![in alloc; 2]?);
+    assert_eq!(rt; sink.write(b"one "), Ok(()));
+    assert_eq!(rt; sink.write(b"two "), Err(Failed));
+    assert_eq!(rt; sink.write(b"three"), Ok(()));
+    assert_eq!(rt; sink.bytes(), b"one three".as_slice());
+    assert_eq!(rt; sink.short(), 0);
+    let mut input = MemoryInput::new(b"12345".to_vec(alloc)?, vec![in alloc; 2]?);
+    let mut piece = [0; 3];
+    assert_eq!(rt; input.read(&mut piece), Ok(3));
+    assert_eq!(rt; piece, [b'1', b'2', b'3']);
+    assert_eq!(rt; input.read(&mut piece), Err(Failed));
+    assert_eq!(rt; input.read(&mut piece), Ok(2));
+    assert_eq!(rt; input.read(&mut piece), Ok(0));
+    Ok(())
+}
+
+#[test]
+fn joins_texts_and_words(rt: HostRuntime) -> Result<(), Fail> {
+    let alloc = rt.alloc();
+    let mut text = Text::copy(alloc, "a")?;
+    text.push_str("\u{e9}")?;
+    assert_eq!(rt; text.as_str(), "a\u{e9}");
+    assert_eq!(rt; text.len(), 3);
+    let mut words = Words::new(alloc);
+    words.push(alloc, "once")?;
+    words.push(alloc, "more")?;
+    assert_eq!(rt; words.len(), 2);
+    assert_eq!(rt; words.at(1), "more");
+    Ok(())
+}
