@@ -62,6 +62,7 @@ build_case given now reply new unlisted answers = by (full now.files) refl answe
     of_event tree pages Nothing is e = Tried tree pages [] is (sym (ap (λ (p : Standing × Reply). p.1) e))
     of_event tree pages TheScan is e = Tried tree pages [] is (sym (ap (λ (p : Standing × Reply). p.1) e))
     of_event tree pages (TheSteps paths) is e = Tried tree pages paths is (sym (ap (λ (p : Standing × Reply). p.1) e))
+
     by : (f : Full) → full now.files ≡ f → build given now f (event_of reply) ≡ (new, reply) → BuildCase given now reply
     by (Fails fault) is e = Faulted fault (sym (ap (λ (p : Standing × Reply). p.1) e)) is
     by (Gives tree pages) is e = of_event tree pages (event_of reply) is (ap (λ (b : Option Belief). build_tree given now tree pages b (event_of reply)) (sym unlisted) ∙ e)
@@ -95,17 +96,21 @@ two_end given mid reply told tells belief none files (NotListed tree pages gives
     subst (λ (r : Reply). Ended given told tells (reply_status r) × Replies given (reply_status r) (scanned given ∷ r ∷ [])) (sym is)
     (record { comes = then_full given none (ap full (sym files) ∙ gives); left = inl (refl, subst (λ (r : Reply). LeavesBy mid.files r told tells belief) is leaves) }, inl (refl, refl))
 two_end given mid reply told tells belief none files (Tried tree pages [] gives is) leaves same =
-    subst (λ (r : Reply). Ended given told tells (reply_status r) × Replies given (reply_status r) (scanned given ∷ r ∷ [])) (sym is)
-    (record { comes = then_full given none (ap full (sym files) ∙ gives); left = left_but [] (subst (λ (r : Reply). LeavesBy mid.files r told tells belief) is leaves) },
-    (tree, pages, ap full (sym files) ∙ gives, refl))
+    subst (λ (r : Reply). Ended given told tells (reply_status r) × Replies given (reply_status r) (scanned given ∷ r ∷ [])) (sym is) (
+      record { comes = then_full given none (ap full (sym files) ∙ gives); left = left_but [] (subst (λ (r : Reply). LeavesBy mid.files r told tells belief) is leaves) },
+      (tree, pages, ap full (sym files) ∙ gives, refl),
+    )
   where
     left_but : (failed : List (List ℕ)) → Leaves mid.files failed told tells belief → LeftBut failed given.source told tells
     left_but failed l = record { tree = l.tree; pages = l.pages; stands_for = ap full (sym files) ∙ l.stands_for; made = l.made }
 two_end given mid reply told tells belief none files (Tried tree pages (path ∷ paths) gives is) leaves same =
-    subst (λ (r : Reply). Ended given told tells (reply_status r) × Replies given (reply_status r) (scanned given ∷ r ∷ [])) (sym is)
-    (record { comes = then_full given none (ap full (sym files) ∙ gives);
-      left = inr (path ∷ paths, refl, left_but (path ∷ paths) (subst (λ (r : Reply). LeavesBy mid.files r told tells belief) is leaves)) },
-    inr (path ∷ paths, refl, refl))
+    subst (λ (r : Reply). Ended given told tells (reply_status r) × Replies given (reply_status r) (scanned given ∷ r ∷ [])) (sym is) (
+      record {
+        comes = then_full given none (ap full (sym files) ∙ gives);
+        left = inr (path ∷ paths, refl, left_but (path ∷ paths) (subst (λ (r : Reply). LeavesBy mid.files r told tells belief) is leaves));
+      },
+      inr (path ∷ paths, refl, refl),
+    )
   where
     left_but : (failed : List (List ℕ)) → Leaves mid.files failed told tells belief → LeftBut failed given.source told tells
     left_but failed l = record { tree = l.tree; pages = l.pages; stands_for = ap full (sym files) ∙ l.stands_for; made = l.made }

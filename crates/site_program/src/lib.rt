@@ -3,11 +3,11 @@
 
 mod line;
 mod once;
-mod std_sink;
 mod status;
+mod std_sink;
 mod usage;
 
 pub use once::run_once;
-pub use std_sink::StdSink;
 pub use status::Status;
+pub use std_sink::StdSink;
 pub use usage::UsageKind;

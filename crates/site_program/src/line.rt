@@ -38,7 +38,7 @@ pub(crate) fn do_line<S: SourceTree, O: OutTree, K: ByteSink>(
     ensures stopped { (given : Given) (before : List ℕ) → S.files source.old ≡ Some given.source →
         Holds (O.contents out.old) session.old.belief given.output → K.taken sink.old ≡ Some before →
         IfErr result (λ stop. (part : List ℕ) × Stopped given session.old number line (O.contents out.new) part
-            × (K.taken sink.new ≡ Some (before ++ part)) × (stop ≡ Stop.Memory → part ≡ [])) }
+        × (K.taken sink.new ≡ Some (before ++ part)) × (stop ≡ Stop.Memory → part ≡ [])) }
 
     ensures source_same { S.files source.new ≡ S.files source.old }
     ensures source_later { S.faults source.old ≤ S.faults source.new }

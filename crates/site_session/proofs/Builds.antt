@@ -86,24 +86,25 @@ pub makes_but : (was now : Option Belief) (told tells : Option Files) (tree : Fi
     → told ≡ Some old → IsTrueOf (believed was) old → MakesBut other tree told tells × MarksExactly other now
 makes_but was now told tells tree keep steps failed other old done made marks same keep_is told_is truth =
     let after = done.tells_still old told_is in
-    subst (λ (f : List (List ℕ)). MakesBut f tree told tells × MarksExactly f now) (sym same)
-    (record {
-      old = old;
-      new = after.0;
-      told_is = told_is;
-      tells_is = after.1;
-      exactly = subst (λ (k : List (List ℕ)). IsExactlyBut failed tree k old after.0) keep_is (made.is_exactly old after.0 told_is after.1 truth);
-    },
-    λ path apart. (marked_listed path apart, λ there. marks.failed_marked path there))
+    subst (λ (f : List (List ℕ)). MakesBut f tree told tells × MarksExactly f now) (sym same) (
+      record {
+        old = old;
+        new = after.0;
+        told_is = told_is;
+        tells_is = after.1;
+        exactly = subst (λ (k : List (List ℕ)). IsExactlyBut failed tree k old after.0) keep_is (made.is_exactly old after.0 told_is after.1 truth);
+      },
+      λ path apart. (marked_listed path apart, λ there. marks.failed_marked path there),
+    )
   where
     marked_listed : (path : List ℕ) → is_kept kept path ≡ false → get (believed now) path ≡ Some state.Marked → is_listed path failed ≡ true
     marked_listed path apart at =
         elim (is_listed path failed) as (λ b. is_listed path failed ≡ b → b ≡ true) [
           | true ↦ λ e. refl
           | false ↦ λ e.
-            let both = marks.marked_failed path e at in
-            let keeps : is_kept kept path ≡ true = ap (λ (k : List (List ℕ)). is_kept k path) (sym keep_is) ∙ both.0 in
-            absurd (cc (apart, keeps))
+              let both = marks.marked_failed path e at in
+              let keeps : is_kept kept path ≡ true = ap (λ (k : List (List ℕ)). is_kept k path) (sym keep_is) ∙ both.0 in
+              absurd (cc (apart, keeps))
         ] refl
 
 -- the belief after the first list is true of what was there
@@ -114,6 +115,7 @@ mid_true was mid told first some keeps h = (h.there, h.told_is, of_some mid some
     of_holds : (belief : Option Belief) → TrueTo belief first h.there → HoldsOf belief h.there
     of_holds None truth = tt
     of_holds (Some belief) truth = truth
+
     of_some : (belief : Option Belief) → IsSome belief → HoldsOf belief h.there → IsTrueOf (believed belief) h.there
     of_some None none truth = absurd (cc (none))
     of_some (Some belief) some truth = truth

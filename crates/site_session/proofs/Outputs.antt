@@ -79,7 +79,7 @@ tree_more files tree new place path bytes put_path made lt here so_far path_is m
     let e : List ℕ × List ℕ = get_or es place ([], []) in
     let at : path ≡ e.0 = ap (λ (f : List ℕ × List ℕ). f.0) (here ∙ any_default es place (path, bytes) ([], []) within) in
     let grown : outputs (take (place + 1) es) ≡ outputs (take place es) ++ (e.0, output_of e.1) ∷ [] =
-        ap outputs (take_more es place ([], []) within) ∙ map-append (λ (f : List ℕ × List ℕ). (f.0, output_of f.1)) (take place es) (e ∷ []) in
+    ap outputs (take_more es place ([], []) within) ∙ map-append (λ (f : List ℕ × List ℕ). (f.0, output_of f.1)) (take place es) (e ∷ []) in
     new_is ∙ (λ i. insert (so_far i) ((path_is ∙ at) i) (made_is i))
     ∙ sym (from_entries_push o (slice_cmp-IsAntisymmetric nat_cmp-IsAntisymmetric) (outputs (take place es)) e.0 (output_of e.1) (apart es place ([], []) (told _ (entries_sorted files)) within))
     ∙ ap (λ (l : List (List ℕ × List ℕ)). from_entries {R = path_cmp} l) (sym grown)

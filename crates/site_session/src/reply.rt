@@ -72,7 +72,9 @@ fn built_text(alloc: Global, report: &Report) -> Result<String, AllocError>
     let reused = report.reused;
     let written = report.written;
     let removed = report.removed;
-    format!(in alloc; "built rendered={rendered} reused={reused} written={written} removed={removed}\n")
+    format!(in alloc;
+        "built rendered={rendered} reused={reused} written={written} removed={removed}\n"
+    )
 }
 
 fn marked_text(alloc: Global, paths: &PathList) -> Result<String, AllocError>

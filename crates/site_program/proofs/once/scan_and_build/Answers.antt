@@ -25,14 +25,12 @@ returns-in_default-clause-told g c = λ given told out.
     (one_tells given c.open-session.result c.do_line.new.session c.in-Ok.scanned (g.O.OutTree.contents c.args.out.now) (g.O.OutTree.contents c.do_line.new.out) c.status_of.result c.status_of.ensures
     (c.in-Ok.ensures.answers given told h) c.in_default.not-Scanned (λ quiet. ap g.O.OutTree.contents (c.in-Ok.ensures.untouched quiet))).ended
 
-
 pub returns-in_default-clause-took : goal.returns-in_default-clause-took
 returns-in_default-clause-took g c = λ given before told out w.
     let opened : c.open-session.result ≡ start c.args.moment = search rules in
     let h = holds_first c.open-session.result _ given.output (ap (λ (s : Standing). s.belief) opened) out in
     (one_tells given c.open-session.result c.do_line.new.session c.in-Ok.scanned (g.O.OutTree.contents c.args.out.now) (g.O.OutTree.contents c.do_line.new.out) c.status_of.result c.status_of.ensures
     (c.in-Ok.ensures.answers given told h) c.in_default.not-Scanned (λ quiet. ap g.O.OutTree.contents (c.in-Ok.ensures.untouched quiet))).took before _ (c.in-Ok.ensures.bytes before w)
-
 
 pub returns-in_default-clause-run : goal.returns-in_default-clause-run
 returns-in_default-clause-run g c = λ given before told out w.
@@ -68,7 +66,6 @@ returns-in-Ok-do_line-clause-told g c = λ given told out.
     (ap g.O.OutTree.contents (c.in-Ok.ensures.untouched (ap has_called_output c.in-Scanned.is)))
     (c.in-Ok-do_line.ensures.leaves given.output h1) (λ quiet. ap g.O.OutTree.contents (c.in-Ok-do_line.ensures.untouched quiet))).ended
 
-
 pub returns-in-Ok-do_line-clause-took : goal.returns-in-Ok-do_line-clause-took
 returns-in-Ok-do_line-clause-took g c = λ given before told out w.
     let opened : c.open-session.result ≡ start c.args.moment = search rules in
@@ -81,7 +78,6 @@ returns-in-Ok-do_line-clause-took g c = λ given before told out w.
     (ap g.O.OutTree.contents (c.in-Ok.ensures.untouched (ap has_called_output c.in-Scanned.is)))
     (c.in-Ok-do_line.ensures.leaves given.output h1) (λ quiet. ap g.O.OutTree.contents (c.in-Ok-do_line.ensures.untouched quiet))).took before _
     (c.in-Ok-do_line.ensures.bytes _ (c.in-Ok.ensures.bytes before w) ∙ ap Some (append_assoc before (reply_bytes c.in-Ok.scanned) (reply_bytes c.in-Ok-do_line.built)))
-
 
 pub returns-in-Ok-do_line-clause-run : goal.returns-in-Ok-do_line-clause-run
 returns-in-Ok-do_line-clause-run g c = λ given before told out w.
@@ -99,7 +95,6 @@ returns-in-Ok-do_line-clause-out_fault g c = λ count is.
     let most = out_rose c.in-Ok-do_line.built count (sym c.status_of-in-Ok-do_line.ensures ∙ is) in
     let rose = subst (λ (n : ℕ). min (g.O.OutTree.faults c.do_line.new.out + n) (2 ^ 64 - 1) ≤ g.O.OutTree.faults c.do_line-2.new.out) most c.in-Ok-do_line.ensures.output_cause in
     omega (arith, rose, c.do_line.ensures.output_later)
-
 
 pub returns-clause-run : goal.returns-clause-run
 returns-clause-run g c = λ given before told out w.
