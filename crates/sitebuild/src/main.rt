@@ -14,6 +14,7 @@ const NO_MOMENT: i64 = -1;
 
 // The status numbers of a run that does not come to its top call.
 const USAGE: u8 = 2;
+
 const MEMORY: u8 = 8;
 
 fn main(rt: HostRuntime) -> ExitCode {
