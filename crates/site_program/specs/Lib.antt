@@ -1,3 +1,4 @@
 pub mod Once
 pub mod Runs
+pub mod Sessions
 pub mod Usage

@@ -15,12 +15,16 @@ use Rattle.site_session.specs.declared.reply.Reply.TheVariants.{Scanned, ScanFau
 use Rattle.site_session.specs.Bytes.{written}
 use Rattle.site_session.specs.declared.build.Report.{Report}
 use Rattle.site_program.specs.Usage.{usage_kind, usage_line}
+use Rattle.site_program.specs.declared.usage.TopCall.TheVariants.{Once, Jobs}
 use Rattle.site_program.specs.declared.usage.UsageKind.{UsageKind}
 use Rattle.site_program.specs.declared.status.Status.{Status}
 use Rattle.site_program.specs.declared.status.Status.TheVariants.{Done, Site, Usage, SourceFault, OutFault, InputFault, SinkFault, Script, Memory}
 
 abbrev pub once_usage : List (List ℕ) → ℤ → Option UsageKind
-once_usage = usage_kind (codes "once")
+once_usage = usage_kind Once
+
+abbrev pub jobs_usage : List (List ℕ) → ℤ → Option UsageKind
+jobs_usage = usage_kind Jobs
 
 abbrev pub fault_of : Full → Option SiteFault
 fault_of (Gives tree pages) = None

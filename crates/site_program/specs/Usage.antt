@@ -1,7 +1,9 @@
 -- What is wrong with the words of a command line.
-use Rattle.std.specs.Prelude.{ℕ, ℤ, pos, negsuc, Bool, true, false, not, nat_le, List, [], ◌∷◌, ◌++◌, codes, Option, Some, None, if◌then◌else◌}
+use Rattle.std.specs.Prelude.{ℕ, ℤ, pos, negsuc, Bool, true, false, not, ◌||◌, nat_le, List, [], ◌∷◌, ◌++◌, codes, Option, Some, None, if◌then◌else◌}
 use Rattle.std.specs.Str.{bytes_eq}
 use Rattle.std.specs.Fmt.{decimal}
+use Rattle.site_program.specs.declared.usage.TopCall.{TopCall}
+use Rattle.site_program.specs.declared.usage.TopCall.TheVariants as call
 use Rattle.site_program.specs.declared.usage.UsageKind.{UsageKind}
 use Rattle.site_program.specs.declared.usage.UsageKind.TheVariants as kind
 
@@ -27,7 +29,12 @@ abbrev pub further_kind : List (List ℕ) → ℤ → Option UsageKind
 further_kind [] moment = moment_kind moment
 further_kind (word ∷ words) moment = Some kind.Option
 
--- the first thing that is wrong where this one command is known, which takes no further word
-abbrev pub usage_kind : List ℕ → List (List ℕ) → ℤ → Option UsageKind
-usage_kind command [] moment = Some kind.Missing
-usage_kind command (word ∷ words) moment = if not (bytes_eq word command) then Some kind.Command else further_kind words moment
+-- the words that a top call knows as commands
+abbrev pub knows : TopCall → List ℕ → Bool
+knows call.Once word = bytes_eq word (codes "once")
+knows call.Jobs word = bytes_eq word (codes "build") || bytes_eq word (codes "session")
+
+-- the first thing that is wrong with the words of a top call; no command takes a further word
+abbrev pub usage_kind : TopCall → List (List ℕ) → ℤ → Option UsageKind
+usage_kind top [] moment = Some kind.Missing
+usage_kind top (word ∷ words) moment = if not (knows top word) then Some kind.Command else further_kind words moment

@@ -9,7 +9,7 @@ ghost use Rattle.site_program.specs.declared.usage.UsageKind.{UsageKind};
 
 use crate::line::do_line;
 use crate::status::{Status, status_of};
-use crate::usage::{tell_usage, usage_kind};
+use crate::usage::{TopCall, tell_usage, usage_kind};
 use out_tree::OutTree;
 use site_base::{ByteSink, Settings, Words};
 use site_script::Line;
@@ -53,14 +53,14 @@ pub fn run_once<S: SourceTree, O: OutTree, K: ByteSink>(
     ensures out_fault { (count : ℕ) → result ≡ Status.OutFault count → min (O.faults out.old + max count 1) (2 ^ 64 - 1) ≤ O.faults out.new }
     ensures sink_fault { result ≡ Status.SinkFault → Rose (K.faults sink.old) (K.faults sink.new) }
 {
-    match usage_kind(words, "once", moment) {
+    match usage_kind(words, TopCall::Once, moment) {
         Some(kind) => tell_usage(alloc, kind, sink),
         None => scan_and_build(alloc, moment, source, out, sink),
     }
 }
 
 // The session over the script `scan`, `build`, where the build is left out if the scan answers no number.
-fn scan_and_build<S: SourceTree, O: OutTree, K: ByteSink>(
+pub(crate) fn scan_and_build<S: SourceTree, O: OutTree, K: ByteSink>(
     alloc: Global,
     moment: i64,
     source: &mut S,
@@ -75,6 +75,7 @@ fn scan_and_build<S: SourceTree, O: OutTree, K: ByteSink>(
         S.files source.old ≡ Some given.source → O.contents out.old ≡ Some given.output → K.taken sink.old ≡ Some before →
         OnceRun given (start moment) before (K.taken sink.new) (O.contents out.new) result }
     ensures no_usage { (kind : UsageKind) → result ≡ Status.Usage kind → ⊥ }
+    ensures no_input { result ≡ Status.InputFault → ⊥ }
     ensures untouched { Untouched result → out.new ≡ out.old }
     ensures source_fault { result ≡ Status.SourceFault → Rose (S.faults source.old) (S.faults source.new) }
     ensures out_fault { (count : ℕ) → result ≡ Status.OutFault count → min (O.faults out.old + max count 1) (2 ^ 64 - 1) ≤ O.faults out.new }

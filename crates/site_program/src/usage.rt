@@ -2,7 +2,7 @@
 ghost use Rattle.std.specs.Prelude.{◌≡◌, ◌⊎◌, ◌++◌, ℕ, List, Some, IfOk, codes, length};
 ghost use Rattle.std.specs.String.{string_bytes};
 ghost use Rattle.site_base.specs.Ends.{Rose};
-ghost use Rattle.site_program.specs.Usage.{usage_number, usage_line, usage_kind, is_moment};
+ghost use Rattle.site_program.specs.Usage.{usage_number, usage_line, usage_kind, knows, is_moment};
 
 use crate::status::Status;
 use site_base::{ByteSink, Words};
@@ -40,14 +40,34 @@ impl UsageKind {
     }
 }
 
-// What is wrong with the words, where this one command is known.
-pub(crate) fn usage_kind(words: &Words, command: &str, moment: i64) -> Option<UsageKind>
-    ensures { result ≡ usage_kind command.now words.now moment }
+// A top call, which knows some of the commands.
+#[derive(Clone, Copy, Debug, PartialEq, Eq)]
+pub(crate) enum TopCall {
+    // `once`.
+    Once,
+    // `build` and `session`.
+    Jobs,
+}
+
+impl TopCall {
+    fn knows(self, word: &str) -> bool
+        ensures { result ≡ knows self word.now }
+    {
+        match self {
+            TopCall::Once => word == "once",
+            TopCall::Jobs => word == "build" || word == "session",
+        }
+    }
+}
+
+// What is wrong with the words of a top call.
+pub(crate) fn usage_kind(words: &Words, call: TopCall, moment: i64) -> Option<UsageKind>
+    ensures { result ≡ usage_kind call words.now moment }
 {
     if words.is_empty() {
         return Some(UsageKind::Missing);
     }
-    if words.at(0) != command {
+    if !call.knows(words.at(0)) {
         return Some(UsageKind::Command);
     }
     if words.len() > 1 {

@@ -7,3 +7,5 @@ mod once;
 mod real;
 #[cfg(test)]
 mod run;
+#[cfg(test)]
+mod sessions;

@@ -1,138 +1,169 @@
 // Worked runs of `once`.
 use crate::run::{Given, MOMENT};
 use site_program::{Status, UsageKind};
+use std::alloc::Global;
+use std::process::Abort;
 use std::test::Fail;
 
 const PAGE: &str = "---\ntitle: Hi\n---\n<h1>{{ page.title }}</h1>\n";
 
-// What is given, and what comes of it: the status number, the replies, and the output's files.
-type Row<'a> = (Given<'a>, u8, &'a str, &'a [(&'a str, &'a str)]);
+// Runs what is given, and looks at what comes of it: the status number, the replies, and the output's files.
+fn comes_out(
+    rt: &impl Abort,
+    alloc: Global,
+    given: Given<'_>,
+    status: u8,
+    replies: &str,
+    outputs: &[(&str, &str)],
+) -> Result<(), Fail> {
+    let outcome = given.run(alloc)?;
+    assert_eq!(rt; outcome.status.number(), status, "after {replies}");
+    assert_eq!(rt; outcome.replies.as_str(), replies);
+    assert!(rt; outcome.has(alloc, outputs)?, "after {replies}");
+    Ok(())
+}
 
 #[test]
 fn builds_and_refuses(rt: HostRuntime) -> Result<(), Fail> {
     let alloc = rt.alloc();
-    let rows: [Row<'_>; 12] = [
-        (
-            Given::once(&[("index.html", PAGE)]),
-            0,
-            "scanned 1\nbuilt rendered=1 reused=0 written=1 removed=0\n",
-            &[("index.html", "<h1>Hi</h1>\n")],
-        ),
-        (
-            Given::once(&[("index.html", PAGE), ("a.txt", "x")]),
-            0,
-            "scanned 2\nbuilt rendered=1 reused=0 written=2 removed=0\n",
-            &[("a.txt", "x"), ("index.html", "<h1>Hi</h1>\n")],
-        ),
-        // A form that is not built yet: the output is untouched.
-        (
-            Given {
-                outputs: &[("old.html", "old")],
-                ..Given::once(&[("a.md", "---\n---\nx")])
-            },
-            1,
-            "scanned 1\nfault F0 0 a.md\n",
-            &[("old.html", "old")],
-        ),
-        // What is kept stays, what the site lacks goes.
-        (
-            Given {
-                outputs: &[(".git/HEAD", "ref"), ("old.html", "old")],
-                ..Given::once(&[])
-            },
-            0,
-            "scanned 0\nbuilt rendered=0 reused=0 written=0 removed=1\n",
-            &[(".git/HEAD", "ref")],
-        ),
-        // The source gives no list.
-        (
-            Given {
-                outputs: &[("old.html", "old")],
-                source_fails: &[1],
-                ..Given::once(&[("a.txt", "x")])
-            },
-            3,
-            "scan-fault\n",
-            &[("old.html", "old")],
-        ),
-        // The source gives no bytes of its second file.
-        (
-            Given {
-                source_fails: &[3],
-                ..Given::once(&[("a.txt", "x"), ("b.txt", "y")])
-            },
-            3,
-            "scan-fault\n",
-            &[],
-        ),
-        // The output gives no list.
-        (
-            Given {
-                outputs: &[("old.html", "old")],
-                output_fails: &[1],
-                ..Given::once(&[("a.txt", "x")])
-            },
-            4,
-            "scanned 1\nout-fault 0\n",
-            &[("old.html", "old")],
-        ),
-        // A write fails: the path is named, and the other file is right.
-        (
-            Given {
-                output_fails: &[2],
-                ..Given::once(&[("p.html", "p"), ("q.html", "q")])
-            },
-            4,
-            "scanned 2\nout-fault 1\nmarked p.html\n",
-            &[("q.html", "q")],
-        ),
-        // A removal fails: all else is done all the same.
-        (
-            Given {
-                outputs: &[("n.html", "n"), ("o.html", "o")],
-                output_fails: &[2],
-                ..Given::once(&[("p.html", "p")])
-            },
-            4,
-            "scanned 1\nout-fault 1\nmarked n.html\n",
-            &[("n.html", "n"), ("p.html", "p")],
-        ),
-        // A file where a folder has to be is removed first.
-        (
-            Given {
-                outputs: &[("a", "x")],
-                ..Given::once(&[("a/index.html", "y")])
-            },
-            0,
-            "scanned 1\nbuilt rendered=0 reused=0 written=1 removed=1\n",
-            &[("a/index.html", "y")],
-        ),
-        // The sink fails at its first call, and at its second.
-        (
-            Given {
-                sink_fails: &[1],
-                ..Given::once(&[("a.txt", "x")])
-            },
-            6,
-            "",
-            &[],
-        ),
-        (
-            Given {
-                sink_fails: &[2],
-                ..Given::once(&[("a.txt", "x")])
-            },
-            6,
-            "scanned 1\n",
-            &[("a.txt", "x")],
-        ),
-    ];
-    for (place, (given, status, replies, outputs)) in rows.iter().enumerate() {
-        let outcome = given.run(alloc)?;
-        assert_eq!(rt; outcome.status.number(), *status, "row {place}");
-        assert_eq!(rt; outcome.replies.as_str(), *replies, "row {place}");
-        assert!(rt; outcome.has(alloc, outputs)?, "row {place}");
-    }
+    comes_out(
+        &rt,
+        alloc,
+        Given::once(&[("index.html", PAGE)]),
+        0,
+        "scanned 1\nbuilt rendered=1 reused=0 written=1 removed=0\n",
+        &[("index.html", "<h1>Hi</h1>\n")],
+    )?;
+    comes_out(
+        &rt,
+        alloc,
+        Given::once(&[("index.html", PAGE), ("a.txt", "x")]),
+        0,
+        "scanned 2\nbuilt rendered=1 reused=0 written=2 removed=0\n",
+        &[("a.txt", "x"), ("index.html", "<h1>Hi</h1>\n")],
+    )?;
+    // A form that is not built yet: the output is untouched.
+    comes_out(
+        &rt,
+        alloc,
+        Given {
+            outputs: &[("old.html", "old")],
+            ..Given::once(&[("a.md", "---\n---\nx")])
+        },
+        1,
+        "scanned 1\nfault F0 0 a.md\n",
+        &[("old.html", "old")],
+    )?;
+    // What is kept stays, what the site lacks goes.
+    comes_out(
+        &rt,
+        alloc,
+        Given {
+            outputs: &[(".git/HEAD", "ref"), ("old.html", "old")],
+            ..Given::once(&[])
+        },
+        0,
+        "scanned 0\nbuilt rendered=0 reused=0 written=0 removed=1\n",
+        &[(".git/HEAD", "ref")],
+    )?;
+    // The source gives no list.
+    comes_out(
+        &rt,
+        alloc,
+        Given {
+            outputs: &[("old.html", "old")],
+            source_fails: &[1],
+            ..Given::once(&[("a.txt", "x")])
+        },
+        3,
+        "scan-fault\n",
+        &[("old.html", "old")],
+    )?;
+    // The source gives no bytes of its second file.
+    comes_out(
+        &rt,
+        alloc,
+        Given {
+            source_fails: &[3],
+            ..Given::once(&[("a.txt", "x"), ("b.txt", "y")])
+        },
+        3,
+        "scan-fault\n",
+        &[],
+    )?;
+    // The output gives no list.
+    comes_out(
+        &rt,
+        alloc,
+        Given {
+            outputs: &[("old.html", "old")],
+            output_fails: &[1],
+            ..Given::once(&[("a.txt", "x")])
+        },
+        4,
+        "scanned 1\nout-fault 0\n",
+        &[("old.html", "old")],
+    )?;
+    // A write fails: the path is named, and the other file is right.
+    comes_out(
+        &rt,
+        alloc,
+        Given {
+            output_fails: &[2],
+            ..Given::once(&[("p.html", "p"), ("q.html", "q")])
+        },
+        4,
+        "scanned 2\nout-fault 1\nmarked p.html\n",
+        &[("q.html", "q")],
+    )?;
+    // A removal fails: all else is done all the same.
+    comes_out(
+        &rt,
+        alloc,
+        Given {
+            outputs: &[("n.html", "n"), ("o.html", "o")],
+            output_fails: &[2],
+            ..Given::once(&[("p.html", "p")])
+        },
+        4,
+        "scanned 1\nout-fault 1\nmarked n.html\n",
+        &[("n.html", "n"), ("p.html", "p")],
+    )?;
+    // A file where a folder has to be is removed first.
+    comes_out(
+        &rt,
+        alloc,
+        Given {
+            outputs: &[("a", "x")],
+            ..Given::once(&[("a/index.html", "y")])
+        },
+        0,
+        "scanned 1\nbuilt rendered=0 reused=0 written=1 removed=1\n",
+        &[("a/index.html", "y")],
+    )?;
+    // The sink fails at its first call, and at its second.
+    comes_out(
+        &rt,
+        alloc,
+        Given {
+            sink_fails: &[1],
+            ..Given::once(&[("a.txt", "x")])
+        },
+        6,
+        "",
+        &[],
+    )?;
+    comes_out(
+        &rt,
+        alloc,
+        Given {
+            sink_fails: &[2],
+            ..Given::once(&[("a.txt", "x")])
+        },
+        6,
+        "scanned 1\n",
+        &[("a.txt", "x")],
+    )?;
     Ok(())
 }
 

@@ -1,11 +1,26 @@
-// Runs of `once` over the folder that a test stands in.
+// Runs of `once` over real folders.
 use crate::run::MOMENT;
 use out_tree::DiskOut;
 use site_base::{MemorySink, Words};
 use site_program::run_once;
 use source_tree::DiskSource;
-use std::fs;
 use std::test::Fail;
+use std::{env, fs};
+
+// Makes an empty folder, and goes into it.
+fn enter(rt: &HostRuntime, folder: &str) -> Result<(), Fail> {
+    let _ = fs::remove_dir_all(rt, folder);
+    fs::create_dir_all(rt, folder)?;
+    env::set_current_dir(rt, folder)?;
+    Ok(())
+}
+
+// Leaves the folder, and removes it.
+fn leave(rt: &HostRuntime, folder: &str) -> Result<(), Fail> {
+    env::set_current_dir(rt, "..")?;
+    fs::remove_dir_all(rt, folder)?;
+    Ok(())
+}
 
 // The status number and the replies of `once` in the current folder.
 fn once_here(rt: HostRuntime) -> Result<(u8, String), Fail> {
@@ -24,6 +39,7 @@ fn once_here(rt: HostRuntime) -> Result<(u8, String), Fail> {
 
 #[test]
 fn builds_a_folder(rt: HostRuntime) -> Result<(), Fail> {
+    enter(&rt, "builds_a_folder")?;
     fs::create_dir_all(&rt, "notes/.git")?;
     fs::create_dir_all(&rt, "_site/old")?;
     fs::write(
@@ -49,21 +65,23 @@ fn builds_a_folder(rt: HostRuntime) -> Result<(), Fail> {
     );
     assert_eq!(rt; fs::read_to_string(&rt, "_site/notes/a.txt")?.as_str(), "x");
     assert!(rt; fs::read_dir(&rt, "_site/old").is_err());
-    Ok(())
+    leave(&rt, "builds_a_folder")
 }
 
 #[test]
 fn refuses_a_name_that_is_no_path(rt: HostRuntime) -> Result<(), Fail> {
+    enter(&rt, "refuses_a_name_that_is_no_path")?;
     fs::write(&rt, "a.txt", "x")?;
     fs::write(&rt, "b\u{1}", "x")?;
     let (status, replies) = once_here(rt)?;
     assert_eq!(rt; (status, replies.as_str()), (3, "scan-fault\n"));
     assert!(rt; fs::read_dir(&rt, "_site").is_err());
-    Ok(())
+    leave(&rt, "refuses_a_name_that_is_no_path")
 }
 
 #[test]
 fn refuses_an_output_that_is_a_file(rt: HostRuntime) -> Result<(), Fail> {
+    enter(&rt, "refuses_an_output_that_is_a_file")?;
     fs::write(&rt, "a.txt", "x")?;
     fs::write(&rt, "_site", "old")?;
     let (status, replies) = once_here(rt)?;
@@ -73,5 +91,5 @@ fn refuses_an_output_that_is_a_file(rt: HostRuntime) -> Result<(), Fail> {
         (1, "scanned 2\nfault F0 0 _site\n")
     );
     assert_eq!(rt; fs::read_to_string(&rt, "_site")?.as_str(), "old");
-    Ok(())
+    leave(&rt, "refuses_an_output_that_is_a_file")
 }

@@ -3,7 +3,8 @@
 
 use out_tree::DiskOut;
 use site_base::Words;
-use site_program::{StdSink, run_once};
+use site_program::{StdSink, run_jobs, run_once};
+use site_script::StdInput;
 use source_tree::DiskSource;
 use std::env;
 use std::process::ExitCode;
@@ -25,14 +26,27 @@ fn main(rt: HostRuntime) -> ExitCode {
     let mut source = DiskSource::new(rt);
     let mut out = DiskOut::new(rt);
     let mut sink = StdSink::new(rt);
-    let status = run_once(
-        rt.alloc(),
-        &words,
-        moment(&rt),
-        &mut source,
-        &mut out,
-        &mut sink,
-    );
+    let status = if is_for_jobs(&words) {
+        run_jobs(
+            &rt,
+            rt.alloc(),
+            &words,
+            moment(&rt),
+            &mut source,
+            &mut out,
+            &mut StdInput::new(rt),
+            &mut sink,
+        )
+    } else {
+        run_once(
+            rt.alloc(),
+            &words,
+            moment(&rt),
+            &mut source,
+            &mut out,
+            &mut sink,
+        )
+    };
     ExitCode::from(status.number())
 }
 
@@ -48,6 +62,11 @@ fn words(rt: &HostRuntime) -> Result<Words, u8> {
         }
     }
     Ok(words)
+}
+
+// Whether the words ask for a command that takes its time: a build, or a session.
+fn is_for_jobs(words: &Words) -> bool {
+    !words.is_empty() && matches!(words.at(0), "build" | "session")
 }
 
 // The moment of the clock, in seconds from 1970.

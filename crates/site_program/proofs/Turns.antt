@@ -1,0 +1,257 @@
+-- One line of a session, and the run that it makes longer.
+use Rattle.std.proofs.Common.{◌≡◌, ◌⊎◌, inl, inr, ℕ, ◌+◌, ◌-◌, ◌^◌, ◌≤◌, min, Bool, true, false, List, [], ◌∷◌, ◌++◌, length, refl, sym, ◌∙◌, ap, subst, Option, Some, None, append_assoc, length-append, arith}
+use Rattle.std.specs.Prelude.{take, flat_map, sum_by}
+use Rattle.std.specs.Option.{IfNone, IfSome}
+use Rattle.std.proofs.lemmas.List.{append-nil}
+use Rattle.std.proofs.lemmas.List.Sums.{sum_by-append}
+use Rattle.site_base.specs.Places.{Files}
+use Rattle.site_script.specs.Line.{line_number, ends}
+use Rattle.site_script.specs.Script.{Taken, first_line, is_bad, IsFirst}
+use Rattle.site_script.specs.declared.line.Line.{Line}
+use Rattle.site_script.specs.declared.line.Line.TheVariants as line
+use Rattle.site_script.specs.declared.line.ScriptKind.{ScriptKind}
+use Rattle.site_session.specs.Standing.{Standing, Holds}
+use Rattle.site_session.specs.Session.{Given, Answers, Run, step, event_of, source_faults, output_faults}
+use Rattle.site_session.specs.Bytes.{reply_bytes, written}
+use Rattle.site_session.specs.declared.reply.Reply.{Reply}
+use Rattle.site_session.specs.declared.reply.Reply.TheVariants.{Scanned, ScanFault, Faulty, Fine, Absent, Built, Marked, Unlisted, BadLine, Silent}
+use Rattle.site_program.specs.Runs.{Stopped, IsCut}
+use Rattle.site_program.specs.Sessions.{Counts, Counted, Going, SoFar, SessionRun, AtEnd, AtBad, AtInput, AtLine, next_of, IsRead, Halted, EndsAt, GoesOn, EndsSession, bad_status}
+use Rattle.site_program.specs.declared.status.Status.{Status}
+use Rattle.site_program.specs.declared.status.Status.TheVariants as status
+
+-- a line that does not end the script
+goes_on : (given : Given) (old new : Standing) (number : ℕ) (at : Line) (reply : Reply) → (at ≡ line.End → ⊥) → (at ≡ line.Eof → ⊥) → IsRead at
+    → Answers given old number at reply new → ((bad : ℕ) (kind : ScriptKind) → reply ≡ BadLine bad kind → ⊥) → ends at ≡ false
+goes_on given old new number line.Scan reply end eof read answers other = refl
+goes_on given old new number (line.Put path bytes) reply end eof read answers other = refl
+goes_on given old new number (line.Delete path) reply end eof read answers other = refl
+goes_on given old new number (line.Time seconds) reply end eof read answers other = refl
+goes_on given old new number line.Build reply end eof read answers other = refl
+goes_on given old new number line.End reply end eof read answers other = absurd (end refl)
+goes_on given old new number line.Eof reply end eof read answers other = absurd (eof refl)
+goes_on given old new number (line.Bad bad kind) reply end eof read answers other = absurd (other bad kind (ap (λ (s : Standing × Reply). s.1) (sym answers)))
+goes_on given old new number line.Failed reply end eof read answers other = absurd (read.0 refl)
+goes_on given old new number line.Memory reply end eof read answers other = absurd (read.1 refl)
+
+pub record Turned (given : Given) (old : Standing) (number : ℕ) (at : Line) (before : List ℕ) (new : Standing) (after : Option (List ℕ)) (told : Option Files) (counts : Counts) (result : Option Status) : Type 0 where
+  pub next : IfNone result (GoesOn given old number at before new after counts)
+  pub ends_at : IfSome result (λ s. EndsAt given old number at before new after told s)
+
+pub turned : (given : Given) (old : Standing) (number : ℕ) (at : Line) (before : List ℕ) (new : Standing) (after : Option (List ℕ)) (told : Option Files) (counts : Counts) (reply : Reply)
+    → (at ≡ line.End → ⊥) → (at ≡ line.Eof → ⊥) → IsRead at
+    → Answers given old number at reply new → after ≡ Some (before ++ reply_bytes reply) → Holds told new.belief given.output → Counted counts (reply ∷ [])
+    → Turned given old number at before new after told counts (bad_status reply)
+turned given old number at before new after told counts (BadLine bad kind) end eof read answers bytes holds counted = record { next = tt; ends_at = (read, answers, bytes, holds) }
+turned given old number at before new after told counts (Scanned count) end eof read answers bytes holds counted =
+    record { next = (goes_on given old new number at (Scanned count) end eof read answers (λ b k e. cc (e)), (Scanned count, answers, bytes, counted)); ends_at = tt }
+turned given old number at before new after told counts ScanFault end eof read answers bytes holds counted =
+    record { next = (goes_on given old new number at ScanFault end eof read answers (λ b k e. cc (e)), (ScanFault, answers, bytes, counted)); ends_at = tt }
+turned given old number at before new after told counts (Faulty fault) end eof read answers bytes holds counted =
+    record { next = (goes_on given old new number at (Faulty fault) end eof read answers (λ b k e. cc (e)), (Faulty fault, answers, bytes, counted)); ends_at = tt }
+turned given old number at before new after told counts Fine end eof read answers bytes holds counted =
+    record { next = (goes_on given old new number at Fine end eof read answers (λ b k e. cc (e)), (Fine, answers, bytes, counted)); ends_at = tt }
+turned given old number at before new after told counts Absent end eof read answers bytes holds counted =
+    record { next = (goes_on given old new number at Absent end eof read answers (λ b k e. cc (e)), (Absent, answers, bytes, counted)); ends_at = tt }
+turned given old number at before new after told counts (Built report) end eof read answers bytes holds counted =
+    record { next = (goes_on given old new number at (Built report) end eof read answers (λ b k e. cc (e)), (Built report, answers, bytes, counted)); ends_at = tt }
+turned given old number at before new after told counts (Marked paths) end eof read answers bytes holds counted =
+    record { next = (goes_on given old new number at (Marked paths) end eof read answers (λ b k e. cc (e)), (Marked paths, answers, bytes, counted)); ends_at = tt }
+turned given old number at before new after told counts Unlisted end eof read answers bytes holds counted =
+    record { next = (goes_on given old new number at Unlisted end eof read answers (λ b k e. cc (e)), (Unlisted, answers, bytes, counted)); ends_at = tt }
+turned given old number at before new after told counts Silent end eof read answers bytes holds counted =
+    record { next = (goes_on given old new number at Silent end eof read answers (λ b k e. cc (e)), (Silent, answers, bytes, counted)); ends_at = tt }
+
+pub halts : (given : Given) (old : Standing) (number : ℕ) (at : Line) (before part : List ℕ) (new : Standing) (after : Option (List ℕ)) (told : Option Files) (s : Status)
+    → IsRead at → Stopped given old number at told part → after ≡ Some (before ++ part) → IsCut s part → EndsAt given old number at before new after told s
+halts given old number at before part new after told s read stopped bytes cut =
+    elim cut.cases [
+      | inl e ↦ subst (λ (x : Status). EndsAt given old number at before new after told x) (sym e) (inr (read, (part, stopped, bytes, subst (λ (x : Status). IsCut x part) e cut)))
+      | inr e ↦ subst (λ (x : Status). EndsAt given old number at before new after told x) (sym e) (inr (read, (part, stopped, bytes, subst (λ (x : Status). IsCut x part) e cut)))
+    ]
+
+-- one line more
+taken_more : (n k : ℕ) (text : List ℕ) (lines : List Line) (left : List ℕ) (at : Line) → k ≡ n + length lines → Taken n text lines left → (first_line (line_number k) left).0 ≡ at
+    → Taken n text (lines ++ at ∷ []) (first_line (line_number k) left).1
+taken_more n k text [] left at is taken next =
+    let same : k ≡ n = omega arith in
+    let here : first_line (line_number k) left ≡ first_line (line_number n) text = (λ i. first_line (line_number (same i)) (taken i)) in
+    (ap (λ (p : Line × List ℕ). p.0) (sym here) ∙ next, ap (λ (p : Line × List ℕ). p.1) here)
+taken_more n k text (l ∷ lines) left at is taken next =
+    let same : k ≡ (n + 1) + length lines = omega arith in
+    (taken.0, taken_more (n + 1) k (first_line (line_number n) text).1 lines left at same taken.1 next)
+
+run_more : (given : Given) (old mid new : Standing) (n k : ℕ) (lines : List Line) (replies : List Reply) (at : Line) (reply : Reply) → k ≡ n + length lines
+    → Run given old n lines replies mid → Answers given mid (line_number k) at reply new → Run given old n (lines ++ at ∷ []) (replies ++ reply ∷ []) new
+run_more given old mid new n k [] [] at reply is run answers =
+    let same : k ≡ n = omega arith in
+    (new, (let there : Answers given old (line_number n) at reply new = subst (λ (s : Standing). Answers given s (line_number n) at reply new) run (subst (λ (m : ℕ). Answers given mid (line_number m) at reply new) same answers) in there), refl)
+run_more given old mid new n k (l ∷ lines) (r ∷ replies) at reply is run answers =
+    let same : k ≡ (n + 1) + length lines = omega arith in
+    (run.0, run.1, run_more given run.0 mid new (n + 1) k lines replies at reply same run.2 answers)
+run_more given old mid new n k [] (r ∷ replies) at reply is run answers = absurd run
+run_more given old mid new n k (l ∷ lines) [] at reply is run answers = absurd run
+
+written_more : (replies : List Reply) (reply : Reply) → written (replies ++ reply ∷ []) ≡ written replies ++ reply_bytes reply
+written_more [] reply = append-nil (reply_bytes reply)
+written_more (r ∷ replies) reply = ap (λ b. reply_bytes r ++ b) (written_more replies reply) ∙ sym (append_assoc (reply_bytes r) (written replies) (reply_bytes reply))
+
+good_line : (at : Line) → ends at ≡ false → is_bad at ≡ false
+good_line line.Scan e = refl
+good_line (line.Put path bytes) e = refl
+good_line (line.Delete path) e = refl
+good_line (line.Time seconds) e = refl
+good_line line.Build e = refl
+good_line line.End e = refl
+good_line line.Eof e = refl
+good_line line.Failed e = refl
+good_line line.Memory e = refl
+good_line (line.Bad number kind) e = absurd (cc (e))
+
+-- the counts of a run whose first are these, and which stand at these now
+abbrev pub moved : Counts → ℕ → ℕ → Counts
+moved counts source output = record { source_first = counts.source_first; source_now = source; output_first = counts.output_first; output_now = output }
+
+-- the counts of what followed
+abbrev pub following : Counts → ℕ → ℕ → Counts
+following counts source output = record { source_first = counts.source_now; source_now = source; output_first = counts.output_now; output_now = output }
+
+rises : (first mid now some more : ℕ) → min (first + some) (2 ^ 64 - 1) ≤ mid → min (mid + more) (2 ^ 64 - 1) ≤ now → min (first + (some + more)) (2 ^ 64 - 1) ≤ now
+rises first mid now some more one two = omega (arith, one, two)
+
+counted_more : (counts : Counts) (source output : ℕ) (replies : List Reply) (reply : Reply) → Counted counts replies → Counted (following counts source output) (reply ∷ [])
+    → Counted (moved counts source output) (replies ++ reply ∷ [])
+counted_more counts source output replies reply some more = record {
+  source = subst (λ (n : ℕ). min (counts.source_first + n) (2 ^ 64 - 1) ≤ source) (sym (sum_by-append source_faults replies (reply ∷ [])))
+      (rises counts.source_first counts.source_now source (sum_by source_faults replies) (sum_by source_faults (reply ∷ [])) some.source more.source);
+  output = subst (λ (n : ℕ). min (counts.output_first + n) (2 ^ 64 - 1) ≤ output) (sym (sum_by-append output_faults replies (reply ∷ [])))
+      (rises counts.output_first counts.output_now output (sum_by output_faults replies) (sum_by output_faults (reply ∷ [])) some.output more.output);
+}
+
+counted_later : (counts : Counts) (source output : ℕ) (replies : List Reply) → Counted counts replies → counts.source_now ≤ source → counts.output_now ≤ output → Counted (moved counts source output) replies
+counted_later counts source output replies some source_later output_later = record {
+  source = omega (arith, some.source, source_later);
+  output = omega (arith, some.output, output_later);
+}
+
+-- the counts of one reply
+pub counted_one : (counts : Counts) (reply : Reply) → min (counts.source_first + source_faults reply) (2 ^ 64 - 1) ≤ counts.source_now
+    → min (counts.output_first + output_faults reply) (2 ^ 64 - 1) ≤ counts.output_now → Counted counts (reply ∷ [])
+counted_one counts reply source output = record { source = omega (arith, source); output = omega (arith, output) }
+
+-- a run in which nothing was done
+pub counted_none : (source output : ℕ) → Counted (record { source_first = source; source_now = source; output_first = output; output_now = output }) []
+counted_none source output = record { source = omega arith; output = omega arith }
+
+-- a reply ends the session only where it is that of a bad line
+pub bad_ends : (reply : Reply) → IfSome (bad_status reply) EndsSession
+bad_ends (BadLine number kind) = tt
+bad_ends (Scanned count) = tt
+bad_ends ScanFault = tt
+bad_ends (Faulty fault) = tt
+bad_ends Fine = tt
+bad_ends Absent = tt
+bad_ends (Built report) = tt
+bad_ends (Marked paths) = tt
+bad_ends Unlisted = tt
+bad_ends Silent = tt
+
+counted_quiet : (counts : Counts) (source output : ℕ) (reply : Reply) → source_faults reply ≡ 0 → output_faults reply ≡ 0 → counts.source_now ≤ source → counts.output_now ≤ output
+    → Counted (following counts source output) (reply ∷ [])
+counted_quiet counts source output reply none nothing source_later output_later = record {
+  source = omega (arith, none, source_later);
+  output = omega (arith, nothing, output_later);
+}
+
+-- what reading a line told
+abbrev Reads : ℕ → Option (List ℕ) → Option (List ℕ) → Line → Type 0
+Reads number unread rest at = (left : List ℕ) → unread ≡ Some left → (at ≡ line.Failed) ⊎ ((at ≡ line.Memory) ⊎ IsFirst (first_line (line_number number) left) at rest)
+
+module _ (given : Given) (first : Standing) (text before : List ℕ) (now : Standing) (count number : ℕ) (unread rest after : Option (List ℕ)) (told : Option Files) (counts : Counts) (source output : ℕ) (at : Line)
+    (so : SoFar given first text before now count unread after told counts) (source_later : counts.source_now ≤ source) (output_later : counts.output_now ≤ output) (reads : Reads count unread rest at) (number_is : number ≡ line_number count) where
+  -- the line that was read is the next
+  is_next : IsRead at → IsFirst (next_of so.lines so.left) at rest
+  is_next read =
+      let same : line_number count ≡ line_number (length so.lines) = omega (arith, so.number_is) in
+      elim (reads so.left so.unread_is) [
+        | inl failed ↦ absurd (read.0 failed)
+        | inr others ↦ elim others [
+          | inl memory ↦ absurd (read.1 memory)
+          | inr e ↦ (ap (λ n. (first_line n so.left).0) (sym same) ∙ e.0, λ good. e.1 good ∙ ap (λ n. Some (first_line n so.left).1) same)
+        ]
+      ]
+
+  numbered : number ≡ line_number (length so.lines)
+  numbered = omega (arith, so.number_is, number_is)
+
+  is_length : length so.lines ≡ 0 + length so.lines
+  is_length = omega arith
+
+  longer : (new : Standing) (reply : Reply) (after' : Option (List ℕ)) (told' : Option Files) → IsRead at → Answers given now number at reply new → after' ≡ Some ((before ++ written so.replies) ++ reply_bytes reply) → Holds told' new.belief given.output
+      → Counted (following counts source output) (reply ∷ [])
+      → Going given first text before (so.lines ++ at ∷ []) (so.replies ++ reply ∷ []) new (next_of so.lines so.left).1 after' told' (moved counts source output)
+  longer new reply after' told' read answers bytes holds more = record {
+    taken = taken_more 0 (length so.lines) text so.lines so.left at is_length so.going.taken (is_next read).0;
+    run = run_more given first now new 0 (length so.lines) so.lines so.replies at reply is_length so.going.run (subst (λ (n : ℕ). Answers given now n at reply new) numbered answers);
+    bytes = bytes ∙ ap Some (append_assoc before (written so.replies) (reply_bytes reply)) ∙ ap (λ b. Some (before ++ b)) (sym (written_more so.replies reply));
+    output = holds;
+    counted = counted_more counts source output so.replies reply so.going.counted more;
+  }
+
+  pub session_more : (new : Standing) (after' : Option (List ℕ)) (told' : Option Files) → ((w : List ℕ) → after ≡ Some w → GoesOn given now number at w new after' (following counts source output)) → Holds told' new.belief given.output
+      → SoFar given first text before new number rest after' told' (moved counts source output)
+  session_more new after' told' goes holds =
+      let g = goes (before ++ written so.replies) so.going.bytes in
+      let read : IsRead at = (λ e. (let wrong : true ≡ false = ap ends (sym e) ∙ g.0 in cc (wrong)), λ e. (let wrong : true ≡ false = ap ends (sym e) ∙ g.0 in cc (wrong))) in
+      record {
+        lines = so.lines ++ at ∷ [];
+        replies = so.replies ++ g.1.0 ∷ [];
+        left = (next_of so.lines so.left).1;
+        going = longer new g.1.0 after' told' read g.1.1 g.1.2 holds g.1.3;
+        unread_is = (is_next read).1 (good_line at g.0);
+        number_is = (let more : length (so.lines ++ at ∷ []) ≡ length so.lines + 1 = length-append so.lines (at ∷ []) in omega (arith, numbered));
+      }
+
+  still : Counted (moved counts source output) so.replies
+  still = counted_later counts source output so.replies so.going.counted source_later output_later
+
+  same_going : (after' : Option (List ℕ)) (told' : Option Files) → after' ≡ Some (before ++ written so.replies) → Holds told' now.belief given.output → Going given first text before so.lines so.replies now so.left after' told' (moved counts source output)
+  same_going after' told' bytes holds = record { taken = so.going.taken; run = so.going.run; bytes = bytes; output = holds; counted = still }
+
+  cut_at : (part : List ℕ) (after' : Option (List ℕ)) (told' : Option Files) (s : Status) → Stopped given now (line_number (length so.lines)) (next_of so.lines so.left).0 told' part → after' ≡ Some ((before ++ written so.replies) ++ part) → IsCut s part
+      → SessionRun given first text before rest after' told' (moved counts source output) s
+  cut_at part after' told' s stopped bytes cut =
+      AtLine so.lines so.replies now so.left part so.going.taken so.going.run stopped (bytes ∙ ap Some (append_assoc before (written so.replies) part)) still cut
+
+  halted : (after' : Option (List ℕ)) (told' : Option Files) (s : Status) → Halted given now number at (before ++ written so.replies) after' told' s → SessionRun given first text before rest after' told' (moved counts source output) s
+  halted after' told' s (inl h) =
+      cut_at [] after' told' s (inl (h.2.1, refl)) (h.2.0 ∙ ap Some (sym (append-nil (before ++ written so.replies)))) (record { cases = inr h.1; memory = λ _. refl })
+  halted after' told' s (inr h) =
+      cut_at h.1.0 after' told' s (subst (λ (l : Line). Stopped given now (line_number (length so.lines)) l told' h.1.0) (sym (is_next h.0).0) (subst (λ (n : ℕ). Stopped given now n at told' h.1.0) numbered h.1.1)) h.1.2 h.1.3
+
+  pub session_ends : (new : Standing) (after' : Option (List ℕ)) (told' : Option Files) (s : Status) → ((w : List ℕ) → after ≡ Some w → EndsAt given now number at w new after' told' s)
+      → SessionRun given first text before rest after' told' (moved counts source output) s
+  session_ends new after' told' s at_end = by s (at_end (before ++ written so.replies) so.going.bytes)
+    where
+      read_of : ((at ≡ line.End) ⊎ (at ≡ line.Eof)) → IsRead at
+      read_of (inl e) = (λ f. (let wrong : line.End ≡ line.Failed = sym e ∙ f in cc (wrong)), λ f. (let wrong : line.End ≡ line.Memory = sym e ∙ f in cc (wrong)))
+      read_of (inr e) = (λ f. (let wrong : line.Eof ≡ line.Failed = sym e ∙ f in cc (wrong)), λ f. (let wrong : line.Eof ≡ line.Memory = sym e ∙ f in cc (wrong)))
+
+      good_end : ((at ≡ line.End) ⊎ (at ≡ line.Eof)) → is_bad at ≡ false
+      good_end (inl e) = ap is_bad e
+      good_end (inr e) = ap is_bad e
+
+      next_is : ((at ≡ line.End) ⊎ (at ≡ line.Eof)) → (next_of so.lines so.left).0 ≡ at → ((next_of so.lines so.left).0 ≡ line.End) ⊎ ((next_of so.lines so.left).0 ≡ line.Eof)
+      next_is (inl e) n = inl (n ∙ e)
+      next_is (inr e) n = inr (n ∙ e)
+
+      by : (s : Status) → EndsAt given now number at (before ++ written so.replies) new after' told' s → SessionRun given first text before rest after' told' (moved counts source output) s
+      by status.Done e = AtEnd so.lines so.replies now so.left (same_going after' told' e.1.0 e.1.1) (next_is e.0 (is_next (read_of e.0)).0) ((is_next (read_of e.0)).1 (good_end e.0)) refl
+      by status.InputFault e = AtInput so.lines so.replies now so.left (same_going after' told' e.1.0 e.1.1) refl
+      by (status.Script bad kind) e = AtBad (so.lines ++ at ∷ []) so.replies new (next_of so.lines so.left).1 bad kind (longer new (BadLine bad kind) after' told' e.0 e.1 e.2 e.3 (counted_quiet counts source output (BadLine bad kind) refl refl source_later output_later)) refl
+      by status.SinkFault e = halted after' told' status.SinkFault e
+      by status.Memory e = halted after' told' status.Memory e
+      by (status.Site fault) e = absurd e
+      by (status.Usage kind) e = absurd e
+      by status.SourceFault e = absurd e
+      by (status.OutFault count) e = absurd e

@@ -1,0 +1,18 @@
+use Rattle.std.proofs.Common.{◌≡◌, ap, subst, rules}
+use Rattle.site_session.specs.Standing.{Standing}
+use Rattle.site_session.specs.Session.{Given, start}
+use Rattle.site_program.specs.Sessions.{Counts, SessionRun}
+use Rattle.site_program.proofs.Onces.{holds_first}
+use Rattle.site_program.proofs.jobs.run_session.Goals as goal
+
+pub returns-clause-run : goal.returns-clause-run
+returns-clause-run g c = λ given text before told out bytes w.
+    let opened : c.open-session.result ≡ start c.args.moment = search rules in
+    let counts : Counts = record {
+      source_first = g.S.SourceTree.faults c.args.source.now;
+      source_now = g.S.SourceTree.faults c.do_lines.new.source;
+      output_first = g.O.OutTree.faults c.args.out.now;
+      output_now = g.O.OutTree.faults c.do_lines.new.out;
+    } in
+    subst (λ (s : Standing). SessionRun given s text before (g.I.ByteSource.left c.do_lines.new.input) (g.K.ByteSink.taken c.do_lines.new.sink) (g.O.OutTree.contents c.do_lines.new.out) counts c.do_lines.result) opened
+    (c.do_lines.ensures.run given text before told (holds_first c.open-session.result _ given.output (ap (λ (s : Standing). s.belief) opened) out) bytes w)

@@ -1,0 +1,42 @@
+use Rattle.std.proofs.Common.{◌≡◌, subst, sym, Option, List, ℕ, rules}
+use Rattle.std.specs.Option.{IfNone, IfSome}
+use Rattle.site_session.specs.Session.{Given}
+use Rattle.site_program.specs.Sessions.{Counts, GoesOn, EndsAt, EndsSession}
+use Rattle.site_program.specs.declared.status.Status.{Status}
+use Rattle.site_program.proofs.Turns.{Turned, turned, halts, counted_one, bad_ends}
+use Rattle.site_program.proofs.jobs.turn.Goals as goal
+
+pub returns-in-Ok-clause-next : goal.returns-in-Ok-clause-next
+returns-in-Ok-clause-next g c = λ given before told h w.
+    let counts : Counts = record {
+      source_first = g.S.SourceTree.faults c.args.source.now;
+      source_now = g.S.SourceTree.faults c.do_line.new.source;
+      output_first = g.O.OutTree.faults c.args.out.now;
+      output_now = g.O.OutTree.faults c.do_line.new.out;
+    } in
+    subst (λ (r : Option Status). IfNone r (GoesOn given c.args.session.now c.args.number c.args.line before c.do_line.new.session (g.K.ByteSink.taken c.do_line.new.sink) counts)) (sym c.bad_status.ensures)
+    (turned given c.args.session.now c.args.number c.args.line before c.do_line.new.session _ (g.O.OutTree.contents c.do_line.new.out) counts c.in-Ok.reply c.in_default.not-End c.in_default.not-Eof (c.in_default.not-Failed, c.in_default.not-Memory)
+    (c.in-Ok.ensures.answers given told h) (c.in-Ok.ensures.bytes before w) (c.do_line.ensures.belief given.output h)
+    (counted_one counts c.in-Ok.reply c.in-Ok.ensures.source_cause c.in-Ok.ensures.output_cause)).next
+
+pub returns-in-Ok-clause-ends : goal.returns-in-Ok-clause-ends
+returns-in-Ok-clause-ends g c = λ given before told h w.
+    let counts : Counts = record {
+      source_first = g.S.SourceTree.faults c.args.source.now;
+      source_now = g.S.SourceTree.faults c.do_line.new.source;
+      output_first = g.O.OutTree.faults c.args.out.now;
+      output_now = g.O.OutTree.faults c.do_line.new.out;
+    } in
+    subst (λ (r : Option Status). IfSome r (λ s. EndsAt given c.args.session.now c.args.number c.args.line before c.do_line.new.session (g.K.ByteSink.taken c.do_line.new.sink) (g.O.OutTree.contents c.do_line.new.out) s)) (sym c.bad_status.ensures)
+    (turned given c.args.session.now c.args.number c.args.line before c.do_line.new.session _ _ counts c.in-Ok.reply c.in_default.not-End c.in_default.not-Eof (c.in_default.not-Failed, c.in_default.not-Memory)
+    (c.in-Ok.ensures.answers given told h) (c.in-Ok.ensures.bytes before w) (c.do_line.ensures.belief given.output h)
+    (counted_one counts c.in-Ok.reply c.in-Ok.ensures.source_cause c.in-Ok.ensures.output_cause)).ends_at
+
+pub returns-in-Ok-clause-status : goal.returns-in-Ok-clause-status
+returns-in-Ok-clause-status g c = subst (λ (r : Option Status). IfSome r EndsSession) (sym c.bad_status.ensures) (bad_ends c.in-Ok.reply)
+
+pub returns-in-Err-clause-ends : goal.returns-in-Err-clause-ends
+returns-in-Err-clause-ends g c = λ given before told h w.
+    let s = c.in-Err.ensures.stopped given before told h w in
+    halts given c.args.session.now c.args.number c.args.line before s.0 c.do_line.new.session _ _ c.status.result (c.in_default.not-Failed, c.in_default.not-Memory) s.1 s.2
+    (record { cases = c.status.ensures.cases; memory = λ e. s.3 (c.status.ensures.memory e) })

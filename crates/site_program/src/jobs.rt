@@ -1,0 +1,182 @@
+// Builds and sessions.
+ghost use Rattle.std.specs.Prelude.{◌≡◌, ◌⊎◌, ◌++◌, ◌∷◌, [], ◌≤◌, ◌+◌, ◌-◌, ◌^◌, min, max, ℕ, List, Some, None, codes, IfNone, IfSome};
+ghost use Rattle.site_base.specs.Ends.{Rose};
+ghost use Rattle.site_base.specs.Places.{Files};
+ghost use Rattle.site_session.specs.Standing.{Holds};
+ghost use Rattle.site_session.specs.Session.{Given, start};
+ghost use Rattle.site_program.specs.Runs.{OnceRun};
+ghost use Rattle.site_program.specs.Once.{jobs_usage, Took, WasUsage, Ended};
+ghost use Rattle.site_program.specs.Sessions.{SessionRun, EndsAt, GoesOn, EndsSession, bad_status};
+ghost use Rattle.site_program.specs.declared.usage.UsageKind.{UsageKind};
+
+use crate::line::do_line;
+use crate::once::scan_and_build;
+use crate::status::Status;
+use crate::usage::{TopCall, tell_usage, usage_kind};
+use out_tree::OutTree;
+use site_base::{ByteSink, ByteSource, Settings, Words};
+use site_script::{Line, ScriptReader, next_line};
+use site_session::{Reply, Session};
+use source_tree::SourceTree;
+use std::alloc::Global;
+use std::sync::Wait;
+
+/// The commands `session`, which does the lines of the script on the input, and `build`, which is the script `scan`,
+/// `build` and leaves the build out where the scan answers no number.
+///
+/// It waits for its input, which may have no end.
+pub fn run_jobs<H: Wait, S: SourceTree, O: OutTree, I: ByteSource, K: ByteSink>(
+    rt: &H,
+    alloc: Global,
+    words: &Words,
+    moment: i64,
+    source: &mut S,
+    out: &mut O,
+    input: &mut I,
+    sink: &mut K,
+) -> Status
+    // A session does the lines of its script, and tells what it did.
+    ensures session { (given : Given) (text before : List ℕ) → jobs_usage words.now moment ≡ None → words.now ≡ codes "session" ∷ [] →
+        S.files source.old ≡ Some given.source → O.contents out.old ≡ Some given.output → I.left input.old ≡ Some text → K.taken sink.old ≡ Some before →
+        SessionRun given (start moment) text before (I.left input.new) (K.taken sink.new) (O.contents out.new)
+        (record { source_first = S.faults source.old; source_now = S.faults source.new; output_first = O.faults out.old; output_now = O.faults out.new }) result }
+    ensures session_status { jobs_usage words.now moment ≡ None → words.now ≡ codes "session" ∷ [] → EndsSession result }
+
+    // When each status of a build comes, what the output then has,
+    ensures build { (given : Given) → jobs_usage words.now moment ≡ None → words.now ≡ codes "build" ∷ [] →
+        S.files source.old ≡ Some given.source → O.contents out.old ≡ Some given.output →
+        Ended given (O.contents out.old) (O.contents out.new) result }
+    // what the sink then took,
+    ensures build_took { (given : Given) (before : List ℕ) → jobs_usage words.now moment ≡ None → words.now ≡ codes "build" ∷ [] →
+        S.files source.old ≡ Some given.source → O.contents out.old ≡ Some given.output → K.taken sink.old ≡ Some before →
+        Took given before (K.taken sink.new) result }
+    // and how the run is one of a session.
+    ensures build_run { (given : Given) (before : List ℕ) → jobs_usage words.now moment ≡ None → words.now ≡ codes "build" ∷ [] →
+        S.files source.old ≡ Some given.source → O.contents out.old ≡ Some given.output → K.taken sink.old ≡ Some before →
+        OnceRun given (start moment) before (K.taken sink.new) (O.contents out.new) result }
+    ensures build_input { words.now ≡ codes "build" ∷ [] → input.new ≡ input.old }
+
+    // Whatever the ends tell: the words alone decide about Usage.
+    ensures usage { (kind : UsageKind) → jobs_usage words.now moment ≡ Some kind → WasUsage kind result }
+    ensures only_usage { (kind : UsageKind) → result ≡ Status.Usage kind → jobs_usage words.now moment ≡ Some kind }
+    ensures usage_untouched { (kind : UsageKind) → jobs_usage words.now moment ≡ Some kind →
+        (source.new ≡ source.old) × (out.new ≡ out.old) × (input.new ≡ input.old) }
+
+    // A failure is answered only where that end failed in this call.
+    ensures source_fault { result ≡ Status.SourceFault → Rose (S.faults source.old) (S.faults source.new) }
+    ensures out_fault { (count : ℕ) → result ≡ Status.OutFault count → min (O.faults out.old + max count 1) (2 ^ 64 - 1) ≤ O.faults out.new }
+    ensures input_fault { result ≡ Status.InputFault → Rose (I.faults input.old) (I.faults input.new) }
+    ensures sink_fault { result ≡ Status.SinkFault → Rose (K.faults sink.old) (K.faults sink.new) }
+{
+    match usage_kind(words, TopCall::Jobs, moment) {
+        Some(kind) => tell_usage(alloc, kind, sink),
+        None => {
+            if words.at(0) == "build" {
+                scan_and_build(alloc, moment, source, out, sink)
+            } else {
+                run_session(rt, alloc, moment, source, out, input, sink)
+            }
+        }
+    }
+}
+
+// The script on the input.
+fn run_session<H: Wait, S: SourceTree, O: OutTree, I: ByteSource, K: ByteSink>(
+    rt: &H,
+    alloc: Global,
+    moment: i64,
+    source: &mut S,
+    out: &mut O,
+    input: &mut I,
+    sink: &mut K,
+) -> Status
+    ensures run { (given : Given) (text before : List ℕ) → S.files source.old ≡ Some given.source → O.contents out.old ≡ Some given.output →
+        I.left input.old ≡ Some text → K.taken sink.old ≡ Some before →
+        SessionRun given (start moment) text before (I.left input.new) (K.taken sink.new) (O.contents out.new)
+        (record { source_first = S.faults source.old; source_now = S.faults source.new; output_first = O.faults out.old; output_now = O.faults out.new }) result }
+    ensures status { EndsSession result }
+    ensures input_fault { result ≡ Status.InputFault → Rose (I.faults input.old) (I.faults input.new) }
+    ensures sink_fault { result ≡ Status.SinkFault → Rose (K.faults sink.old) (K.faults sink.new) }
+{
+    let settings = Settings {
+        drafts: false,
+        future: false,
+    };
+    let mut session = Session::open(alloc, settings, moment);
+    do_lines(rt, alloc, &mut session, source, out, input, sink)
+}
+
+// The lines on the input, one after another.
+fn do_lines<H: Wait, S: SourceTree, O: OutTree, I: ByteSource, K: ByteSink>(
+    rt: &H,
+    alloc: Global,
+    session: &mut Session,
+    source: &mut S,
+    out: &mut O,
+    input: &mut I,
+    sink: &mut K,
+) -> Status
+    ensures run { (given : Given) (text before : List ℕ) → S.files source.old ≡ Some given.source → Holds (O.contents out.old) session.old.belief given.output →
+        I.left input.old ≡ Some text → K.taken sink.old ≡ Some before →
+        SessionRun given session.old text before (I.left input.new) (K.taken sink.new) (O.contents out.new)
+        (record { source_first = S.faults source.old; source_now = S.faults source.new; output_first = O.faults out.old; output_now = O.faults out.new }) result }
+    ensures status { EndsSession result }
+    ensures input_fault { result ≡ Status.InputFault → Rose (I.faults input.old) (I.faults input.new) }
+    ensures sink_fault { result ≡ Status.SinkFault → Rose (K.faults sink.old) (K.faults sink.new) }
+{
+    let mut reader = ScriptReader::new();
+    'lines: for _ in rt.forever() {
+        let line = next_line(alloc, &mut reader, input);
+        match turn(alloc, session, reader.number(), line, source, out, sink) {
+            Some(status) => return status,
+            None => {}
+        }
+    }
+    unreachable!()
+}
+
+// Does what a line says; `None` where the session goes on.
+fn turn<S: SourceTree, O: OutTree, K: ByteSink>(
+    alloc: Global,
+    session: &mut Session,
+    number: u64,
+    line: Line,
+    source: &mut S,
+    out: &mut O,
+    sink: &mut K,
+) -> Option<Status>
+    ensures next { (given : Given) (before : List ℕ) → S.files source.old ≡ Some given.source → Holds (O.contents out.old) session.old.belief given.output →
+        K.taken sink.old ≡ Some before → IfNone result (GoesOn given session.old number line before session.new (K.taken sink.new)
+        (record { source_first = S.faults source.old; source_now = S.faults source.new; output_first = O.faults out.old; output_now = O.faults out.new })) }
+    ensures ends { (given : Given) (before : List ℕ) → S.files source.old ≡ Some given.source → Holds (O.contents out.old) session.old.belief given.output →
+        K.taken sink.old ≡ Some before → IfSome result (λ status. EndsAt given session.old number line before session.new (K.taken sink.new) (O.contents out.new) status) }
+    ensures belief { (first : Files) → Holds (O.contents out.old) session.old.belief first → Holds (O.contents out.new) session.new.belief first }
+    ensures status { IfSome result (λ status. EndsSession status) }
+    ensures input { result ≡ Some Status.InputFault → line ≡ Line.Failed }
+    ensures source_same { S.files source.new ≡ S.files source.old }
+    ensures source_later { S.faults source.old ≤ S.faults source.new }
+    ensures output_later { O.faults out.old ≤ O.faults out.new }
+    ensures sink_later { K.faults sink.old ≤ K.faults sink.new }
+    ensures sink_cause { result ≡ Some Status.SinkFault → Rose (K.faults sink.old) (K.faults sink.new) }
+{
+    match line {
+        Line::End => Some(Status::Done),
+        Line::Eof => Some(Status::Done),
+        Line::Failed => Some(Status::InputFault),
+        Line::Memory => Some(Status::Memory),
+        line => match do_line(alloc, session, number, line, source, out, sink) {
+            Ok(reply) => bad_status(reply),
+            Err(stop) => Some(stop.status()),
+        },
+    }
+}
+
+// A bad line ends the session.
+fn bad_status(reply: Reply) -> Option<Status>
+    ensures { result ≡ bad_status reply }
+{
+    match reply {
+        Reply::BadLine(number, kind) => Some(Status::Script(number, kind)),
+        _ => None,
+    }
+}

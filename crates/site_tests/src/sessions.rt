@@ -1,0 +1,301 @@
+// Worked runs of `session` and `build`.
+use crate::run::Given;
+use std::alloc::Global;
+use std::process::Abort;
+use std::sync::Wait;
+use std::test::Fail;
+
+const PAGE: &str = "---\ntitle: Hi\n---\n<h1>{{ page.title }}</h1>\n";
+
+// Runs what is given, and looks at what comes of it: the status number, the replies, and the output's files.
+fn comes_out(
+    rt: &(impl Abort + Wait),
+    alloc: Global,
+    given: Given<'_>,
+    status: u8,
+    replies: &str,
+    outputs: &[(&str, &str)],
+) -> Result<(), Fail> {
+    let outcome = given.run_jobs(rt, alloc)?;
+    assert_eq!(rt; outcome.status.number(), status, "after {replies}");
+    assert_eq!(rt; outcome.replies.as_str(), replies);
+    assert!(rt; outcome.has(alloc, outputs)?, "after {replies}");
+    Ok(())
+}
+
+#[test]
+fn sessions_go_on(rt: HostRuntime) -> Result<(), Fail> {
+    let alloc = rt.alloc();
+    let two_pages = "put p.html 10\n---\n---\np\nput q.html 10\n---\n---\nq\nbuild\nbuild\n";
+    // A write fails: its path is marked, and the next build writes it alone.
+    comes_out(
+        &rt,
+        alloc,
+        Given {
+            output_fails: &[2],
+            ..Given::session(two_pages)
+        },
+        0,
+        "ok\nok\nout-fault 1\nmarked p.html\nbuilt rendered=2 reused=0 written=1 removed=0\n",
+        &[("p.html", "p\n"), ("q.html", "q\n")],
+    )?;
+    // A file becomes a folder: what was there is removed first.
+    comes_out(
+        &rt,
+        alloc,
+        Given::session("put a 1\nxbuild\ndelete a\nput a/index.html 1\nybuild\n"),
+        0,
+        "ok\nbuilt rendered=0 reused=0 written=1 removed=0\nok\nok\nbuilt rendered=0 reused=0 written=1 removed=1\n",
+        &[("a/index.html", "y")],
+    )?;
+    // The source fails, and the session goes on.
+    comes_out(
+        &rt,
+        alloc,
+        Given {
+            sources: &[("a.txt", "x")],
+            source_fails: &[1],
+            ..Given::session("scan\nscan\nbuild\nend\n")
+        },
+        0,
+        "scan-fault\nscanned 1\nbuilt rendered=0 reused=0 written=1 removed=0\n",
+        &[("a.txt", "x")],
+    )?;
+    // The output gives no list, and then does.
+    comes_out(
+        &rt,
+        alloc,
+        Given {
+            outputs: &[("old", "o")],
+            output_fails: &[1],
+            ..Given::session("build\nbuild\n")
+        },
+        0,
+        "out-fault 0\nbuilt rendered=0 reused=0 written=0 removed=1\n",
+        &[],
+    )?;
+    // A fault of the site writes nothing and forgets nothing.
+    comes_out(
+        &rt,
+        alloc,
+        Given::session("put a 1\nxbuild\nput _b 0\nbuild\ndelete _b\nbuild"),
+        0,
+        "ok\nbuilt rendered=0 reused=0 written=1 removed=0\nok\nfault F0 0 _b\nok\nbuilt rendered=0 reused=0 written=0 removed=0\n",
+        &[("a", "x")],
+    )?;
+    // What the scan finds takes the place of what was put; CR LF ends a line too.
+    comes_out(
+        &rt,
+        alloc,
+        Given {
+            sources: &[("a.txt", "x")],
+            ..Given::session("put b 2\r\n\r\nscan\r\ntime 5\r\ndelete b\r\nbuild\r\n")
+        },
+        0,
+        "ok\nscanned 1\nok\nabsent\nbuilt rendered=0 reused=0 written=1 removed=0\n",
+        &[("a.txt", "x")],
+    )?;
+    comes_out(&rt, alloc, Given::session(""), 0, "", &[])?;
+    Ok(())
+}
+
+#[test]
+fn sessions_end(rt: HostRuntime) -> Result<(), Fail> {
+    let alloc = rt.alloc();
+    comes_out(
+        &rt,
+        alloc,
+        Given::session("put x.md 10\nabcd"),
+        7,
+        "script 1 6\n",
+        &[],
+    )?;
+    comes_out(
+        &rt,
+        alloc,
+        Given::session("put a 1\nxput a/b 1\ny"),
+        7,
+        "ok\nscript 2 8\n",
+        &[],
+    )?;
+    comes_out(
+        &rt,
+        alloc,
+        Given::session("put a 16777217\nx"),
+        7,
+        "script 1 5\n",
+        &[],
+    )?;
+    comes_out(
+        &rt,
+        alloc,
+        Given::session("build\n\nbuild\n"),
+        7,
+        "built rendered=0 reused=0 written=0 removed=0\nscript 2 3\n",
+        &[],
+    )?;
+    comes_out(
+        &rt,
+        alloc,
+        Given::session("time 253402214400\n"),
+        7,
+        "script 1 9\n",
+        &[],
+    )?;
+    // The input fails inside a body.
+    comes_out(
+        &rt,
+        alloc,
+        Given {
+            input_fails: &[20],
+            ..Given::session("put a 1\nxbuild\nput b 9\n123456789build\n")
+        },
+        5,
+        "ok\nbuilt rendered=0 reused=0 written=1 removed=0\n",
+        &[("a", "x")],
+    )?;
+    // The sink fails at its first write, and at its second, when the build is done already.
+    comes_out(
+        &rt,
+        alloc,
+        Given {
+            sink_fails: &[1],
+            ..Given::session("put a 1\nxbuild\n")
+        },
+        6,
+        "",
+        &[],
+    )?;
+    comes_out(
+        &rt,
+        alloc,
+        Given {
+            sink_fails: &[2],
+            ..Given::session("put a 1\nxbuild\nput b 1\ny")
+        },
+        6,
+        "ok\n",
+        &[("a", "x")],
+    )?;
+    Ok(())
+}
+
+#[test]
+fn builds(rt: HostRuntime) -> Result<(), Fail> {
+    let alloc = rt.alloc();
+    let build = Given {
+        words: &["build"],
+        ..Given::session("never read")
+    };
+    comes_out(
+        &rt,
+        alloc,
+        build,
+        0,
+        "scanned 0\nbuilt rendered=0 reused=0 written=0 removed=0\n",
+        &[],
+    )?;
+    comes_out(
+        &rt,
+        alloc,
+        Given {
+            sources: &[("index.html", PAGE)],
+            outputs: &[(".git/HEAD", "ref"), ("old.html", "old")],
+            ..build
+        },
+        0,
+        "scanned 1\nbuilt rendered=1 reused=0 written=1 removed=1\n",
+        &[(".git/HEAD", "ref"), ("index.html", "<h1>Hi</h1>\n")],
+    )?;
+    comes_out(
+        &rt,
+        alloc,
+        Given {
+            source_fails: &[1],
+            ..build
+        },
+        3,
+        "scan-fault\n",
+        &[],
+    )?;
+    comes_out(
+        &rt,
+        alloc,
+        Given {
+            output_fails: &[1],
+            ..build
+        },
+        4,
+        "scanned 0\nout-fault 0\n",
+        &[],
+    )?;
+    comes_out(
+        &rt,
+        alloc,
+        Given {
+            sources: &[("p.html", "p"), ("q.html", "q")],
+            output_fails: &[2],
+            ..build
+        },
+        4,
+        "scanned 2\nout-fault 1\nmarked p.html\n",
+        &[("q.html", "q")],
+    )?;
+    comes_out(
+        &rt,
+        alloc,
+        Given {
+            words: &["build", "--jobs", "0"],
+            ..build
+        },
+        2,
+        "usage 3\n",
+        &[],
+    )?;
+    comes_out(
+        &rt,
+        alloc,
+        Given {
+            words: &["once"],
+            ..build
+        },
+        2,
+        "usage 2\n",
+        &[],
+    )?;
+    Ok(())
+}
+
+#[test]
+fn a_second_build_calls_nobody(rt: HostRuntime) -> Result<(), Fail> {
+    let script =
+        "put index.html 44\n---\ntitle: Hi\n---\n<h1>{{ page.title }}</h1>\nbuild\nbuild\nend\nbuild\n";
+    let outcome = Given::session(script).run_jobs(&rt, rt.alloc())?;
+    assert_eq!(rt;
+        outcome.replies.as_str(),
+        "ok\nbuilt rendered=1 reused=0 written=1 removed=0\nbuilt rendered=1 reused=0 written=0 removed=0\n"
+    );
+    // One list and one write.
+    assert_eq!(rt; outcome.out.calls(), 2);
+    // What follows `end` stays unread.
+    assert_eq!(rt; outcome.unread, 6);
+    Ok(())
+}
+
+#[test]
+fn refuses_a_file_that_is_too_long(rt: HostRuntime) -> Result<(), Fail> {
+    let mut long = String::new(rt.alloc());
+    long.reserve(16_777_217)?;
+    for _ in 0..16_777_217 {
+        long.push('x')?;
+    }
+    let given = Given {
+        words: &["build"],
+        sources: &[("big", long.as_str())],
+        ..Given::session("")
+    };
+    let outcome = given.run_jobs(&rt, rt.alloc())?;
+    assert_eq!(rt; outcome.status.number(), 1);
+    assert_eq!(rt; outcome.replies.as_str(), "fault F2 0 big\n");
+    Ok(())
+}
