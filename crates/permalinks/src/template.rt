@@ -2,7 +2,7 @@
 ghost use Rattle.std.specs.Prelude.{◌≡◌, ◌++◌, IfOk, ◌∷◌, List, ℕ, Bool, MatchResult, Some};
 ghost use Rattle.std.specs.List.{slice_split};
 ghost use Rattle.std.specs.String.{string_bytes};
-ghost use Rattle.permalinks.specs.Url.{IsRefusal, IsCut, is_colon, is_name, name_len, both, part_text, parts_text, filled, is_slash, behind_slashes, with_slashes, url};
+ghost use Rattle.permalinks.specs.Url.{IsRefusal, IsCut, is_colon, is_name, name_len, both, part_text, parts_text, filled, behind_slashes, with_slashes, url};
 
 use crate::UrlParts;
 use site_base::Text;

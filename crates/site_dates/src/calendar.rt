@@ -1,5 +1,5 @@
 // The Gregorian calendar, from the year 1 to the year 9999.
-ghost use Rattle.std.specs.Prelude.{◌≡◌, ◌↔◌, ◌<◌, ◌≤◌, ◌+◌, ◌-◌, IsTrue};
+ghost use Rattle.std.specs.Prelude.{◌≡◌, ◌<◌, ◌≤◌, ◌+◌, ◌-◌, IsTrue};
 ghost use Rattle.site_dates.specs.Calendar.{is_leap_year, year_length, days_in_month, days_before_year, days_before_month, leap_days, year_at, month_at, date_in_year, is_date, day_of_year};
 
 /// A day of the calendar.

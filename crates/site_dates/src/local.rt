@@ -1,5 +1,5 @@
 // What calendars and clocks show at a moment.
-ghost use Rattle.std.specs.Prelude.{◌≡◌, ◌≤◌, ◌<◌, IsTrue};
+ghost use Rattle.std.specs.Prelude.{◌≡◌, ◌<◌, IsTrue};
 ghost use Rattle.site_dates.specs.Calendar.{is_date};
 ghost use Rattle.site_dates.specs.Moment.{IsMoment};
 ghost use Rattle.site_dates.specs.Offset.{IsOffset};

@@ -1,8 +1,7 @@
 // Texts of dates.
-ghost use Rattle.std.specs.Prelude.{◌≡◌, ◌≤◌, ◌<◌, ◌+◌, length, drop, IfSome};
+ghost use Rattle.std.specs.Prelude.{◌≡◌, ◌≤◌, ◌<◌, ◌+◌, length, IfSome};
 ghost use Rattle.site_dates.specs.Offset.{IsOffset};
-ghost use Rattle.site_dates.specs.Calendar.{day_number};
-ghost use Rattle.site_dates.specs.Moment.{IsMoment, written_date, begins_with_date, time_of_day, with_seconds, written_clock, written_zone, moment_at, if_moment, moment_of, read_moment};
+ghost use Rattle.site_dates.specs.Moment.{IsMoment, written_date, time_of_day, with_seconds, written_clock, written_zone, moment_at, if_moment, moment_of, read_moment};
 
 use crate::calendar::Date;
 use crate::offset::{clock_time, offset_of};

@@ -1,5 +1,5 @@
 // Offsets from UTC.
-ghost use Rattle.std.specs.Prelude.{◌≡◌, ◌≤◌, ◌%◌, ◌↔◌, pos, neg_ℤ, IfSome};
+ghost use Rattle.std.specs.Prelude.{◌≡◌, ◌≤◌, ◌%◌, IfSome};
 ghost use Rattle.site_dates.specs.Offset.{IsOffset, clock_time, distance, is_utc, signed_distance, read_offset};
 
 use crate::shape::{has_shape, two_digits_at};
