@@ -1,0 +1,4 @@
+pub mod Fronts
+mod Rows
+pub mod SlugWalk
+pub mod Templates

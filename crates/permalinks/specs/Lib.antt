@@ -1,0 +1,3 @@
+pub mod Dest
+pub mod Slug
+pub mod Url

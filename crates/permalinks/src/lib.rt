@@ -1,0 +1,15 @@
+//! Permalinks: the URLs of items, the paths of their outputs, and slugs.
+#![tactic(auto)]
+
+mod output;
+mod parts;
+mod slug;
+mod template;
+
+pub use output::dest;
+pub use parts::UrlParts;
+pub use slug::slugify;
+pub use template::{UrlError, url};
+
+#[cfg(test)]
+mod tests;
