@@ -1,0 +1,8 @@
+//! What the texts of templates say: their pieces, and the expressions, conditions and parameters in tags.
+//!
+//! The definitions stand in `specs/`; the types here are those that they and the readers share.
+#![tactic(auto)]
+
+mod piece;
+
+pub use piece::{Front, Piece, PieceKind, Span};
