@@ -1,1 +1,2 @@
+mod ExpressionRows
 mod Rows

@@ -1,9 +1,8 @@
 -- Worked rows of pieces.
 use Rattle.std.proofs.Common.{◌≡◌, ℕ, List, [], ◌∷◌, codes, refl, map, Ok, Err, Result}
 use Rattle.site_base.specs.Recursion.{down}
-use Rattle.liquid_grammar.specs.declared.piece.PieceKind.TheVariants as kind
 use Rattle.liquid_grammar.specs.declared.piece.Piece.{Piece}
-use Rattle.liquid_grammar.specs.Pieces.{cut, cut_from, span}
+use Rattle.liquid_grammar.specs.Pieces.{cut, cut_from}
 
 -- the end and the inside of each piece
 abbrev ends : Result (List Piece) ℕ → List (ℕ × ℕ × ℕ × ℕ)
