@@ -1,6 +1,6 @@
 -- The pieces of a template's text, as in Liquid: text, outputs `{{ .. }}` and tags `{% .. %}`.
 use Rattle.std.specs.Prelude.{ℕ, zero, suc, ◌+◌, ◌-◌, Bool, false, ◌&&◌, ◌||◌, List, [], ◌∷◌, ◌++◌, length, reverse, drop, take, count_by, if◌then◌else◌, ◌==◌, nat_lt, nat_eq, slice_index, max, codes, Option, Some, None, Result, Ok, Err}
-use Rattle.std.specs.List.{starts_with, prefix_len}
+use Rattle.std.specs.List.{starts_with, prefix_len, suffix_len}
 use Rattle.site_base.specs.Recursion.{down}
 use Rattle.liquid_grammar.specs.declared.piece.PieceKind.{PieceKind}
 use Rattle.liquid_grammar.specs.declared.piece.PieceKind.TheVariants as kind
@@ -101,7 +101,7 @@ abbrev pub stripped_at : ℕ → Bool → List ℕ → ℕ → Span
 stripped_at at trims text len =
     let shown = take len text in
     let start = at + (if trims then white_len shown else 0) in
-    span start (max start (at + len - (if has_first_dash (drop len text) then white_len (reverse shown) else 0)))
+    span start (max start (at + len - (if has_first_dash (drop len text) then suffix_len is_white shown else 0)))
 
 -- ---- The pieces
 
@@ -144,9 +144,12 @@ raw_text zero r = []
 raw_text (suc n) r = text_piece (suc n) r ∷ []
 
 -- what a comment holds, of which nothing is written
+abbrev pub dropped_piece : ℕ → ℕ → ℕ → Piece
+dropped_piece n at line = record { kind = kind.Text; span = span at (at + n); inner = span at at; line = line }
+
 abbrev pub dropped_text : ℕ → Rest → List Piece
 dropped_text zero r = []
-dropped_text (suc n) r = piece kind.Text (suc n) (span r.at r.at) r ∷ []
+dropped_text (suc n) r = dropped_piece (suc n) r.at r.line ∷ []
 
 abbrev pub pieces_of : Front → Rest → List Piece
 pieces_of (Text n) r = text_piece n r ∷ []

@@ -1,0 +1,3 @@
+pub mod CutLoop
+pub mod FrontFits
+pub mod PlacesLaws
