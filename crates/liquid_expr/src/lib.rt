@@ -5,5 +5,6 @@ mod cutting;
 mod front;
 mod places;
 mod spans;
+mod token;
 
 pub use cutting::{CutError, Pieces, cut, cut_up};

@@ -1,0 +1,16 @@
+use Rattle.std.proofs.Common.{arith, rules, ◌≡◌, ◌+◌, ◌-◌, ◌<◌, ◌≤◌, length, take, drop, get_or, sym, ap, ◌∙◌, refl, subst, true, false, not, ◌==◌, slice_index}
+use Rattle.std.specs.List.{prefix_len}
+use Rattle.std.proofs.lemmas.List.{length-drop, get_or-drop}
+use Rattle.std.proofs.lemmas.Grind.{get_or_after_one}
+use Rattle.liquid_grammar.specs.Tokens.{is_name_byte, is_letter, whole_len, fraction_len}
+use Rattle.liquid_expr.specs.Token.{IsWhole}
+use Rattle.std.specs.Str.Parse.{IsNumeral, without_leading_sign}
+use Rattle.liquid_expr.proofs.TokenLaws.{name_some, is_whole, fraction_ascii}
+use Rattle.liquid_expr.proofs.token.word.Goals as goal
+
+pub head-requires-clause-last : goal.head-requires-clause-last
+head-requires-clause-last c =
+    let rest = c.args.rest.now in
+    let b : c.as_bytes.result.now ≡ rest = c.as_bytes.ensures.value in
+    let some : 0 < c.name_len-len.result = omega (arith, c.name_len-len.ensures.value, ap (prefix_len is_name_byte) b, name_some rest c.requires.some c.requires.letter) in
+    subst (λ xs. slice_index xs (c.name_len-len.result - 1) < 128) b (c.name_len-len.ensures.ascii some)
