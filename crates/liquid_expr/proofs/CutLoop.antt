@@ -6,7 +6,7 @@ use Rattle.site_base.specs.Recursion.{Falls, down_is}
 use Rattle.liquid_grammar.specs.declared.piece.Piece.{Piece}
 use Rattle.liquid_grammar.specs.declared.piece.Front.{Front}
 use Rattle.liquid_grammar.specs.declared.piece.Front.TheVariants.{Text, Output, Tag, Raw, Comment, Unclosed}
-use Rattle.liquid_grammar.specs.Pieces.{Rest, Cut, size, past, line_ends, with_front, cut_is, then_rest, cut_step, cut_from, front_of, pieces_of, len_of, trims_after}
+use Rattle.liquid_grammar.specs.Pieces.{Rest, Cut, size, past, line_ends, with_front, cut_is, then_rest, cut_step, cut_from, front_of, pieces_of, trims_after}
 use Rattle.liquid_expr.specs.Fits.{Fits, found_len}
 use Rattle.liquid_expr.proofs.FrontFits.{front_fits}
 
@@ -32,7 +32,7 @@ same_then (Comment n m) f g s fits some h = ap (with_front (pieces_of (Comment n
 falls : Falls size (cut_is [] None) cut_step
 falls f g s h =
     cond_same (eqb (length s.text) 0) (cut_is [] None) (then_rest (front_of s.text) f s) (then_rest (front_of s.text) g s)
-      (λ some. same_then (front_of s.text) f g s (front_fits s.text) (omega (arith, eqb-false (length s.text) 0 some)) h)
+    (λ some. same_then (front_of s.text) f g s (front_fits s.text) (omega (arith, eqb-false (length s.text) 0 some)) h)
 
 -- the equation of the definition
 pub cut_from_is : (r : Rest) → cut_from r ≡ cut_step cut_from r

@@ -1,5 +1,5 @@
 -- What stands at the front of a text has a length within it.
-use Rattle.std.proofs.Common.{◌≡◌, ℕ, ◌+◌, ◌-◌, ◌<◌, ◌≤◌, true, cond, ltb, List, [], ◌∷◌, length, take, drop, subst, suc, refl, ap, false, eqb, nat_eq, Bool, sym, ◌∙◌, ◌&&◌, arith, inl, inr, codes}
+use Rattle.std.proofs.Common.{◌≡◌, ℕ, ◌+◌, ◌-◌, ◌<◌, ◌≤◌, true, cond, ltb, List, [], ◌∷◌, length, take, drop, subst, refl, ap, false, Bool, sym, ◌∙◌, arith, inl, inr, codes}
 use Rattle.std.proofs.lemmas.Bool.{lt-ltb, ltb-true, cond_both, or_cases}
 use Rattle.std.proofs.lemmas.List.{length-drop, length-take}
 use Rattle.std.specs.Cmp.Lexicographic.{same_text}
@@ -32,8 +32,8 @@ tag_fits xs n lt le =
     let k = tag_place (codes "endcomment") rest in
     let rest_len : length rest ≡ length xs - n = length-drop n xs in
     cond_both (is_tag (codes "raw") xs) (cond (ltb m (length rest)) (Raw n m) Unclosed) (cond (is_tag (codes "comment") xs) (Comment n k) (Tag n)) (Fits (length xs))
-      (λ _. cond_both (ltb m (length rest)) (Raw n m) Unclosed (Fits (length xs)) (λ t. (lt, omega (arith, ltb-true m (length rest) t))) (λ _. tt))
-      (λ _. cond_both (is_tag (codes "comment") xs) (Comment n k) (Tag n) (Fits (length xs)) (λ _. (lt, omega (arith, place_le (is_tag (codes "endcomment")) rest))) (λ _. (lt, le)))
+    (λ _. cond_both (ltb m (length rest)) (Raw n m) Unclosed (Fits (length xs)) (λ t. (lt, omega (arith, ltb-true m (length rest) t))) (λ _. tt))
+    (λ _. cond_both (is_tag (codes "comment") xs) (Comment n k) (Tag n) (Fits (length xs)) (λ _. (lt, omega (arith, place_le (is_tag (codes "endcomment")) rest))) (λ _. (lt, le)))
 
 markup_fits : (xs : List ℕ) → Fits (length xs) (markup_at xs)
 markup_fits xs =
@@ -42,8 +42,8 @@ markup_fits xs =
     let t = first_place (begins (codes "%}")) inside in
     let len : length inside ≡ length xs - 2 = length-drop 2 xs in
     cond_both (begins (codes "{{") xs) (cond (ltb o (length inside)) (Output (o + 4)) Unclosed) (cond (ltb t (length inside)) (tag_at xs (t + 4)) Unclosed) (Fits (length xs))
-      (λ _. cond_both (ltb o (length inside)) (Output (o + 4)) Unclosed (Fits (length xs)) (λ h. (omega arith, omega (arith, mark_fits 125 125 inside (ltb-true o (length inside) h)))) (λ _. tt))
-      (λ _. cond_both (ltb t (length inside)) (tag_at xs (t + 4)) Unclosed (Fits (length xs)) (λ h. tag_fits xs (t + 4) (omega arith) (omega (arith, mark_fits 37 125 inside (ltb-true t (length inside) h)))) (λ _. tt))
+    (λ _. cond_both (ltb o (length inside)) (Output (o + 4)) Unclosed (Fits (length xs)) (λ h. (omega arith, omega (arith, mark_fits 125 125 inside (ltb-true o (length inside) h)))) (λ _. tt))
+    (λ _. cond_both (ltb t (length inside)) (tag_at xs (t + 4)) Unclosed (Fits (length xs)) (λ h. tag_fits xs (t + 4) (omega arith) (omega (arith, mark_fits 37 125 inside (ltb-true t (length inside) h)))) (λ _. tt))
 
 pub front_fits : (xs : List ℕ) → Fits (length xs) (front_of xs)
 front_fits xs =

@@ -1,10 +1,10 @@
 -- Where tokens end.
-use Rattle.std.proofs.Common.{◌≡◌, ℕ, zero, suc, ◌+◌, ◌-◌, ◌<◌, ◌≤◌, Bool, true, false, cond, ltb, eqb, ◌&&◌, ◌||◌, List, [], ◌∷◌, length, take, drop, get_or, refl, sym, ap, subst, ◌∙◌, arith, slice_index, not, ◌==◌, Option, Some, None, IfSome}
+use Rattle.std.proofs.Common.{◌≡◌, ℕ, zero, suc, ◌+◌, ◌-◌, ◌<◌, ◌≤◌, Bool, true, false, cond, ltb, eqb, ◌&&◌, List, [], ◌∷◌, length, take, drop, get_or, refl, sym, subst, arith, slice_index, not, ◌==◌, Option, Some, None, IfSome}
 use Rattle.std.specs.List.{prefix_len}
 use Rattle.std.specs.Str.{IsUtf8, IsCharBoundary}
 use Rattle.std.specs.Str.Parse.{AllDigits, IsNumeral, without_leading_sign}
 use Rattle.std.specs.Char.{digit_value}
-use Rattle.std.proofs.lemmas.Bool.{ltb-true, lt-ltb, eqb-true}
+use Rattle.std.proofs.lemmas.Bool.{ltb-true, eqb-true}
 use Rattle.std.proofs.lemmas.Bool.Decides.{nat_tests}
 use Rattle.std.proofs.lemmas.List.{length-drop, length-take, get_or-drop}
 use Rattle.std.proofs.lemmas.List.Sums.{prefix_len_passes, prefix_len_stops, prefix_len-le-length}
@@ -156,6 +156,6 @@ fraction_ascii [] lt = absurd (omega (arith, lt))
 fraction_ascii (c ∷ cs) lt =
     let k = prefix_len is_digit cs in
     fraction_if (eqb c 46 && ltb 0 k) c k cs (last_ascii is_digit digit_ascii cs) (λ e. ltb-true 0 k (and-right (eqb c 46) (ltb 0 k) e)) lt where
-  and-right : (a b : Bool) → (a && b) ≡ true → b ≡ true
-  and-right true b e = e
-  and-right false b e = absurd cc
+      and-right : (a b : Bool) → (a && b) ≡ true → b ≡ true
+      and-right true b e = e
+      and-right false b e = absurd cc

@@ -1,5 +1,5 @@
 -- The tokens of a text, one after another, as a loop makes them.
-use Rattle.std.proofs.Common.{◌≡◌, ℕ, zero, suc, ◌+◌, ◌-◌, ◌<◌, Bool, true, false, List, [], ◌∷◌, ◌++◌, length, drop, Option, Some, None, refl, sym, ap, ◌∙◌, append_assoc, arith, slice_index}
+use Rattle.std.proofs.Common.{◌≡◌, ℕ, zero, suc, ◌-◌, ◌<◌, Bool, true, false, List, [], ◌∷◌, ◌++◌, length, drop, Option, Some, None, refl, sym, ap, ◌∙◌, append_assoc, arith, slice_index}
 use Rattle.std.proofs.lemmas.List.{append-nil}
 use Rattle.liquid_grammar.specs.Pieces.{is_white}
 use Rattle.liquid_grammar.specs.Tokens.{Token, with_token, token_at, tokens_after}
@@ -17,9 +17,9 @@ passed_over (suc k) (c ∷ cs) = passed_over k cs
 -- what the first byte and the token that it starts make of the rest
 abbrev with_first : Bool → Option (Token × ℕ) → List ℕ → Option (List Token)
 with_first white found cs = elim white [
-      | true ↦ tokens_after 0 cs
-      | false ↦ elim found [ None ↦ None | Some f ↦ with_token f.0 (tokens_after (f.1 - 1) cs) ]
-    ]
+  | true ↦ tokens_after 0 cs
+  | false ↦ elim found [ None ↦ None | Some f ↦ with_token f.0 (tokens_after (f.1 - 1) cs) ]
+]
 
 first_is : (c : ℕ) (cs : List ℕ) (white : Bool) (found : Option (Token × ℕ)) → is_white c ≡ white → token_at (c ∷ cs) ≡ found → tokens_after 0 (c ∷ cs) ≡ with_first white found cs
 unfolding tokens_after

@@ -33,14 +33,18 @@ pub fn cut(alloc: Global, text: &str) -> Result<Vec<Piece>, CutError>
     ensures { GivesCut (λ pieces. pieces.items) result (cut text.now) }
 {
     match cut_up(alloc, text) {
-        Ok(Pieces {
-            list,
-            unclosed: None,
-        }) => Ok(list),
-        Ok(Pieces {
-            unclosed: Some(line),
-            ..
-        }) => Err(CutError::Unclosed(line)),
+        Ok(
+            Pieces {
+                list,
+                unclosed: None,
+            },
+        ) => Ok(list),
+        Ok(
+            Pieces {
+                unclosed: Some(line),
+                ..
+            },
+        ) => Err(CutError::Unclosed(line)),
         Err(Memory) => Err(CutError::Memory),
     }
 }
@@ -167,5 +171,196 @@ fn dropped_piece(at: usize, line: u64, len: usize) -> Piece
         },
         inner: Span { start: at, end: at },
         line,
+    }
+}
+
+#[cfg(test)]
+mod tests {
+    use super::*;
+    use std::test::*;
+
+    fn name(kind: PieceKind) -> char {
+        match kind {
+            PieceKind::Text => 't',
+            PieceKind::Output => 'o',
+            PieceKind::Tag => 'g',
+        }
+    }
+
+    // Whether the pieces follow one another, cover the text, and have these kinds, insides and lines.
+    fn reads_as(alloc: Global, text: &str, wanted: &[(char, &str, u64)]) -> bool {
+        let pieces = match cut(alloc, text) {
+            Ok(pieces) => pieces,
+            Err(_) => return false,
+        };
+        let mut end = 0;
+        for (piece, (kind, inner, line)) in pieces.iter().zip(wanted) {
+            let bytes = text.as_bytes().get(piece.inner.start..piece.inner.end);
+            if piece.span.start != end || name(piece.kind) != *kind || piece.line != *line {
+                return false;
+            }
+            if bytes != Some(inner.as_bytes()) {
+                return false;
+            }
+            end = piece.span.end;
+        }
+        pieces.len() == wanted.len() && end == text.len()
+    }
+
+    #[test]
+    fn cuts_plain_pieces(rt: HostRuntime) {
+        assert!(rt; reads_as(rt.alloc(), "", &[]));
+        assert!(rt; reads_as(rt.alloc(), "ab", &[('t', "ab", 1)]));
+        assert!(rt; reads_as(rt.alloc(), "}} %} {", &[('t', "}} %} {", 1)]));
+        assert!(rt; reads_as(rt.alloc(), "{{}}{%%}", &[('o', "", 1), ('g', "", 1)]));
+        assert!(rt; reads_as(rt.alloc(), "{% a {{ b %}", &[('g', " a {{ b ", 1)]));
+        assert!(rt; reads_as(rt.alloc(), "{{{ a }}}", &[('o', "{ a ", 1), ('t', "}", 1)]));
+        assert!(rt;
+            reads_as(
+                rt.alloc(),
+                "{{ \"}}\" }}",
+                &[('o', " \"", 1), ('t', "\" }}", 1)]
+            )
+        );
+        assert!(rt;
+            reads_as(
+                rt.alloc(),
+                "a\r\n\n{% b\n %}{{ c }}",
+                &[('t', "a\r\n\n", 1), ('g', " b\n ", 3), ('o', " c ", 4)]
+            )
+        );
+    }
+
+    #[test]
+    fn strips_at_dashes(rt: HostRuntime) {
+        assert!(rt;
+            reads_as(
+                rt.alloc(),
+                "a {{- b -}} \n c",
+                &[('t', "a", 1), ('o', " b ", 1), ('t', "c", 1)]
+            )
+        );
+        assert!(rt;
+            reads_as(
+                rt.alloc(),
+                " \t\u{b}{{- a }} ",
+                &[('t', "", 1), ('o', " a ", 1), ('t', " ", 1)]
+            )
+        );
+        assert!(rt;
+            reads_as(
+                rt.alloc(),
+                "é {%- a -%} é",
+                &[('t', "é", 1), ('g', " a ", 1), ('t', "é", 1)]
+            )
+        );
+        assert!(rt;
+            reads_as(
+                rt.alloc(),
+                " {{ a -}} {{- b }} ",
+                &[
+                    ('t', " ", 1),
+                    ('o', " a ", 1),
+                    ('t', "", 1),
+                    ('o', " b ", 1),
+                    ('t', " ", 1),
+                ]
+            )
+        );
+    }
+
+    #[test]
+    fn keeps_raw_text_and_drops_comments(rt: HostRuntime) {
+        assert!(rt;
+            reads_as(
+                rt.alloc(),
+                "{% raw %}{{ a }}{% endraw %}b",
+                &[
+                    ('g', " raw ", 1),
+                    ('t', "{{ a }}", 1),
+                    ('g', " endraw ", 1),
+                    ('t', "b", 1),
+                ]
+            )
+        );
+        assert!(rt;
+            reads_as(
+                rt.alloc(),
+                "{%- raw -%} x {%- endraw -%} y",
+                &[
+                    ('g', " raw ", 1),
+                    ('t', "x", 1),
+                    ('g', " endraw ", 1),
+                    ('t', "y", 1),
+                ]
+            )
+        );
+        assert!(rt;
+            reads_as(
+                rt.alloc(),
+                "{%raw%}{%endraw%}",
+                &[('g', "raw", 1), ('g', "endraw", 1)]
+            )
+        );
+        assert!(rt;
+            reads_as(
+                rt.alloc(),
+                "{% raw %}{% if endraw %}{%endraw%}",
+                &[
+                    ('g', " raw ", 1),
+                    ('t', "{% if endraw %}", 1),
+                    ('g', "endraw", 1),
+                ]
+            )
+        );
+        assert!(rt;
+            reads_as(
+                rt.alloc(),
+                "{% comment %}{{\n{% endcomment %}x",
+                &[
+                    ('g', " comment ", 1),
+                    ('t', "", 1),
+                    ('g', " endcomment ", 2),
+                    ('t', "x", 2),
+                ]
+            )
+        );
+        assert!(rt;
+            reads_as(
+                rt.alloc(),
+                "{%comment%}{%comment%}{%endcomment%}{%endcomment%}",
+                &[
+                    ('g', "comment", 1),
+                    ('t', "", 1),
+                    ('g', "endcomment", 1),
+                    ('g', "endcomment", 1),
+                ]
+            )
+        );
+        assert!(rt;
+            reads_as(
+                rt.alloc(),
+                "{%comment%}{% x",
+                &[('g', "comment", 1), ('t', "", 1)]
+            )
+        );
+    }
+
+    #[test]
+    fn names_the_line_without_an_end(rt: HostRuntime) {
+        let rows = [
+            ("{{ a", 1),
+            ("{{", 1),
+            ("{{ a %}", 1),
+            ("{% a }}", 1),
+            ("x\n\n{{ a", 3),
+            ("{{ a }}\n{% raw %}{{ b }}", 2),
+            ("\n{% raw %}{% endra %}", 2),
+            ("{% raw %}\n{% endraw", 1),
+        ];
+        for (text, line) in rows {
+            let found = cut(rt.alloc(), text).err();
+            assert!(rt; found == Some(CutError::Unclosed(line)), "at {text:?}");
+        }
     }
 }

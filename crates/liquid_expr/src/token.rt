@@ -257,10 +257,7 @@ fn name_len(bytes: &[u8]) -> usize
     ensures within { result ≤ length bytes.now }
     ensures ascii { EndsAscii bytes.now result }
 {
-    bytes
-        .iter()
-        .take_while(|byte| is_name_byte(**byte))
-        .count()
+    bytes.iter().take_while(|byte| is_name_byte(**byte)).count()
 }
 
 fn digits_len(bytes: &[u8]) -> usize
@@ -308,5 +305,38 @@ fn fraction_len(bytes: &[u8]) -> usize
             if digits > 0 { digits + 1 } else { 0 }
         }
         _ => 0,
+    }
+}
+
+#[cfg(test)]
+mod tests {
+    use super::*;
+    use std::test::*;
+
+    #[test]
+    fn reads_tokens(rt: HostRuntime) -> Result<(), Fail> {
+        let rows = [
+            ("", Some(0)),
+            (" \t\n", Some(0)),
+            ("a-1.b", Some(3)),
+            ("a [ 'x]' ]", Some(4)),
+            ("(1..-2)", Some(5)),
+            ("1.5.2", Some(3)),
+            ("a<>b<=c", Some(5)),
+            ("x=9223372036854775808", Some(3)),
+            ("a - b", None),
+            ("'a", None),
+            ("a ! b", None),
+            ("é", None),
+        ];
+        for (text, count) in rows {
+            let found = tokens(rt.alloc(), text).ok().ok_or("no memory")?;
+            let len = match found {
+                Some(list) => Some(list.len()),
+                None => None,
+            };
+            assert!(rt; len == count, "at {text:?}");
+        }
+        Ok(())
     }
 }

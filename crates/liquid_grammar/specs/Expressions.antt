@@ -45,7 +45,52 @@ is_joining name =
 
 -- ---- Operands
 
--- what may follow a variable: `.name` or `[x]`
+-- what starts an operand
+pub data Start : Type 0 where
+  starts_variable : (name : List ℕ) → Start
+  starts_literal : (l : Literal) → Start
+  starts_range : Start
+  no_start : Start
+
+abbrev pub word_start : List ℕ → Option Literal → Start
+word_start name (Some l) = starts_literal l
+word_start name None = if is_joining name then no_start else starts_variable name
+
+-- a number that is no i64 is read as 0, and then refused
+abbrev pub start_of : List Token → Start
+start_of (word name ∷ rest) = word_start name (word_literal name)
+start_of (text t ∷ rest) = starts_literal (literals.Text t)
+start_of (whole n ∷ rest) = starts_literal (literals.Int n)
+start_of (large ∷ rest) = starts_literal (literals.Int (pos 0))
+start_of (mark OpenRange ∷ rest) = starts_range
+start_of _ = no_start
+
+-- what follows a variable: `.name`, `[`, a dot without a name, or something else
+pub data Follow : Type 0 where
+  follows_name : (name : List ℕ) → Follow
+  follows_bracket : Follow
+  follows_nothing : Follow
+  no_follow : Follow
+
+abbrev pub follow_of : List Token → Follow
+follow_of (mark Dot ∷ word name ∷ rest) = follows_name name
+follow_of (mark Dot ∷ rest) = follows_nothing
+follow_of (mark OpenBracket ∷ rest) = follows_bracket
+follow_of _ = no_follow
+
+abbrev pub closes_bracket : List Token → Bool
+closes_bracket (mark CloseBracket ∷ rest) = true
+closes_bracket _ = false
+
+abbrev pub closes_range : List Token → Bool
+closes_range (mark CloseRange ∷ rest) = true
+closes_range _ = false
+
+abbrev pub goes_to : List Token → Bool
+goes_to (mark To ∷ rest) = true
+goes_to _ = false
+
+-- a link from a variable to a member
 pub data Link : Type 0 where
   named : (name : List ℕ) → Link
   at : (x : Operand) → Link
@@ -61,46 +106,42 @@ walk e (l ∷ ls) = walk (linked e l) ls
 -- the parts of operands, where `inner` reads what stands inside one more bracket
 module _ (inner : List Token → Reading Operand) where
   abbrev pub bracket_end : Operand → List Token → Reading Link
-  bracket_end x (mark CloseBracket ∷ rest) = Some (at x, 1)
-  bracket_end x _ = None
+  bracket_end x ts = if closes_bracket ts then Some (at x, 1) else None
 
   -- what stands after `[`
   abbrev pub bracket : List Token → Reading Link
   bracket ts = inner ts >>= λ x. after x.1 (bracket_end x.0 (drop x.1 ts))
 
+  abbrev pub follow : Follow → List Token → More Link
+  follow (follows_name name) ts = one (named name) 2
+  follow follows_bracket ts = more_of (after 1 (bracket (drop 1 ts)))
+  follow follows_nothing ts = wrong
+  follow no_follow ts = stop
+
   abbrev pub link : List Token → More Link
-  link (mark Dot ∷ word name ∷ rest) = one (named name) 2
-  link (mark Dot ∷ rest) = wrong
-  link (mark OpenBracket ∷ rest) = more_of (after 1 (bracket rest))
-  link _ = stop
+  link ts = follow (follow_of ts) ts
 
   abbrev pub variable_at : List ℕ → List Token → Reading Operand
-  variable_at name rest = many link rest >>= λ links. Some (walk (variable name) links.0, links.1)
+  variable_at name ts = many link ts >>= λ links. Some (walk (variable name) links.0, links.1)
 
   abbrev pub range_close : Operand → Operand → List Token → Reading Operand
-  range_close a b (mark CloseRange ∷ rest) = Some (range a b, 1)
-  range_close a b _ = None
+  range_close a b ts = if closes_range ts then Some (range a b, 1) else None
 
   abbrev pub range_end : Operand → List Token → Reading Operand
-  range_end a (mark To ∷ rest) = inner rest >>= λ b. after (1 + b.1) (range_close a b.0 (drop b.1 rest))
-  range_end a _ = None
+  range_end a ts = if goes_to ts then (inner (drop 1 ts) >>= λ b. after (1 + b.1) (range_close a b.0 (drop b.1 (drop 1 ts)))) else None
 
   -- what stands after `(`
   abbrev pub range_at : List Token → Reading Operand
   range_at ts = inner ts >>= λ a. after a.1 (range_end a.0 (drop a.1 ts))
 
-  abbrev pub word_at : List ℕ → Option Literal → List Token → Reading Operand
-  word_at name (Some l) rest = Some (literal l, 1)
-  word_at name None rest = if is_joining name then None else after 1 (variable_at name rest)
+  abbrev pub operand_from : Start → List Token → Reading Operand
+  operand_from (starts_variable name) rest = after 1 (variable_at name rest)
+  operand_from (starts_literal l) rest = Some (literal l, 1)
+  operand_from starts_range rest = after 1 (range_at rest)
+  operand_from no_start rest = None
 
-  -- a number that is no i64 is read as 0, and then refused
   abbrev pub operand_with : List Token → Reading Operand
-  operand_with (word name ∷ rest) = word_at name (word_literal name) rest
-  operand_with (text t ∷ rest) = Some (literal (literals.Text t), 1)
-  operand_with (whole n ∷ rest) = Some (literal (literals.Int n), 1)
-  operand_with (large ∷ rest) = Some (literal (literals.Int (pos 0)), 1)
-  operand_with (mark OpenRange ∷ rest) = after 1 (range_at rest)
-  operand_with _ = None
+  operand_with ts = operand_from (start_of ts) (drop 1 ts)
 
 abbrev pub nothing : List Token → Reading Operand
 nothing ts = None
@@ -109,6 +150,11 @@ nothing ts = None
 unfoldable pub operand_in : ℕ → List Token → Reading Operand
 operand_in zero ts = operand_with nothing ts
 operand_in (suc d) ts = operand_with (operand_in d) ts
+
+-- an operand inside one more bracket, where this many may be open
+abbrev pub operand_inside : ℕ → List Token → Reading Operand
+operand_inside zero ts = None
+operand_inside (suc d) ts = operand_in d ts
 
 -- an operand
 unfoldable pub operand : List Token → Reading Operand

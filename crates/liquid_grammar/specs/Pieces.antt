@@ -1,5 +1,5 @@
 -- The pieces of a template's text, as in Liquid: text, outputs `{{ .. }}` and tags `{% .. %}`.
-use Rattle.std.specs.Prelude.{ℕ, zero, suc, ◌+◌, ◌-◌, Bool, false, ◌&&◌, ◌||◌, List, [], ◌∷◌, ◌++◌, length, reverse, drop, take, count_by, if◌then◌else◌, ◌==◌, nat_lt, nat_eq, slice_index, max, codes, Option, Some, None, Result, Ok, Err}
+use Rattle.std.specs.Prelude.{ℕ, zero, suc, ◌+◌, ◌-◌, Bool, false, ◌&&◌, ◌||◌, List, [], ◌∷◌, ◌++◌, length, drop, take, count_by, if◌then◌else◌, ◌==◌, nat_lt, nat_eq, slice_index, max, codes, Option, Some, None, Result, Ok, Err}
 use Rattle.std.specs.List.{starts_with, prefix_len, suffix_len}
 use Rattle.site_base.specs.Recursion.{down}
 use Rattle.liquid_grammar.specs.declared.piece.PieceKind.{PieceKind}

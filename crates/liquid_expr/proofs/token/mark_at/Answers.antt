@@ -1,9 +1,5 @@
-use Rattle.std.proofs.Common.{arith, rules, ◌≡◌, ◌+◌, ◌-◌, ◌<◌, ◌≤◌, length, take, drop, get_or, sym, ap, ◌∙◌, refl, subst, true, false, not, ◌==◌}
-use Rattle.std.specs.List.{prefix_len}
-use Rattle.std.proofs.lemmas.List.{length-drop, get_or-drop}
-use Rattle.liquid_grammar.specs.Tokens.{is_name_byte, whole_len, fraction_len}
-use Rattle.liquid_grammar.specs.Pieces.{is_white}
-use Rattle.liquid_expr.proofs.TokenLaws.{cut_at, digit_ascii, name_ascii, white_ascii, last_ascii, name_some, is_whole, unquoted_stops, short_found, fraction_ascii}
+use Rattle.std.proofs.Common.{arith}
+use Rattle.liquid_expr.proofs.TokenLaws.{cut_at, short_found}
 use Rattle.liquid_expr.proofs.token.mark_at.Goals as goal
 
 pub returns-in-Some-clause-fits : goal.returns-in-Some-clause-fits

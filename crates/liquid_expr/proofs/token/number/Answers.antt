@@ -1,11 +1,7 @@
-use Rattle.std.proofs.Common.{arith, rules, ◌≡◌, ◌+◌, ◌-◌, ◌<◌, ◌≤◌, length, take, drop, get_or, sym, ap, ◌∙◌, refl, subst, true, false, not, ◌==◌, slice_index}
-use Rattle.std.specs.List.{prefix_len}
-use Rattle.std.proofs.lemmas.List.{length-drop, get_or-drop}
-use Rattle.std.proofs.lemmas.Grind.{get_or_after_one}
-use Rattle.liquid_grammar.specs.Tokens.{is_name_byte, is_letter, whole_len, fraction_len}
-use Rattle.liquid_expr.specs.Token.{IsWhole}
+use Rattle.std.proofs.Common.{arith, ◌≡◌, ◌+◌, ◌-◌, ◌<◌, drop, get_or, sym, ap, ◌∙◌, subst}
+use Rattle.std.proofs.lemmas.List.{get_or-drop}
 use Rattle.std.specs.Str.Parse.{IsNumeral, without_leading_sign}
-use Rattle.liquid_expr.proofs.TokenLaws.{name_some, is_whole, fraction_ascii}
+use Rattle.liquid_expr.proofs.TokenLaws.{fraction_ascii}
 use Rattle.liquid_expr.proofs.token.number.Goals as goal
 
 pub head-requires-clause-last : goal.head-requires-clause-last

@@ -1,4 +1,4 @@
-use Rattle.std.proofs.Common.{arith, rules, ◌≡◌, ◌+◌, ◌-◌, ◌<◌, ◌≤◌, ◌++◌, ◌∷◌, [], length, take, drop, get_or, map, sym, ap, ◌∙◌, refl, subst, true, false, Some, None, slice_index}
+use Rattle.std.proofs.Common.{rules, ◌≡◌, ◌<◌, ◌++◌, ◌∷◌, [], length, map, sym, ap, ◌∙◌, true, false, Some, None, slice_index}
 use Rattle.std.proofs.lemmas.List.{map-append}
 use Rattle.liquid_grammar.specs.Pieces.{is_white}
 use Rattle.liquid_grammar.specs.Tokens.{token_at, tokens_after}
