@@ -1,0 +1,366 @@
+// The pieces of a template's text.
+ghost use Rattle.std.specs.Prelude.{◌≡◌, ◌+◌, ◌<◌, ◌≤◌, ◌^◌, ◌++◌, length, false, OnOk, IfOk};
+ghost use Rattle.liquid_grammar.specs.declared.piece.PieceKind.TheVariants as kind;
+ghost use Rattle.liquid_grammar.specs.Pieces.{len_of, pieces_of, cut_of, cut_is, cut, text_piece, markup_piece, dropped_piece};
+ghost use Rattle.liquid_expr.specs.Fits.{Fits};
+ghost use Rattle.liquid_expr.specs.Gives.{GivesCut};
+
+use crate::front::{front_of, len_of, trims_after};
+use crate::places::{line_ends, tail};
+use crate::spans::{inside_at, stripped_at};
+use liquid_grammar::{Front, Piece, PieceKind, Span};
+use site_base::Memory;
+use std::alloc::Global;
+
+/// The pieces of a text up to the first that has no end.
+#[derive(Drop)]
+pub struct Pieces {
+    pub list: Vec<Piece>,
+    /// The line in which a `{{`, a `{%` or a `raw` without its end starts.
+    pub unclosed: Option<u64>,
+}
+
+/// Why a text has no pieces.
+#[derive(Clone, Copy, Debug, PartialEq, Eq)]
+pub enum CutError {
+    /// A `{{`, a `{%` or a `raw` that starts in this line has no end.
+    Unclosed(u64),
+    Memory,
+}
+
+/// The pieces of a text, which cover it one after another, or the line of the first that has no end.
+pub fn cut(alloc: Global, text: &str) -> Result<Vec<Piece>, CutError>
+    ensures { GivesCut (λ pieces. pieces.items) result (cut text.now) }
+{
+    match cut_up(alloc, text) {
+        Ok(
+            Pieces {
+                list,
+                unclosed: None,
+            },
+        ) => Ok(list),
+        Ok(
+            Pieces {
+                unclosed: Some(line),
+                ..
+            },
+        ) => Err(CutError::Unclosed(line)),
+        Err(Memory) => Err(CutError::Memory),
+    }
+}
+
+/// The pieces of a text up to the first that has no end, and where that one starts.
+pub fn cut_up(alloc: Global, text: &str) -> Result<Pieces, Memory>
+    ensures { IfOk result (λ all. cut_is all.list.items all.unclosed ≡ cut_of text.now) }
+{
+    let bytes = text.as_bytes();
+    let mut pieces = Vec::new(alloc);
+    let mut at = 0;
+    let mut line = 1;
+    let mut trims = false;
+    while at < bytes.len() {
+        let rest = tail(bytes, at);
+        let front = front_of(rest);
+        let len = match len_of(&front, rest.len()) {
+            Some(len) => len,
+            None => {
+                return Ok(Pieces {
+                    list: pieces,
+                    unclosed: Some(line),
+                });
+            }
+        };
+        push_pieces(&mut pieces, &front, at, line, trims, rest)?;
+        trims = trims_after(&front, rest);
+        line += line_ends(&rest[..len]) as u64;
+        at += len;
+    }
+    Ok(Pieces {
+        list: pieces,
+        unclosed: None,
+    })
+}
+
+// Adds the pieces of what stands at the front of `text`, which is the rest from `at` on.
+fn push_pieces(
+    pieces: &mut Vec<Piece>,
+    front: &Front,
+    at: usize,
+    line: u64,
+    trims: bool,
+    text: &[u8],
+) -> Result<(), Memory>
+    requires fits { Fits (length text.now) front.now }
+    requires place { at + length text.now < 2 ^ 63 }
+    requires line { line ≤ at + 1 }
+    ensures { OnOk result (pieces.new.items ≡ pieces.old.items ++ pieces_of front.now (record { at = at; line = line; trims = trims; text = text.now })) }
+{
+    match front {
+        Front::Text(n) => {
+            pieces.push(text_piece(at, line, trims, text, *n))?;
+        }
+        Front::Output(n) => {
+            pieces.push(markup_piece(PieceKind::Output, at, line, text, *n))?;
+        }
+        Front::Tag(n) => {
+            pieces.push(markup_piece(PieceKind::Tag, at, line, text, *n))?;
+        }
+        Front::Raw(n, m) => {
+            pieces.push(markup_piece(PieceKind::Tag, at, line, text, *n))?;
+            if *m > 0 {
+                let trims = text[*n - 3] == b'-';
+                let line = line + line_ends(&text[..*n]) as u64;
+                pieces.push(text_piece(at + *n, line, trims, tail(text, *n), *m))?;
+            }
+        }
+        Front::Comment(n, m) => {
+            pieces.push(markup_piece(PieceKind::Tag, at, line, text, *n))?;
+            if *m > 0 {
+                let line = line + line_ends(&text[..*n]) as u64;
+                pieces.push(dropped_piece(at + *n, line, *m))?;
+            }
+        }
+        Front::Unclosed => {}
+    }
+    Ok(())
+}
+
+fn text_piece(at: usize, line: u64, trims: bool, text: &[u8], len: usize) -> Piece
+    requires within { len ≤ length text.now }
+    requires place { at + length text.now < 2 ^ 63 }
+    ensures { result ≡ text_piece len (record { at = at; line = line; trims = trims; text = text.now }) }
+{
+    Piece {
+        kind: PieceKind::Text,
+        span: Span {
+            start: at,
+            end: at + len,
+        },
+        inner: stripped_at(at, trims, text, len),
+        line,
+    }
+}
+
+fn markup_piece(kind: PieceKind, at: usize, line: u64, text: &[u8], len: usize) -> Piece
+    requires marks { 4 ≤ len }
+    requires within { len ≤ length text.now }
+    requires place { at + length text.now < 2 ^ 63 }
+    ensures { result ≡ markup_piece kind len (record { at = at; line = line; trims = false; text = text.now }) }
+{
+    Piece {
+        kind,
+        span: Span {
+            start: at,
+            end: at + len,
+        },
+        inner: inside_at(at, text, len),
+        line,
+    }
+}
+
+// What a comment holds, of which nothing is written.
+fn dropped_piece(at: usize, line: u64, len: usize) -> Piece
+    requires { at + len < 2 ^ 63 }
+    ensures { result ≡ dropped_piece len at line }
+{
+    Piece {
+        kind: PieceKind::Text,
+        span: Span {
+            start: at,
+            end: at + len,
+        },
+        inner: Span { start: at, end: at },
+        line,
+    }
+}
+
+#[cfg(test)]
+mod tests {
+    use super::*;
+    use std::test::*;
+
+    fn name(kind: PieceKind) -> char {
+        match kind {
+            PieceKind::Text => 't',
+            PieceKind::Output => 'o',
+            PieceKind::Tag => 'g',
+        }
+    }
+
+    // Whether the pieces follow one another, cover the text, and have these kinds, insides and lines.
+    fn reads_as(alloc: Global, text: &str, wanted: &[(char, &str, u64)]) -> bool {
+        let pieces = match cut(alloc, text) {
+            Ok(pieces) => pieces,
+            Err(_) => return false,
+        };
+        let mut end = 0;
+        for (piece, (kind, inner, line)) in pieces.iter().zip(wanted) {
+            let bytes = text.as_bytes().get(piece.inner.start..piece.inner.end);
+            if piece.span.start != end || name(piece.kind) != *kind || piece.line != *line {
+                return false;
+            }
+            if bytes != Some(inner.as_bytes()) {
+                return false;
+            }
+            end = piece.span.end;
+        }
+        pieces.len() == wanted.len() && end == text.len()
+    }
+
+    #[test]
+    fn cuts_plain_pieces(rt: HostRuntime) {
+        assert!(rt; reads_as(rt.alloc(), "", &[]));
+        assert!(rt; reads_as(rt.alloc(), "ab", &[('t', "ab", 1)]));
+        assert!(rt; reads_as(rt.alloc(), "}} %} {", &[('t', "}} %} {", 1)]));
+        assert!(rt; reads_as(rt.alloc(), "{{}}{%%}", &[('o', "", 1), ('g', "", 1)]));
+        assert!(rt; reads_as(rt.alloc(), "{% a {{ b %}", &[('g', " a {{ b ", 1)]));
+        assert!(rt; reads_as(rt.alloc(), "{{{ a }}}", &[('o', "{ a ", 1), ('t', "}", 1)]));
+        assert!(rt;
+            reads_as(
+                rt.alloc(),
+                "{{ \"}}\" }}",
+                &[('o', " \"", 1), ('t', "\" }}", 1)]
+            )
+        );
+        assert!(rt;
+            reads_as(
+                rt.alloc(),
+                "a\r\n\n{% b\n %}{{ c }}",
+                &[('t', "a\r\n\n", 1), ('g', " b\n ", 3), ('o', " c ", 4)]
+            )
+        );
+    }
+
+    #[test]
+    fn strips_at_dashes(rt: HostRuntime) {
+        assert!(rt;
+            reads_as(
+                rt.alloc(),
+                "a {{- b -}} \n c",
+                &[('t', "a", 1), ('o', " b ", 1), ('t', "c", 1)]
+            )
+        );
+        assert!(rt;
+            reads_as(
+                rt.alloc(),
+                " \t\u{b}{{- a }} ",
+                &[('t', "", 1), ('o', " a ", 1), ('t', " ", 1)]
+            )
+        );
+        assert!(rt;
+            reads_as(
+                rt.alloc(),
+                "é {%- a -%} é",
+                &[('t', "é", 1), ('g', " a ", 1), ('t', "é", 1)]
+            )
+        );
+        assert!(rt;
+            reads_as(
+                rt.alloc(),
+                " {{ a -}} {{- b }} ",
+                &[
+                    ('t', " ", 1),
+                    ('o', " a ", 1),
+                    ('t', "", 1),
+                    ('o', " b ", 1),
+                    ('t', " ", 1),
+                ]
+            )
+        );
+    }
+
+    #[test]
+    fn keeps_raw_text_and_drops_comments(rt: HostRuntime) {
+        assert!(rt;
+            reads_as(
+                rt.alloc(),
+                "{% raw %}{{ a }}{% endraw %}b",
+                &[
+                    ('g', " raw ", 1),
+                    ('t', "{{ a }}", 1),
+                    ('g', " endraw ", 1),
+                    ('t', "b", 1),
+                ]
+            )
+        );
+        assert!(rt;
+            reads_as(
+                rt.alloc(),
+                "{%- raw -%} x {%- endraw -%} y",
+                &[
+                    ('g', " raw ", 1),
+                    ('t', "x", 1),
+                    ('g', " endraw ", 1),
+                    ('t', "y", 1),
+                ]
+            )
+        );
+        assert!(rt;
+            reads_as(
+                rt.alloc(),
+                "{%raw%}{%endraw%}",
+                &[('g', "raw", 1), ('g', "endraw", 1)]
+            )
+        );
+        assert!(rt;
+            reads_as(
+                rt.alloc(),
+                "{% raw %}{% if endraw %}{%endraw%}",
+                &[
+                    ('g', " raw ", 1),
+                    ('t', "{% if endraw %}", 1),
+                    ('g', "endraw", 1),
+                ]
+            )
+        );
+        assert!(rt;
+            reads_as(
+                rt.alloc(),
+                "{% comment %}{{\n{% endcomment %}x",
+                &[
+                    ('g', " comment ", 1),
+                    ('t', "", 1),
+                    ('g', " endcomment ", 2),
+                    ('t', "x", 2),
+                ]
+            )
+        );
+        assert!(rt;
+            reads_as(
+                rt.alloc(),
+                "{%comment%}{%comment%}{%endcomment%}{%endcomment%}",
+                &[
+                    ('g', "comment", 1),
+                    ('t', "", 1),
+                    ('g', "endcomment", 1),
+                    ('g', "endcomment", 1),
+                ]
+            )
+        );
+        assert!(rt;
+            reads_as(
+                rt.alloc(),
+                "{%comment%}{% x",
+                &[('g', "comment", 1), ('t', "", 1)]
+            )
+        );
+    }
+
+    #[test]
+    fn names_the_line_without_an_end(rt: HostRuntime) {
+        let rows = [
+            ("{{ a", 1),
+            ("{{", 1),
+            ("{{ a %}", 1),
+            ("{% a }}", 1),
+            ("x\n\n{{ a", 3),
+            ("{{ a }}\n{% raw %}{{ b }}", 2),
+            ("\n{% raw %}{% endra %}", 2),
+            ("{% raw %}\n{% endraw", 1),
+        ];
+        for (text, line) in rows {
+            let found = cut(rt.alloc(), text).err();
+            assert!(rt; found == Some(CutError::Unclosed(line)), "at {text:?}");
+        }
+    }
+}
