@@ -1,10 +1,7 @@
 -- The recursion on whole extents is a walk that adds one line after another.
 use Rattle.std.proofs.Common.{Bool, List, None, Option, Some, [], ap, arith, false, refl, subst, suc, sym, true, zero, ℕ, ◌++◌, ◌+◌, ◌<◌, ◌∙◌, ◌∷◌, ◌≡◌, ◌≤◌}
 use Rattle.site_base.specs.Recursion.{Falls, down_is}
-use Rattle.markdown_grammar.specs.Columns.{Line}
-use Rattle.markdown_grammar.specs.Containers.{Container}
 use Rattle.markdown_grammar.specs.Extents.{BlocksOf, EntersLight, Entry, Extent, IsLight, Opening, OpensLight, Reach, Rules, add_line, blank_line, block_from, blocks_by, blocks_step, contained, container, ends_in_paragraph, entered, ext, extent, goes_in, goes_in_if_filled, goes_in_if_open, has_block, leaf, leaf_more, leafed, lines_weight, no_blocks, opens_container, opens_leaf, opens_nothing, reach, stays_out, when}
-use Rattle.markdown_grammar.specs.Leaves.{Leaf}
 
 module _ {Line Leaf Container : Type 0} (r : Rules Line Leaf Container) (light : IsLight r) where
   abbrev B : Type 0

@@ -2,10 +2,7 @@
 use Rattle.std.proofs.Common.{List, None, Option, Some, [], ap, append_assoc, arith, refl, suc, sym, zero, ℕ, ◌++◌, ◌<◌, ◌∙◌, ◌∷◌, ◌≡◌}
 use Rattle.std.proofs.lemmas.List.{append-nil}
 use Rattle.markdown_grammar.proofs.Extending.{blocks_is, one_more}
-use Rattle.markdown_grammar.specs.Columns.{Line}
-use Rattle.markdown_grammar.specs.Containers.{Container}
 use Rattle.markdown_grammar.specs.Extents.{BlocksOf, IsLight, Opening, OpensLight, Rules, add_line, blank_line, block_from, blocks_by, container, entered, leaf, leaf_more, no_blocks, opens_container, opens_leaf, opens_nothing}
-use Rattle.markdown_grammar.specs.Leaves.{Leaf}
 use Rattle.markdown_grammar.specs.OpenEnds.{EndsClosed, IsOpenEnd, OpenEnd, after, begin, begin_by, begun, container_open, followed_by, leaf_on, leaf_open, leaf_step, line_step, line_steps, none_open, walked, whole}
 
 module _ {Line Leaf Container : Type 0} (r : Rules Line Leaf Container) where

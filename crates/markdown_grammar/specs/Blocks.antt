@@ -15,6 +15,7 @@ abbrev pub item_opening : ℕ → ℕ → ℕ → ℕ → ℕ → List ℕ → O
 item_opening kind number i col digits after =
     let pad = padding col after in opens_container (list_item kind number (i + digits + 1 + pad)) (shifted pad col after)
 
+-- what a line opens, by what it starts: t is the line, and cs what follows the first byte of its text
 abbrev pub opening_at : ℕ → List ℕ → List ℕ → Start → Opening Line Leaf Container
 opening_at col t cs blank_start = opens_nothing
 opening_at col t cs quote_start = opens_container block_quote (shifted 1 (col + indent col t + 1) cs)
@@ -27,6 +28,7 @@ opening_at col t cs (item_start kind number digits) = item_opening kind number (
 opening_at col t cs indented_start = opens_leaf (indented_code (line_text (shifted 4 col t) ∷ []) [])
 opening_at col t cs text_start = opens_leaf (paragraph (trim_front t ∷ []))
 
+-- the same, by the text without the white space in front
 abbrev pub opening_of : ℕ → List ℕ → List ℕ → Opening Line Leaf Container
 opening_of col t [] = opens_nothing
 opening_of col t (c ∷ cs) = opening_at col t cs (start_of not_in_paragraph col t)
@@ -36,12 +38,15 @@ abbrev pub opening : Line → Opening Line Leaf Container
 opening (lazy_line t) = opens_leaf (paragraph (trim_front t ∷ []))
 opening (own_line col t) = opening_of col t (trim_front t)
 
+-- by this a container's inside is lighter than the line
 abbrev pub line_weight : Line → ℕ
 line_weight l = bytes_weight (line_text l)
 
+-- the rules of leaves and containers
 abbrev pub rules : Rules Line Leaf Container
 rules = record { weight = line_weight; start = opening; more = more; entry = entry; is_open = is_open }
 
+-- the blocks of a text: each holds those that follow it
 abbrev pub Blocks : Type 0
 Blocks = BlocksOf Line Leaf Container
 

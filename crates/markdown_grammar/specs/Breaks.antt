@@ -4,6 +4,7 @@ use Rattle.markdown_grammar.specs.Bytes.{hyphen, is_space, star, underscore}
 use Rattle.markdown_grammar.specs.Fronts.{first_byte, has_byte}
 use Rattle.markdown_grammar.specs.Starts.{Start, break_start, text_start}
 
+-- how often a byte stands in a text
 abbrev pub count_of : ℕ → List ℕ → ℕ
 count_of c [] = 0
 count_of c (d ∷ ds) = (if c == d then 1 else 0) + count_of c ds

@@ -91,16 +91,20 @@ lower_x = 120
 
 abbrev pub tilde : ℕ
 tilde = 126
+
+-- from one to another, both included
 abbrev pub between : ℕ → ℕ → ℕ → Bool
 between low high c = nat_le low c && nat_le c high
 
--- a space or a tab; a space, a tab or a line end
+-- a space or a tab
 abbrev pub is_space : ℕ → Bool
 is_space c = (c == space) || (c == tab)
 
+-- a space, a tab or a line end
 abbrev pub is_white : ℕ → Bool
 is_white c = (c == space) || ((c == tab) || ((c == line_feed) || (c == carriage_return)))
 
+-- ASCII digits, letters, both, and digits of base 16
 abbrev pub is_digit : ℕ → Bool
 is_digit c = between 48 57 c
 
@@ -113,13 +117,15 @@ is_alnum c = is_letter c || is_digit c
 abbrev pub is_hex : ℕ → Bool
 is_hex c = is_digit c || (between 65 70 c || between 97 102 c)
 
+-- an ASCII control
 abbrev pub is_control : ℕ → Bool
 is_control c = nat_lt c 32 || (c == 127)
 
--- ASCII punctuation (2.1)
+-- ASCII punctuation
 abbrev pub is_punct : ℕ → Bool
 is_punct c = (between 33 47 c || between 58 64 c) || (between 91 96 c || between 123 126 c)
 
+-- an ASCII letter in lower case, and any other byte as it is
 abbrev pub lower : ℕ → ℕ
 lower c = if between 65 90 c then c + 32 else c
 

@@ -1,6 +1,7 @@
 -- The character references that have a name: those of this profile, from the list that CommonMark 0.31.2, section 2.5, takes over from HTML.
 use Rattle.std.specs.Prelude.{List, [], codes, ℕ, ◌∷◌}
 
+-- each name with the code of its character
 unfoldable pub character_names : List (List ℕ × ℕ)
 character_names =
     (codes "amp", 38)

@@ -10,6 +10,7 @@ use Rattle.markdown_grammar.specs.Readers.{Reader, plus}
 abbrev pub Taken : Type 0
 Taken = Piece × ℕ
 
+-- n bytes that are text
 abbrev pub as_textual : List ℕ → ℕ → Taken
 as_textual b n = (finished (textual b no_inlines), n)
 
@@ -26,10 +27,12 @@ abbrev pub spaced : List ℕ → List ℕ
 spaced [] = []
 spaced (c ∷ cs) = (if c == line_feed then space else c) ∷ spaced cs
 
+-- the text of a span, from what stands between the backticks
 abbrev pub span_text : List ℕ → List ℕ
 span_text t = let u = spaced t in
     if ((first_byte u == space) && (first_byte (reverse u) == space)) && has_byte (λ c. not (c == space)) u then take (length u - 2) (drop 1 u) else u
 
+-- a run of backticks: a span up to the next run of just that length, else text
 abbrev pub code_at : List ℕ → Taken
 code_at t =
     let n = run_len (λ c. c == backtick) t in

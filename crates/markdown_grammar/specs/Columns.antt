@@ -7,6 +7,7 @@ pub data Line : Type 0 where
   own_line : (col : ℕ) → (text : List ℕ) → Line
   lazy_line : (text : List ℕ) → Line
 
+-- how far a tab goes from a column
 abbrev pub tab_width : ℕ → ℕ
 tab_width col = 4 - col % 4
 
@@ -27,10 +28,12 @@ shifted (suc k) col (c ∷ cs) = elim (c == space) [
   | false ↦ elim (c == tab) [ true ↦ shifted k (suc col) (replicate (tab_width col - 1) space ++ cs) | false ↦ own_line col (c ∷ cs) ]
 ]
 
+-- what stands on a line
 abbrev pub line_text : Line → List ℕ
 line_text (own_line col t) = t
 line_text (lazy_line t) = t
 
+-- the lines of the whole text, in which no mark is taken
 abbrev pub whole_lines : List (List ℕ) → List Line
 whole_lines [] = []
 whole_lines (t ∷ ts) = own_line 0 t ∷ whole_lines ts

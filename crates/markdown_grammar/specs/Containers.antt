@@ -8,6 +8,7 @@ use Rattle.markdown_grammar.specs.Lines.{is_blank, trim_front}
 use Rattle.markdown_grammar.specs.Places.{beside_paragraph}
 use Rattle.markdown_grammar.specs.Starts.{Start, text_start}
 
+-- an item's kind is the last byte of its mark, its number that of an ordered item, and its content starts at a column behind the mark
 pub data Container : Type 0 where
   block_quote : Container
   list_item : (kind number content : ℕ) → Container
@@ -21,6 +22,7 @@ abbrev pub lazily : List ℕ → Start → Entry Line
 lazily t text_start = goes_in_if_open (lazy_line t)
 lazily t _ = stays_out
 
+-- an item takes a blank line, and one that is indented to its content
 abbrev pub item_entry : ℕ → ℕ → List ℕ → Entry Line
 item_entry content col t =
     if is_blank t then goes_in_if_filled (shifted content col t) else if nat_le content (indent col t) then goes_in (shifted content col t) else lazily t (start_of beside_paragraph col t)

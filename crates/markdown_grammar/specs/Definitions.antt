@@ -23,11 +23,12 @@ line_rest = spaces then (exactly (line_feed ∷ []) or at_end)
 abbrev pub ending_line : List ℕ → List ℕ → Option (List ℕ) → ℕ → List ℕ → Option Definition
 ending_line name url title n t = elim (line_rest t) [ Some k ↦ Some (record { name = name; url = url; title = title; size = n + k }) | None ↦ None ]
 
--- behind the destination: white space and a title that ends its line, else the line's end
+-- with this title where it ends its line
 abbrev pub with_title_if : List ℕ → List ℕ → ℕ → List ℕ → Option Part → Option Definition
 with_title_if name url n t (Some part) = ending_line name url (Some part.0) (n + part.1) (drop part.1 t)
 with_title_if name url n t None = None
 
+-- behind the destination: white space and a title that ends its line; or the line ends, and there is no title
 abbrev pub titled : List ℕ → List ℕ → ℕ → List ℕ → Option Definition
 titled name url n t =
     let gap = taken (white_gap t) in
@@ -49,13 +50,16 @@ abbrev pub definitions_step : (List ℕ → List Definition) → List ℕ → Li
 definitions_step rest [] = []
 definitions_step rest (c ∷ cs) = elim (front_definition (c ∷ cs)) [ Some d ↦ d ∷ rest (drop (d.size - 1) cs) | None ↦ [] ]
 
+-- the definitions at the front of a text
 unfoldable pub definitions : List ℕ → List Definition
 definitions t = down length [] definitions_step t
 
+-- how many bytes definitions take
 abbrev pub total_size : List Definition → ℕ
 total_size [] = 0
 total_size (d ∷ ds) = d.size + total_size ds
 
+-- what is left of a paragraph's text behind its definitions
 abbrev pub after_definitions : List ℕ → List ℕ
 after_definitions t = drop (total_size (definitions t)) t
 

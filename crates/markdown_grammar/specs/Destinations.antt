@@ -33,12 +33,15 @@ bare_len is_escaped depth (c ∷ cs) = elim (is_escaped && is_punct c) [
 abbrev pub Part : Type 0
 Part = List ℕ × ℕ
 
+-- the destination behind `<`
 abbrev pub pointed_destination : List ℕ → Option Part
 pointed_destination cs = elim (pointed_len false cs) [ Some n ↦ Some (resolved (take n cs), n + 2) | None ↦ None ]
 
+-- a destination without `<`, which is not empty
 abbrev pub bare_destination : List ℕ → Option Part
 bare_destination t = elim (bare_len false 0 t) [ Some n ↦ (if n == 0 then None else Some (resolved (take n t), n)) | None ↦ None ]
 
+-- the destination at the front of a text
 abbrev pub destination : List ℕ → Option Part
 destination [] = None
 destination (c ∷ cs) = if c == less_than then pointed_destination cs else bare_destination (c ∷ cs)

@@ -15,12 +15,14 @@ pub data Entry (Line : Type 0) : Type 0 where
   goes_in_if_open : (l : Line) → Entry Line
   stays_out : Entry Line
 
+-- blocks and blank lines, each with those that follow it
 pub data BlocksOf (Line Leaf Container : Type 0) : Type 0 where
   no_blocks : BlocksOf Line Leaf Container
   blank_line : (l : Line) → (rest : BlocksOf Line Leaf Container) → BlocksOf Line Leaf Container
   leaf : (s : Leaf) → (rest : BlocksOf Line Leaf Container) → BlocksOf Line Leaf Container
   container : (k : Container) → (body rest : BlocksOf Line Leaf Container) → BlocksOf Line Leaf Container
 
+-- the rules that a kind of text has: what a line starts, whether a leaf takes one more, how a line enters a container, and which leaves are open paragraphs
 pub record Rules (Line Leaf Container : Type 0) : Type 0 where
   pub weight : Line → ℕ
   pub start : Line → Opening Line Leaf Container
@@ -28,6 +30,7 @@ pub record Rules (Line Leaf Container : Type 0) : Type 0 where
   pub entry : Container → Line → Entry Line
   pub is_open : Leaf → Bool
 
+-- some block is among them, blank lines aside
 abbrev pub has_block : {Line Leaf Container : Type 0} → BlocksOf Line Leaf Container → Bool
 has_block no_blocks = false
 has_block (blank_line l rest) = has_block rest
@@ -44,6 +47,7 @@ module _ {Line Leaf Container : Type 0} (r : Rules Line Leaf Container) where
   ends_in_paragraph (container k body no_blocks) = ends_in_paragraph body
   ends_in_paragraph (container k body rest) = ends_in_paragraph rest
 
+  -- the line, where a test holds
   abbrev pub when : Bool → Line → Option Line
   when true l = Some l
   when false l = None
@@ -61,6 +65,7 @@ module _ {Line Leaf Container : Type 0} (r : Rules Line Leaf Container) where
     pub inside : List Line
     pub rest : List Line
 
+  -- an extent of these lines
   abbrev pub ext : List Line → List Line → Extent
   ext inside rest = record { inside = inside; rest = rest }
 
@@ -74,38 +79,47 @@ module _ {Line Leaf Container : Type 0} (r : Rules Line Leaf Container) where
     pub state : Leaf
     pub rest : List Line
 
+  -- how far a leaf goes: while it takes the next line
   abbrev pub reach : Leaf → List Line → Reach
   reach s [] = record { state = s; rest = [] }
   reach s (l ∷ ls) = elim (r.more s l) [ Some t ↦ reach t ls | None ↦ record { state = s; rest = l ∷ ls } ]
 
+  -- a container with its inside, and the blocks after it
   abbrev pub contained : (List Line → BlocksOf Line Leaf Container) → Container → Extent → BlocksOf Line Leaf Container
   contained f k e = container k (f e.inside) (f e.rest)
 
+  -- a leaf, and the blocks after it
   abbrev pub leafed : (List Line → BlocksOf Line Leaf Container) → Reach → BlocksOf Line Leaf Container
   leafed f e = leaf e.state (f e.rest)
 
+  -- the block that starts with a line, and the blocks after it
   abbrev pub block_from : (List Line → BlocksOf Line Leaf Container) → Line → List Line → Opening Line Leaf Container → BlocksOf Line Leaf Container
   block_from f l ls opens_nothing = blank_line l (f ls)
   block_from f l ls (opens_leaf s) = leafed f (reach s ls)
   block_from f l ls (opens_container k m) = contained f k (extent f k (m ∷ []) ls)
 
+  -- one block, then the others
   abbrev pub blocks_step : (List Line → BlocksOf Line Leaf Container) → List Line → BlocksOf Line Leaf Container
   blocks_step f [] = no_blocks
   blocks_step f (l ∷ ls) = block_from f l ls (r.start l)
 
+  -- how much lines have, in which the recursion falls
   abbrev pub lines_weight : List Line → ℕ
   lines_weight [] = 0
   lines_weight (l ∷ ls) = suc (r.weight l) + lines_weight ls
 
+  -- the blocks of lines
   unfoldable pub blocks_by : List Line → BlocksOf Line Leaf Container
   blocks_by ls = down lines_weight no_blocks blocks_step ls
 
   -- ---- one line after another, on the right spine
 
+  -- the leaf with one more line, else the leaf and what the line starts
   abbrev pub leaf_more : Leaf → Line → Option Leaf → BlocksOf Line Leaf Container
   leaf_more s l (Some t) = leaf t no_blocks
   leaf_more s l None = leaf s (blocks_by (l ∷ []))
 
+  -- blocks with one more line at the end
   abbrev pub add_line : BlocksOf Line Leaf Container → Line → BlocksOf Line Leaf Container
   add_line no_blocks l = blocks_by (l ∷ [])
   add_line (blank_line g rest) l = blank_line g (add_line rest l)
@@ -116,11 +130,13 @@ module _ {Line Leaf Container : Type 0} (r : Rules Line Leaf Container) where
 
   -- ---- what is asked of the rules: a line gets no heavier inside, and lighter behind a mark
 
+  -- a container's first line is lighter than the line that opens it
   abbrev pub OpensLight : ℕ → Opening Line Leaf Container → Type 0
   OpensLight n (opens_container k m) = r.weight m < n
   OpensLight n opens_nothing = Unit {0}
   OpensLight n (opens_leaf s) = Unit {0}
 
+  -- a line is no heavier inside
   abbrev pub EntersLight : ℕ → Entry Line → Type 0
   EntersLight n (goes_in l) = r.weight l ≤ n
   EntersLight n (goes_in_if_filled l) = r.weight l ≤ n

@@ -11,12 +11,15 @@ use Rattle.markdown_grammar.specs.Fronts.{first_byte, run_len}
 abbrev pub is_lead : ℕ → Bool
 is_lead b = not (between 128 191 b)
 
+-- how many bytes the character has that this byte leads
 abbrev pub lead_size : ℕ → ℕ
 lead_size b = if nat_lt b 128 then 1 else if nat_lt b 224 then 2 else if nat_lt b 240 then 3 else 4
 
+-- the character at the front of a text
 abbrev pub char_after : List ℕ → ℕ
 char_after t = slice_index_or (chars (take (lead_size (first_byte t)) t)) 0 line_feed
 
+-- the character at the end of a text that lies last byte first
 abbrev pub char_before : List ℕ → ℕ
 char_before done = slice_index_or (chars (reverse (take (suc (run_len (λ b. not (is_lead b)) done)) done))) 0 line_feed
 
@@ -24,9 +27,11 @@ char_before done = slice_index_or (chars (reverse (take (suc (run_len (λ b. not
 abbrev pub is_unicode_white : ℕ → Bool
 is_unicode_white c = ((c == space) || (between 9 10 c || between 12 13 c)) || general_category_eq (general_category c) SpaceSeparator
 
+-- categories P and S
 abbrev pub in_category : ℕ → Bool
 in_category c = in_group Punctuation (general_category c) || in_group Symbol (general_category c)
 
+-- Unicode punctuation
 abbrev pub is_unicode_punct : ℕ → Bool
 is_unicode_punct c = if nat_lt c 128 then is_punct c else in_category c
 

@@ -6,6 +6,7 @@ abbrev pub first_byte : List ℕ → ℕ
 first_byte [] = 0
 first_byte (c ∷ cs) = c
 
+-- a list without elements
 abbrev pub is_empty : {A : Type 0} → List A → Bool
 is_empty [] = true
 is_empty (x ∷ xs) = false
@@ -39,6 +40,7 @@ abbrev pub ◌orelse◌ : {A : Type 0} → Option A → Option A → Option A
 (Some x) orelse o = Some x
 None orelse o = o
 
+-- there is a value
 abbrev pub has : {A : Type 0} → Option A → Bool
 has (Some x) = true
 has None = false

@@ -35,9 +35,11 @@ blocks_onto defs tight open_list (container (list_item kind number content) body
     let now = open_after open_list kind (is_loose kind (container (list_item kind number content) body rest)) in
     blocks_onto defs tight now rest (blocks_onto defs (is_tight now) no_list body (opened open_list kind number out ++ codes "<li>") ++ codes "</li>\n")
 
+-- the HTML of blocks
 abbrev pub html_of : Blocks → List ℕ
 html_of bs = blocks_onto (links_of bs) false no_list bs []
 
+-- the HTML that a text means: its blocks, in which the definitions of the whole text are known
 unfoldable pub html : List ℕ → List ℕ
 unfolding down lines definitions character_names resolved block_names verbatim_names blocks blocks_of pairs pieces_from inlines default_case_fold full_folding full_folding_rows general_category general_category_rows value_in chars encode_utf8 digits
 html t = html_of (blocks_of t)

@@ -7,6 +7,7 @@ use Rattle.markdown_grammar.specs.Readers.{Reader, ahead, at_end, exactly, space
 use Rattle.markdown_grammar.specs.Starts.{Start, html_start, text_start}
 use Rattle.markdown_grammar.specs.Tags.{closing_tag, open_tag}
 
+-- a name is one of these
 abbrev pub is_among : List (List ℕ) → List ℕ → Bool
 is_among [] w = false
 is_among (n ∷ ns) w = elim (same_bytes n w) [ true ↦ true | false ↦ is_among ns w ]
@@ -27,6 +28,7 @@ block_names =
     ∷ codes "param" ∷ codes "search" ∷ codes "section" ∷ codes "summary" ∷ codes "table" ∷ codes "tbody" ∷ codes "td" ∷ codes "tfoot"
     ∷ codes "th" ∷ codes "thead" ∷ codes "title" ∷ codes "tr" ∷ codes "track" ∷ codes "ul" ∷ []
 
+-- what ends a tag's name
 abbrev pub tag_end : Reader
 tag_end = at_end or ahead is_space or exactly (codes ">")
 
@@ -34,9 +36,11 @@ tag_end = at_end or ahead is_space or exactly (codes ">")
 abbrev pub name_in : List ℕ → List ℕ
 name_in t = lowered (take (run_len is_alnum t) t)
 
+-- a tag of kind 1 stands behind `<`
 abbrev pub starts_verbatim : List ℕ → Bool
 starts_verbatim t = let n = name_in t in is_among verbatim_names n && has (tag_end (drop (length n) t))
 
+-- a tag of kind 6 stands behind `<` or `</`
 abbrev pub starts_listed : List ℕ → Bool
 starts_listed t = let n = name_in t in is_among block_names n && has ((tag_end or exactly (codes "/>")) (drop (length n) t))
 
@@ -44,6 +48,7 @@ starts_listed t = let n = name_in t in is_among block_names n && has ((tag_end o
 abbrev pub alone : Reader
 alone = (open_tag or closing_tag) then spaces then at_end
 
+-- what stands behind `<` or `</`
 abbrev pub tag_text : List ℕ → List ℕ
 tag_text t = drop (if first_byte (drop 1 t) == slash then 2 else 1) t
 

@@ -17,6 +17,7 @@ alt (strong body rest) = alt body ++ alt rest
 alt (link url title body rest) = alt body ++ alt rest
 alt (image url title body rest) = alt body ++ alt rest
 
+-- inlines as they are printed
 abbrev pub inline_html : Inlines → List ℕ
 inline_html no_inlines = []
 inline_html (textual b rest) = escaped b ++ inline_html rest

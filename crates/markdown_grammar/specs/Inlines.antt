@@ -14,6 +14,7 @@ pub data Inlines : Type 0 where
   link : (url : List ℕ) → (title : Option (List ℕ)) → (body rest : Inlines) → Inlines
   image : (url : List ℕ) → (title : Option (List ℕ)) → (body rest : Inlines) → Inlines
 
+-- inlines and others after them
 abbrev pub before_all : Inlines → Inlines → Inlines
 before_all no_inlines ys = ys
 before_all (textual b xs) ys = textual b (before_all xs ys)

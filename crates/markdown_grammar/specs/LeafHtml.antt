@@ -15,24 +15,31 @@ use Rattle.markdown_grammar.specs.References.{resolved}
 abbrev pub tagged : List ℕ → List ℕ → List ℕ
 tagged name body = codes "<" ++ (name ++ (codes ">" ++ (body ++ (codes "</" ++ (name ++ codes ">\n")))))
 
+-- `h` and the level
 abbrev pub heading_name : ℕ → List ℕ
 heading_name level = 104 ∷ (48 + level) ∷ []
 
+-- the text of a paragraph or heading, without its definitions
 abbrev pub prose_text : List (List ℕ) → List ℕ
 prose_text texts = trim (after_definitions (joined_lines texts))
 
+-- the first word of an info string, which names a language
 abbrev pub info_word : List ℕ → List ℕ
 info_word info = let t = resolved info in take (run_len (λ c. not (is_white c)) t) t
 
+-- the class of code with a language
 abbrev pub class_text : List ℕ → List ℕ
 class_text w = if is_empty w then [] else codes " class=\"language-" ++ (escaped w ++ codes "\"")
 
+-- a code block
 abbrev pub code_text : List ℕ → List (List ℕ) → List ℕ
 code_text info texts = codes "<pre><code" ++ (class_text (info_word info) ++ (codes ">" ++ (escaped (ended_lines texts) ++ codes "</code></pre>\n")))
 
+-- a paragraph: in a tight list its inlines alone
 abbrev pub paragraph_onto : Bool → List ℕ → List ℕ → List ℕ → List ℕ
 paragraph_onto tight text body out = if is_empty text then out else if tight then out ++ body else fresh_line out ++ tagged (codes "p") body
 
+-- the text so far, and after it a leaf
 abbrev pub leaf_onto : List Definition → Bool → Leaf → List ℕ → List ℕ
 leaf_onto defs tight (paragraph texts) out = paragraph_onto tight (prose_text texts) (inline_html (inlines defs (prose_text texts))) out
 leaf_onto defs tight (setext_heading level texts) out = fresh_line out ++ tagged (heading_name level) (inline_html (inlines defs (prose_text texts)))

@@ -9,6 +9,7 @@ use Rattle.markdown_grammar.specs.Lines.{is_blank, joined_lines, trim_front}
 use Rattle.markdown_grammar.specs.Places.{in_paragraph}
 use Rattle.markdown_grammar.specs.Starts.{Start, text_start, underline_start}
 
+-- texts are lines; an open one of indented code has blank lines pending, which are code only where more follows
 pub data Leaf : Type 0 where
   paragraph : (texts : List (List ℕ)) → Leaf
   setext_heading : (level : ℕ) → (texts : List (List ℕ)) → Leaf
@@ -18,10 +19,12 @@ pub data Leaf : Type 0 where
   fenced_code : (indent mark len : ℕ) → (info : List ℕ) → (texts : List (List ℕ)) → (is_closed : Bool) → Leaf
   html_block : (kind : ℕ) → (texts : List (List ℕ)) → (is_closed : Bool) → Leaf
 
+-- a line may go on this leaf lazily: it is a paragraph
 abbrev pub is_open : Leaf → Bool
 is_open (paragraph texts) = true
 is_open _ = false
 
+-- a paragraph has text beside its definitions
 abbrev pub has_text : List (List ℕ) → Bool
 has_text texts = not (is_blank (after_definitions (joined_lines texts)))
 

@@ -4,12 +4,15 @@ use Rattle.site_base.specs.Lines.{lines}
 use Rattle.markdown_grammar.specs.Bytes.{carriage_return, is_space, line_feed}
 use Rattle.markdown_grammar.specs.Fronts.{is_empty, run_len}
 
+-- without spaces and tabs in front
 abbrev pub trim_front : List ℕ → List ℕ
 trim_front t = drop (run_len is_space t) t
 
+-- without spaces and tabs at both ends
 abbrev pub trim : List ℕ → List ℕ
 trim t = reverse (trim_front (reverse (trim_front t)))
 
+-- spaces and tabs alone
 abbrev pub is_blank : List ℕ → Bool
 is_blank t = is_empty (trim_front t)
 
@@ -22,9 +25,11 @@ nul_replaced (c ∷ cs) = (if c == 0 then 239 ∷ 191 ∷ 189 ∷ [] else c ∷ 
 abbrev pub is_line_end : ℕ → Bool
 is_line_end c = (c == line_feed) || (c == carriage_return)
 
+-- a line without its end
 abbrev pub without_end : List ℕ → List ℕ
 without_end line = take (run_len (λ c. not (is_line_end c)) line) line
 
+-- the lines of a text, without their ends
 abbrev pub text_lines : List ℕ → List (List ℕ)
 text_lines t = map without_end (lines t)
 

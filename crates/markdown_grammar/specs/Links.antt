@@ -20,6 +20,7 @@ Reached = Target × ℕ
 abbrev pub closing_paren : Target → ℕ → List ℕ → Option Reached
 closing_paren target n t = let g = taken (white_gap t) in if first_byte (drop g t) == right_paren then Some (target, n + g + 1) else None
 
+-- white space and a title, which there may be, and `)`
 abbrev pub with_title : List ℕ → ℕ → List ℕ → Option Reached
 with_title url n t =
     elim (some_white_gap t) [
@@ -27,12 +28,14 @@ with_title url n t =
       | None ↦ closing_paren (url, None) n t
     ]
 
+-- 6.3: `(..)` behind a link text
 abbrev pub inline_target : List ℕ → Option Reached
 inline_target t =
     let g = taken (white_gap (drop 1 t)) in
     if not (first_byte t == left_paren) then None else
     elim (destination (drop (1 + g) t)) [ Some d ↦ with_title d.0 (1 + g + d.1) (drop (1 + g + d.1) t) | None ↦ closing_paren ([], None) 1 (drop 1 t) ]
 
+-- the target that a label has in the definitions
 abbrev pub defined : List Definition → ℕ → List ℕ → Option Reached
 defined defs n name = elim (if is_label name then look_up (label_key name) defs else None) [ Some target ↦ Some (target, n) | None ↦ None ]
 
@@ -44,6 +47,7 @@ named_target defs name t =
       | None ↦ (if begins_with (codes "[]") t then defined defs 2 name else defined defs 0 name)
     ]
 
+-- an inline link wins over a reference
 abbrev pub target_of : List Definition → List ℕ → List ℕ → Option Reached
 target_of defs name t = inline_target t orelse named_target defs name t
 
@@ -55,10 +59,12 @@ calmed (open_bracket true active behind ∷ ps) = open_bracket true active behin
 calmed (finished xs ∷ ps) = finished xs ∷ calmed ps
 calmed (delimiter_run mark len first o c ∷ ps) = delimiter_run mark len first o c ∷ calmed ps
 
+-- a link or an image in place of its brackets; no bracket before a link opens another
 abbrev pub linked : Bool → List Piece → Target → List Piece → List Piece
 linked true front target inside = front ++ finished (image target.0 target.1 (pairs inside) no_inlines) ∷ []
 linked false front target inside = calmed front ++ finished (link target.0 target.1 (pairs inside) no_inlines) ∷ []
 
+-- a piece is an open bracket
 abbrev pub is_bracket : Piece → Bool
 is_bracket (open_bracket is_image active behind) = true
 is_bracket (finished xs) = false
@@ -68,9 +74,11 @@ is_bracket (delimiter_run mark len first o c) = false
 abbrev pub Closed : Type 0
 Closed = List Piece × ℕ
 
+-- `]` as text
 abbrev pub closing_text : Piece
 closing_text = finished (textual (right_bracket ∷ []) no_inlines)
 
+-- an open bracket as text
 abbrev pub bracket_piece : Bool → Piece
 bracket_piece true = finished (textual (exclamation_mark ∷ left_bracket ∷ []) no_inlines)
 bracket_piece false = finished (textual (left_bracket ∷ []) no_inlines)
@@ -79,6 +87,7 @@ bracket_piece false = finished (textual (left_bracket ∷ []) no_inlines)
 abbrev pub unlinked : Bool → List Piece → List Piece → Closed
 unlinked is_image front inside = (front ++ (bracket_piece is_image ∷ (inside ++ closing_text ∷ [])), 0)
 
+-- what a `]` makes with an open bracket
 abbrev pub close_with : List Definition → List ℕ → List Piece → Piece → List Piece → Closed
 close_with defs t front (open_bracket is_image true behind) inside =
     elim (target_of defs (take (length behind - (length t + 1)) behind) t) [

@@ -6,11 +6,13 @@ use Rattle.markdown_grammar.specs.Extents.{blank_line, container, leaf, no_block
 use Rattle.markdown_grammar.specs.Leaves.{Leaf, paragraph, setext_heading}
 use Rattle.markdown_grammar.specs.Lines.{joined_lines}
 
+-- the definitions of a paragraph, or of one that an underline has made a heading
 abbrev pub leaf_links : Leaf → List Definition
 leaf_links (paragraph texts) = definitions (joined_lines texts)
 leaf_links (setext_heading level texts) = definitions (joined_lines texts)
 leaf_links _ = []
 
+-- the definitions of blocks, those of insides too
 abbrev pub links_of : Blocks → List Definition
 links_of no_blocks = []
 links_of (blank_line l rest) = links_of rest

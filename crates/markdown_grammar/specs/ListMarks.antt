@@ -13,6 +13,7 @@ may_interrupt not_in_paragraph is_void number = true
 may_interrupt beside_paragraph is_void number = true
 may_interrupt (in_paragraph b) is_void number = not is_void && (number == 1)
 
+-- an item's mark, before white space or the line's end
 abbrev pub item_if : Place → ℕ → ℕ → ℕ → List ℕ → Start
 item_if place kind number digits after =
     if (is_empty after || is_space (first_byte after)) && may_interrupt place (is_blank after) number then item_start kind number digits else text_start

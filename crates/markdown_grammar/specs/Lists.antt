@@ -6,6 +6,7 @@ use Rattle.markdown_grammar.specs.Extents.{blank_line, container, has_block, lea
 use Rattle.markdown_grammar.specs.Fronts.{is_empty}
 use Rattle.markdown_grammar.specs.Leaves.{Leaf, indented_code}
 
+-- a blank line comes next
 abbrev pub starts_gap : Blocks → Bool
 starts_gap (blank_line l rest) = true
 starts_gap _ = false
@@ -15,12 +16,14 @@ abbrev pub is_item_of : ℕ → Container → Bool
 is_item_of kind block_quote = false
 is_item_of kind (list_item k number content) = k == kind
 
+-- an item of the list comes next, behind blank lines or none
 abbrev pub goes_on : ℕ → Blocks → Bool
 goes_on kind no_blocks = false
 goes_on kind (blank_line l rest) = goes_on kind rest
 goes_on kind (leaf s rest) = false
 goes_on kind (container k body rest) = is_item_of kind k
 
+-- an item of the same list comes after this container
 abbrev pub follows : Container → Blocks → Bool
 follows block_quote rest = false
 follows (list_item kind number content) rest = goes_on kind rest
@@ -42,10 +45,12 @@ ends_blank (container (list_item kind number content) (blank_line l no_blocks) n
 ends_blank (container (list_item kind number content) body no_blocks) = ends_blank body
 ends_blank (container k body rest) = ends_blank rest
 
+-- the last line of an item is blank
 abbrev pub item_blank : Blocks → Bool
 item_blank (blank_line l no_blocks) = false
 item_blank body = ends_blank body
 
+-- the last line of a container is blank
 abbrev pub container_blank : Container → Blocks → Bool
 container_blank block_quote body = false
 container_blank (list_item kind number content) body = item_blank body

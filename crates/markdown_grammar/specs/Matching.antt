@@ -8,9 +8,11 @@ pub record Matched : Type 0 where
   pub kept : ℕ
   pub rest : Line
 
+-- one container more
 abbrev pub one_more_kept : Matched → Matched
 one_more_kept m = record { kept = suc m.kept; rest = m.rest }
 
+-- containers from the outermost, while the line goes in
 abbrev pub matched : List Container → Line → Matched
 matched [] l = record { kept = 0; rest = l }
 matched (k ∷ ks) l = elim (entry k l) [

@@ -3,6 +3,7 @@ use Rattle.std.specs.Prelude.{Bool, List, None, Option, Some, [], false, suc, ze
 use Rattle.markdown_grammar.specs.Extents.{BlocksOf, Opening, Rules, blank_line, blocks_by, container, entered, leaf, no_blocks, opens_container, opens_leaf, opens_nothing}
 
 module _ {Line Leaf Container : Type 0} (r : Rules Line Leaf Container) where
+  -- blocks
   abbrev pub B : Type 0
   B = BlocksOf Line Leaf Container
 
@@ -19,6 +20,7 @@ module _ {Line Leaf Container : Type 0} (r : Rules Line Leaf Container) where
     leaf_open : (before : B) → (s : Leaf) → OpenEnd
     container_open : (before : B) → (k : Container) → (inner : OpenEnd) → OpenEnd
 
+  -- all blocks, those of the open containers too
   abbrev pub whole : OpenEnd → B
   whole (none_open before) = before
   whole (leaf_open before s) = followed_by before (leaf s no_blocks)
@@ -28,6 +30,7 @@ module _ {Line Leaf Container : Type 0} (r : Rules Line Leaf Container) where
   abbrev pub after : B → Line → B
   after before l = followed_by before (blocks_by r (l ∷ []))
 
+  -- a line behind an open leaf
   abbrev pub leaf_step : B → Leaf → Line → Option Leaf → B
   leaf_step before s l (Some t) = followed_by before (leaf t no_blocks)
   leaf_step before s l None = after (followed_by before (leaf s no_blocks)) l
@@ -51,6 +54,7 @@ module _ {Line Leaf Container : Type 0} (r : Rules Line Leaf Container) where
   EndsClosed (container k body no_blocks) = ⊥
   EndsClosed (container k body rest) = EndsClosed rest
 
+  -- an open end in which nothing is open that is not on it
   abbrev pub IsOpenEnd : OpenEnd → Type 0
   IsOpenEnd (none_open before) = EndsClosed before
   IsOpenEnd (leaf_open before s) = Unit {0}
@@ -64,17 +68,21 @@ module _ {Line Leaf Container : Type 0} (r : Rules Line Leaf Container) where
   begun inner before l (opens_leaf s) = leaf_open before s
   begun inner before l (opens_container k m) = container_open before k (inner no_blocks m)
 
+  -- the same by n steps inwards, which is above the line's weight
   abbrev pub begin_by : ℕ → B → Line → OpenEnd
   begin_by zero before l = none_open before
   begin_by (suc n) before l = begun (begin_by n) before l (r.start l)
 
+  -- the open end behind a line that nothing takes
   abbrev pub begin : B → Line → OpenEnd
   begin before l = begin_by (suc (r.weight l)) before l
 
+  -- the open end behind a line, where a leaf is open
   abbrev pub leaf_on : B → Leaf → Line → Option Leaf → OpenEnd
   leaf_on before s l (Some t) = leaf_open before t
   leaf_on before s l None = begin (followed_by before (leaf s no_blocks)) l
 
+  -- the open end behind one more line
   abbrev pub line_step : OpenEnd → Line → OpenEnd
   line_step (none_open before) l = begin before l
   line_step (leaf_open before s) l = leaf_on before s l (r.more s l)
@@ -83,6 +91,7 @@ module _ {Line Leaf Container : Type 0} (r : Rules Line Leaf Container) where
     | None ↦ begin (followed_by before (container k (whole inner) no_blocks)) l
   ]
 
+  -- the open end behind more lines
   abbrev pub line_steps : OpenEnd → List Line → OpenEnd
   line_steps s [] = s
   line_steps s (l ∷ ls) = line_steps (line_step s l) ls

@@ -7,6 +7,7 @@ pub data Place : Type 0 where
   beside_paragraph : Place
   in_paragraph : (has_text : Bool) → Place
 
+-- no paragraph is open
 abbrev pub is_fresh : Place → Bool
 is_fresh not_in_paragraph = true
 is_fresh beside_paragraph = false

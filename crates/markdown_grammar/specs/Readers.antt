@@ -3,6 +3,7 @@ use Rattle.std.specs.Prelude.{Bool, List, None, Option, Some, [], drop, false, i
 use Rattle.markdown_grammar.specs.Bytes.{is_space, line_feed}
 use Rattle.markdown_grammar.specs.Fronts.{begins_with, run_len}
 
+-- a pattern: how many bytes it takes at the front of a text, or none
 abbrev pub Reader : Type 0
 Reader = List ℕ → Option ℕ
 
@@ -34,6 +35,7 @@ infixr 5 ◌or◌
 abbrev pub ◌or◌ : Reader → Reader → Reader
 (r or s) t = elim (r t) [ Some k ↦ Some k | None ↦ s t ]
 
+-- what it reads, or nothing taken
 abbrev pub perhaps : Reader → Reader
 perhaps r t = elim (r t) [ Some k ↦ Some k | None ↦ Some 0 ]
 
@@ -42,6 +44,7 @@ abbrev pub repeat_by : ℕ → Reader → Reader
 repeat_by zero r t = Some 0
 repeat_by (suc n) r t = elim (r t) [ Some k ↦ plus k (repeat_by n r (drop k t)) | None ↦ Some 0 ]
 
+-- as often as it reads, in the whole text
 abbrev pub repeat : Reader → Reader
 repeat r t = repeat_by (length t) r t
 

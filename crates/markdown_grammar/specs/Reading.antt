@@ -19,18 +19,22 @@ pub record Spot : Type 0 where
 abbrev pub further : List Piece → ℕ → List ℕ → ℕ → List ℕ → Spot
 further before n done c cs = record { before = before; done = reverse (take (n - 1) cs) ++ c ∷ done; left = drop (n - 1) cs }
 
+-- the spot behind the next piece, or behind what a `]` makes
 abbrev pub next_spot : List Definition → List Piece → List ℕ → ℕ → List ℕ → Spot
 next_spot defs before done c cs = if c == right_bracket
     then (let r = close_bracket defs before cs in further r.0 (r.1 + 1) done c cs)
     else (let r = piece_at done (c ∷ cs) in further (before ++ r.0 ∷ []) r.1 done c cs)
 
+-- the pieces are all there, or the reading goes on
 abbrev pub pieces_at : List Definition → (Spot → List Piece) → List Piece → List ℕ → List ℕ → List Piece
 pieces_at defs rest before done [] = before
 pieces_at defs rest before done (c ∷ cs) = rest (next_spot defs before done c cs)
 
+-- one piece, then the others
 abbrev pub pieces_step : List Definition → (Spot → List Piece) → Spot → List Piece
 pieces_step defs rest s = pieces_at defs rest s.before s.done s.left
 
+-- what is left, in which the reading falls
 abbrev pub left_len : Spot → ℕ
 left_len s = length s.left
 
@@ -38,8 +42,10 @@ left_len s = length s.left
 unfoldable pub pieces_from : List Definition → Spot → List Piece
 pieces_from defs s = down left_len [] (pieces_step defs) s
 
+-- before the whole text
 abbrev pub first_spot : List ℕ → Spot
 first_spot t = record { before = []; done = []; left = t }
 
+-- the inlines of a text, where these definitions are known
 unfoldable pub inlines : List Definition → List ℕ → Inlines
 inlines defs t = pairs (pieces_from defs (first_spot t))

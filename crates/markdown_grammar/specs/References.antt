@@ -6,6 +6,7 @@ use Rattle.markdown_grammar.specs.Bytes.{ampersand, backslash, between, is_alnum
 use Rattle.markdown_grammar.specs.CharacterNames.{character_names}
 use Rattle.markdown_grammar.specs.Fronts.{first_byte, run_len, same_bytes}
 
+-- the character of a name in a table
 abbrev pub named_in : List (List ℕ × ℕ) → List ℕ → Option ℕ
 named_in [] w = None
 named_in (r ∷ rs) w = elim (same_bytes r.0 w) [ true ↦ Some r.1 | false ↦ named_in rs w ]
@@ -51,5 +52,6 @@ resolved_step rest (c ∷ cs) = elim ((c == backslash) && is_punct (first_byte c
   | false ↦ elim (front_reference (c ∷ cs)) [ Some r ↦ encode_utf8 r.0 ++ rest (drop (r.1 - 1) cs) | None ↦ c ∷ rest cs ]
 ]
 
+-- the whole text so
 unfoldable pub resolved : List ℕ → List ℕ
 resolved t = down length [] resolved_step t

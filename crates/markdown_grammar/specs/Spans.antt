@@ -11,12 +11,15 @@ use Rattle.markdown_grammar.specs.Pieces.{Piece, finished, open_bracket, run_at}
 use Rattle.markdown_grammar.specs.References.{front_reference}
 use Rattle.markdown_grammar.specs.Tags.{html_tag}
 
+-- an autolink, whose text is its address
 abbrev pub to_link : List ℕ → List ℕ → Piece
 to_link front t = finished (link (front ++ t) None (textual t no_inlines) no_inlines)
 
+-- n bytes without the first and the last
 abbrev pub between_ends : ℕ → List ℕ → List ℕ
 between_ends n t = take (n - 2) (drop 1 t)
 
+-- `<`: an autolink, raw HTML, or text
 abbrev pub pointed_at : List ℕ → Taken
 pointed_at t =
     elim (pointed uri t) [
@@ -29,10 +32,12 @@ pointed_at t =
           ]
     ]
 
+-- a backslash: a break before a line end, and an escape before punctuation
 abbrev pub escape_at : List ℕ → Taken
 escape_at t = let c = first_byte (drop 1 t) in
     if c == line_feed then (finished (hard_break no_inlines), 2) else if is_punct c then as_textual (c ∷ []) 2 else as_textual (codes "\\") 1
 
+-- `&`: a reference, or text
 abbrev pub reference_at : List ℕ → Taken
 reference_at t = elim (front_reference t) [ Some r ↦ as_textual (encode_utf8 r.0) r.1 | None ↦ as_textual (codes "&") 1 ]
 
@@ -42,9 +47,11 @@ spaces_at t =
     let n = run_len (λ c. c == space) t in
     if first_byte (drop n t) == line_feed then (finished (if nat_lt 1 n then hard_break no_inlines else soft_break no_inlines), n + 1) else as_textual (take n t) n
 
+-- a byte that is not text by itself
 abbrev pub is_special : ℕ → Bool
 is_special c = has_byte (λ d. d == c) (codes "\\&`<*_![] \n")
 
+-- text up to the next such byte
 abbrev pub textual_at : List ℕ → Taken
 textual_at t = let n = suc (run_len (λ c. not (is_special c)) (drop 1 t)) in as_textual (take n t) n
 

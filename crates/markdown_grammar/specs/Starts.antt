@@ -1,7 +1,7 @@
 -- What a line may start: CommonMark 0.31.2, sections 4 and 5.
 use Rattle.std.specs.Prelude.{List, ℕ}
-use Rattle.markdown_grammar.specs.Columns.{indent}
 
+-- what a line starts, or text that starts nothing
 pub data Start : Type 0 where
   blank_start : Start
   quote_start : Start

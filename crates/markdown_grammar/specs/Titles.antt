@@ -13,6 +13,7 @@ title_len mark is_escaped (c ∷ cs) = elim (is_escaped && is_punct c) [
   | false ↦ elim (c == mark) [ true ↦ Some 0 | false ↦ elim ((c == left_paren) && (mark == right_paren)) [ true ↦ None | false ↦ plus 1 (title_len mark (c == backslash) cs) ] ]
 ]
 
+-- the title behind its opening mark
 abbrev pub title_to : (mark : ℕ) → List ℕ → Option Part
 title_to mark t = elim (title_len mark false t) [ Some n ↦ Some (resolved (take n t), n + 2) | None ↦ None ]
 
