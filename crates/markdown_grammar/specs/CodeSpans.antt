@@ -1,7 +1,7 @@
 -- Code spans: CommonMark 0.31.2, section 6.1.
 use Rattle.std.specs.Prelude.{List, None, Some, [], drop, false, if◌then◌else◌, length, not, reverse, suc, take, true, ℕ, ◌&&◌, ◌+◌, ◌-◌, ◌==◌, ◌∷◌}
 use Rattle.markdown_grammar.specs.Bytes.{backtick, line_feed, space}
-use Rattle.markdown_grammar.specs.Fronts.{first_byte, has_byte, run_len}
+use Rattle.markdown_grammar.specs.Fronts.{first_byte, has_one, run_len}
 use Rattle.markdown_grammar.specs.Inlines.{code_span, no_inlines, textual}
 use Rattle.markdown_grammar.specs.Pieces.{Piece, finished}
 use Rattle.markdown_grammar.specs.Readers.{Reader, plus}
@@ -30,7 +30,7 @@ spaced (c ∷ cs) = (if c == line_feed then space else c) ∷ spaced cs
 -- the text of a span, from what stands between the backticks
 abbrev pub span_text : List ℕ → List ℕ
 span_text t = let u = spaced t in
-    if ((first_byte u == space) && (first_byte (reverse u) == space)) && has_byte (λ c. not (c == space)) u then take (length u - 2) (drop 1 u) else u
+    if ((first_byte u == space) && (first_byte (reverse u) == space)) && has_one (λ c. not (c == space)) u then take (length u - 2) (drop 1 u) else u
 
 -- a run of backticks: a span up to the next run of just that length, else text
 abbrev pub code_at : List ℕ → Taken

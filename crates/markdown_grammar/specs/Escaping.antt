@@ -1,7 +1,7 @@
 -- Escapes in HTML and URLs, as they are printed.
 use Rattle.std.specs.Prelude.{List, None, Option, Some, [], codes, flat_map, if◌then◌else◌, nat_lt, ℕ, ◌%◌, ◌++◌, ◌+◌, ◌/◌, ◌==◌, ◌||◌, ◌∷◌}
 use Rattle.markdown_grammar.specs.Bytes.{ampersand, double_quote, greater_than, is_alnum, less_than, percent_sign}
-use Rattle.markdown_grammar.specs.Fronts.{has_byte}
+use Rattle.markdown_grammar.specs.Fronts.{has_one}
 
 -- `&`, `<`, `>` and `"` as references
 abbrev pub escaped_byte : ℕ → List ℕ
@@ -17,7 +17,7 @@ hex_digit d = if nat_lt d 10 then 48 + d else 55 + d
 
 -- a byte of a URL: `%` and two digits, but for letters, digits and these marks
 abbrev pub url_byte : ℕ → List ℕ
-url_byte c = if is_alnum c || has_byte (λ d. d == c) (codes "-_.+!*'(),%#@?=;:/&$~`") then escaped_byte c else percent_sign ∷ hex_digit (c / 16) ∷ hex_digit (c % 16) ∷ []
+url_byte c = if is_alnum c || has_one (λ d. d == c) (codes "-_.+!*'(),%#@?=;:/&$~`") then escaped_byte c else percent_sign ∷ hex_digit (c / 16) ∷ hex_digit (c % 16) ∷ []
 
 -- a URL as it stands in an attribute
 abbrev pub url_text : List ℕ → List ℕ

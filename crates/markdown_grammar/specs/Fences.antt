@@ -2,7 +2,7 @@
 use Rattle.std.specs.Prelude.{Bool, List, drop, if◌then◌else◌, nat_le, nat_lt, not, ℕ, ◌&&◌, ◌==◌, ◌||◌}
 use Rattle.markdown_grammar.specs.Bytes.{backtick, tilde}
 use Rattle.markdown_grammar.specs.Columns.{indent}
-use Rattle.markdown_grammar.specs.Fronts.{first_byte, has_byte, run_len}
+use Rattle.markdown_grammar.specs.Fronts.{first_byte, has_one, run_len}
 use Rattle.markdown_grammar.specs.Lines.{is_blank, trim, trim_front}
 use Rattle.markdown_grammar.specs.Starts.{Start, fence_start, text_start}
 
@@ -11,7 +11,7 @@ abbrev pub fence_at : ℕ → List ℕ → Start
 fence_at i t =
     let c = first_byte t in
     let n = run_len (λ d. d == c) t in
-    if (((c == backtick) || (c == tilde)) && nat_lt 2 n) && not ((c == backtick) && has_byte (λ d. d == backtick) (drop n t)) then fence_start i c n (trim (drop n t)) else text_start
+    if (((c == backtick) || (c == tilde)) && nat_lt 2 n) && not ((c == backtick) && has_one (λ d. d == backtick) (drop n t)) then fence_start i c n (trim (drop n t)) else text_start
 
 -- a closing fence: at least as many of the mark, and nothing else
 abbrev pub closes_fence : ℕ → ℕ → ℕ → List ℕ → Bool

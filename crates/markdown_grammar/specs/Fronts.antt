@@ -29,10 +29,10 @@ same_bytes [] (d ∷ ds) = false
 same_bytes (c ∷ cs) [] = false
 same_bytes (c ∷ cs) (d ∷ ds) = elim (c == d) [ true ↦ same_bytes cs ds | false ↦ false ]
 
--- some byte passes a test
-abbrev pub has_byte : (ℕ → Bool) → List ℕ → Bool
-has_byte p [] = false
-has_byte p (c ∷ cs) = elim (p c) [ true ↦ true | false ↦ has_byte p cs ]
+-- some byte or character passes a test
+abbrev pub has_one : (ℕ → Bool) → List ℕ → Bool
+has_one p [] = false
+has_one p (c ∷ cs) = elim (p c) [ true ↦ true | false ↦ has_one p cs ]
 
 -- the first of two that has an answer
 infixr 4 ◌orelse◌

@@ -2,7 +2,7 @@
 use Rattle.std.specs.Prelude.{Bool, List, None, Some, [], chars, false, if◌then◌else◌, length, nat_le, not, take, true, ℕ, ◌&&◌, ◌++◌, ◌+◌, ◌==◌, ◌∷◌}
 use Rattle.caseless.specs.Caseless.{default_case_fold}
 use Rattle.markdown_grammar.specs.Bytes.{backslash, is_white, left_bracket, right_bracket, space}
-use Rattle.markdown_grammar.specs.Fronts.{has_byte}
+use Rattle.markdown_grammar.specs.Fronts.{has_one}
 use Rattle.markdown_grammar.specs.Readers.{Reader, plus}
 
 -- the length of a label's text: up to a `]` that no backslash stands before, and no `[` without one is in it
@@ -13,7 +13,7 @@ label_len false (c ∷ cs) = elim (c == right_bracket) [ true ↦ Some 0 | false
 
 -- a label has at most 999 characters, and one that is not white space
 abbrev pub is_label : List ℕ → Bool
-is_label t = nat_le (length (chars t)) 999 && has_byte (λ c. not (is_white c)) t
+is_label t = nat_le (length (chars t)) 999 && has_one (λ c. not (is_white c)) (chars t)
 
 -- `[`, a label's text, `]`
 abbrev pub link_label : Reader

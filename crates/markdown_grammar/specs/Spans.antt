@@ -5,7 +5,7 @@ use Rattle.markdown_grammar.specs.Autolinks.{email, pointed, uri}
 use Rattle.markdown_grammar.specs.Bytes.{ampersand, backslash, backtick, exclamation_mark, is_punct, left_bracket, less_than, line_feed, space, star, underscore}
 use Rattle.markdown_grammar.specs.CodeSpans.{Taken, as_textual, code_at}
 use Rattle.markdown_grammar.specs.Flanking.{char_after, char_before}
-use Rattle.markdown_grammar.specs.Fronts.{first_byte, has_byte, run_len}
+use Rattle.markdown_grammar.specs.Fronts.{first_byte, has_one, run_len}
 use Rattle.markdown_grammar.specs.Inlines.{hard_break, link, no_inlines, raw_html, soft_break, textual}
 use Rattle.markdown_grammar.specs.Pieces.{Piece, finished, open_bracket, run_at}
 use Rattle.markdown_grammar.specs.References.{front_reference}
@@ -49,7 +49,7 @@ spaces_at t =
 
 -- a byte that is not text by itself
 abbrev pub is_special : ℕ → Bool
-is_special c = has_byte (λ d. d == c) (codes "\\&`<*_![] \n")
+is_special c = has_one (λ d. d == c) (codes "\\&`<*_![] \n")
 
 -- text up to the next such byte
 abbrev pub textual_at : List ℕ → Taken
