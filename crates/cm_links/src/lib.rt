@@ -1,13 +1,11 @@
-// A library with one function.
+//! The parts of which Markdown's links are made: labels, character references, destinations, titles
+//! and link reference definitions, each read from the front of a text.
 #![tactic(auto)]
 
-ghost use Rattle.std.specs.Prelude.{◌≡◌};
-ghost use Rattle.cm_links.specs.Echo.{echo_of};
+mod bytes;
+mod label;
+mod names;
+mod references;
 
-// The `ensures` clause is the contract: what `echo` returns is `echo_of` of its argument, a definition
-// in `specs/Echo.antt`, which a caller's clause can cite too.
-pub fn echo(x: usize) -> usize
-    ensures { result ≡ echo_of x }
-{
-    x
-}
+pub use label::fold_label;
+pub use references::{CharRef, reference};

@@ -1,13 +1,11 @@
 -- The equations of the recursions on texts: each goes on with less of the text.
-use Rattle.std.proofs.Common.{Bool, List, None, Option, Some, [], ap, arith, cond, drop, encode_utf8, false, length, refl, suc, true, zero, ℕ, ◌&&◌, ◌++◌, ◌+◌, ◌-◌, ◌<◌, ◌==◌, ◌∷◌, ◌≡◌, ◌≤◌}
+use Rattle.std.proofs.Common.{Bool, List, None, Option, Some, [], ap, arith, cond, drop, encode_utf8, false, length, refl, suc, true, zero, ℕ, ◌++◌, ◌+◌, ◌-◌, ◌<◌, ◌==◌, ◌∷◌, ◌≡◌, ◌≤◌}
 use Rattle.site_base.specs.Recursion.{Falls, down_is}
-use Rattle.markdown_grammar.specs.Bytes.{is_punct}
 use Rattle.markdown_grammar.specs.Definitions.{Definition, definitions, definitions_step, front_definition}
-use Rattle.markdown_grammar.specs.Fronts.{first_byte}
 use Rattle.markdown_grammar.specs.Links.{close_bracket}
 use Rattle.markdown_grammar.specs.Pieces.{Piece}
 use Rattle.markdown_grammar.specs.Reading.{Spot, further, left_len, next_spot, pieces_at, pieces_from, pieces_step}
-use Rattle.markdown_grammar.specs.References.{CharRef, front_reference, resolved, resolved_step}
+use Rattle.markdown_grammar.specs.References.{CharRef, front_meaning, resolved, resolved_step}
 use Rattle.markdown_grammar.specs.Spans.{piece_at}
 
 drop_len : (n : ℕ) (t : List ℕ) → length (drop n t) ≤ length t
@@ -32,13 +30,12 @@ definitions_is t = down_is length [] definitions_step definitions_falls t
 
 resolved_falls : Falls length [] resolved_step
 resolved_falls f g [] h = refl
-resolved_falls f g (c ∷ cs) h = go ((c == 92) && is_punct (first_byte cs)) (front_reference (c ∷ cs)) where
-  go : (b : Bool) (o : Option CharRef)
-      → elim b as (λ x. List ℕ) [ true ↦ first_byte cs ∷ f (drop 1 cs) | false ↦ elim o as (λ x. List ℕ) [ Some r ↦ encode_utf8 r.0 ++ f (drop (r.1 - 1) cs) | None ↦ c ∷ f cs ] ]
-      ≡ elim b as (λ x. List ℕ) [ true ↦ first_byte cs ∷ g (drop 1 cs) | false ↦ elim o as (λ x. List ℕ) [ Some r ↦ encode_utf8 r.0 ++ g (drop (r.1 - 1) cs) | None ↦ c ∷ g cs ] ]
-  go true o = ap (λ (t : List ℕ). first_byte cs ∷ t) (h (drop 1 cs) (omega (arith, drop_len 1 cs)))
-  go false (Some r) = ap (λ (t : List ℕ). encode_utf8 r.0 ++ t) (h (drop (r.1 - 1) cs) (omega (arith, drop_len (r.1 - 1) cs)))
-  go false None = ap (λ (t : List ℕ). c ∷ t) (h cs (omega arith))
+resolved_falls f g (c ∷ cs) h = go (front_meaning (c ∷ cs)) where
+  go : (o : Option CharRef)
+      → elim o as (λ x. List ℕ) [ Some r ↦ encode_utf8 r.0 ++ f (drop (r.1 - 1) cs) | None ↦ c ∷ f cs ]
+      ≡ elim o as (λ x. List ℕ) [ Some r ↦ encode_utf8 r.0 ++ g (drop (r.1 - 1) cs) | None ↦ c ∷ g cs ]
+  go (Some r) = ap (λ (t : List ℕ). encode_utf8 r.0 ++ t) (h (drop (r.1 - 1) cs) (omega (arith, drop_len (r.1 - 1) cs)))
+  go None = ap (λ (t : List ℕ). c ∷ t) (h cs (omega arith))
 
 pub resolved_is : (t : List ℕ) → resolved t ≡ resolved_step resolved t
 unfolding resolved

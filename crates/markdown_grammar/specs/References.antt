@@ -44,13 +44,15 @@ front_reference (c ∷ cs) = if not (c == ampersand) then None
     else if (first_byte (drop 1 cs) == lower_x) || (first_byte (drop 1 cs) == upper_x) then numeric_reference 16 is_hex 6 3 (drop 2 cs)
     else numeric_reference 10 is_digit 7 2 (drop 1 cs)
 
+-- what the front of a text stands for, where it is a backslash escape (2.4) or a reference
+abbrev pub front_meaning : List ℕ → Option CharRef
+front_meaning [] = None
+front_meaning (c ∷ cs) = if (c == backslash) && is_punct (first_byte cs) then Some (first_byte cs, 2) else front_reference (c ∷ cs)
+
 -- a text in which each escape and reference is taken for what it stands for, as in info strings, destinations and titles (2.4, 2.5)
 abbrev pub resolved_step : (List ℕ → List ℕ) → List ℕ → List ℕ
 resolved_step rest [] = []
-resolved_step rest (c ∷ cs) = elim ((c == backslash) && is_punct (first_byte cs)) [
-  | true ↦ first_byte cs ∷ rest (drop 1 cs)
-  | false ↦ elim (front_reference (c ∷ cs)) [ Some r ↦ encode_utf8 r.0 ++ rest (drop (r.1 - 1) cs) | None ↦ c ∷ rest cs ]
-]
+resolved_step rest (c ∷ cs) = elim (front_meaning (c ∷ cs)) [ Some r ↦ encode_utf8 r.0 ++ rest (drop (r.1 - 1) cs) | None ↦ c ∷ rest cs ]
 
 -- the whole text so
 unfoldable pub resolved : List ℕ → List ℕ
