@@ -1,2 +1,4 @@
 pub mod Numbers
 pub mod Squeezing
+pub mod Boundaries
+pub mod ResolvingLaws

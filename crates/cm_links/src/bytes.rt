@@ -17,6 +17,12 @@ pub(crate) fn is_white(c: char) -> bool
     c == ' ' || c == '\t' || c == '\n' || c == '\r'
 }
 
+pub(crate) fn is_space(c: u8) -> bool
+    ensures { result ≡ bytes.is_space c }
+{
+    c == b' ' || c == b'\t'
+}
+
 fn is_digit(c: u8) -> bool
     ensures { result ≡ bytes.is_digit c }
 {

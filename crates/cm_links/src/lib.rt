@@ -3,9 +3,13 @@
 #![tactic(auto)]
 
 mod bytes;
+mod gaps;
 mod label;
 mod names;
 mod references;
+mod resolving;
 
+pub use gaps::{spaces, white_gap};
 pub use label::fold_label;
 pub use references::{CharRef, reference};
+pub use resolving::resolved;

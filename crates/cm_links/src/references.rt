@@ -3,6 +3,7 @@ ghost use Rattle.std.specs.Prelude.{◌≡◌, ◌≤◌, ◌<◌, ◌+◌, ◌^
 ghost use Rattle.std.specs.Str.{IsCharBoundary};
 ghost use Rattle.std.specs.Char.{digit_value};
 ghost use Rattle.cm_links.specs.Answers.{char_ref};
+ghost use Rattle.cm_links.specs.Resolving.{HasEnd};
 ghost use Rattle.markdown_grammar.specs.Bytes as bytes;
 ghost use Rattle.markdown_grammar.specs.References as grammar;
 
@@ -31,7 +32,7 @@ pub fn reference(text: &str, at: usize) -> Option<CharRef>
 /// The reference at the front of a text: its character, and how many bytes it takes.
 pub(crate) fn front_reference(text: &[u8]) -> Option<(char, usize)>
     ensures value { result ≡ grammar.front_reference text.now }
-    ensures within { IfSome result (λ found. found.1 ≤ length text.now) }
+    ensures ends { IfSome result (λ found. HasEnd 0 text.now found.1) }
 {
     let [b'&', rest @ ..] = text else {
         return None;
@@ -47,7 +48,7 @@ pub(crate) fn front_reference(text: &[u8]) -> Option<(char, usize)>
 fn with_name(text: &[u8]) -> Option<(char, usize)>
     requires { length text.now < 2 ^ 63 }
     ensures value { result ≡ grammar.named_reference text.now }
-    ensures within { IfSome result (λ found. found.1 ≤ length text.now + 1) }
+    ensures ends { IfSome result (λ found. HasEnd 1 text.now found.1) }
 {
     let n = alnums(text);
     if n == text.len() || text[n] != b';' {
@@ -61,7 +62,7 @@ fn with_name(text: &[u8]) -> Option<(char, usize)>
 fn decimal(text: &[u8]) -> Option<(char, usize)>
     requires { length text.now < 2 ^ 63 }
     ensures value { result ≡ grammar.numeric_reference 10 bytes.is_digit 7 2 text.now }
-    ensures within { IfSome result (λ found. found.1 ≤ length text.now + 2) }
+    ensures ends { IfSome result (λ found. HasEnd 2 text.now found.1) }
 {
     let n = digits(text);
     if n == 0 || 7 < n || n == text.len() || text[n] != b';' {
@@ -74,7 +75,7 @@ fn decimal(text: &[u8]) -> Option<(char, usize)>
 fn hexadecimal(text: &[u8]) -> Option<(char, usize)>
     requires { length text.now < 2 ^ 63 }
     ensures value { result ≡ grammar.numeric_reference 16 bytes.is_hex 6 3 text.now }
-    ensures within { IfSome result (λ found. found.1 ≤ length text.now + 3) }
+    ensures ends { IfSome result (λ found. HasEnd 3 text.now found.1) }
 {
     let n = hex_digits(text);
     if n == 0 || 6 < n || n == text.len() || text[n] != b';' {
