@@ -3,7 +3,7 @@ use Rattle.std.specs.Prelude.{List, None, Option, Some, [], drop, false, if◌th
 use Rattle.site_base.specs.Recursion.{down}
 use Rattle.markdown_grammar.specs.Bytes.{colon, line_feed}
 use Rattle.markdown_grammar.specs.Destinations.{Part, destination}
-use Rattle.markdown_grammar.specs.Fronts.{first_byte, same_bytes, ◌orelse◌}
+use Rattle.markdown_grammar.specs.Fronts.{begins_with, same_bytes}
 use Rattle.markdown_grammar.specs.Labels.{label_key, link_label}
 use Rattle.markdown_grammar.specs.Readers.{Reader, at_end, exactly, spaces, taken, white_gap, ◌or◌, ◌then◌}
 use Rattle.markdown_grammar.specs.Titles.{link_title}
@@ -19,31 +19,34 @@ pub record Definition : Type 0 where
 abbrev pub line_rest : Reader
 line_rest = spaces then (exactly (line_feed ∷ []) or at_end)
 
--- a definition that ends its line, behind n bytes
-abbrev pub ending_line : List ℕ → List ℕ → Option (List ℕ) → ℕ → List ℕ → Option Definition
-ending_line name url title n t = elim (line_rest t) [ Some k ↦ Some (record { name = name; url = url; title = title; size = n + k }) | None ↦ None ]
+-- behind white space, a title that ends its line
+abbrev pub title_behind : ℕ → List ℕ → Option Part
+title_behind gap t = elim (link_title t) [ Some part ↦ elim (line_rest (drop part.1 t)) [ Some k ↦ Some (part.0, gap + part.1 + k) | None ↦ None ] | None ↦ None ]
 
--- with this title where it ends its line
-abbrev pub with_title_if : List ℕ → List ℕ → ℕ → List ℕ → Option Part → Option Definition
-with_title_if name url n t (Some part) = ending_line name url (Some part.0) (n + part.1) (drop part.1 t)
-with_title_if name url n t None = None
+-- white space, and not none, and a title that ends its line
+abbrev pub line_title : List ℕ → Option Part
+line_title t = let gap = taken (white_gap t) in elim (gap == 0) [ true ↦ None | false ↦ title_behind gap (drop gap t) ]
 
--- behind the destination: white space and a title that ends its line; or the line ends, and there is no title
+-- behind a destination, where n bytes stand: a title that ends its line, or the end of the line
+abbrev pub untitled : List ℕ → List ℕ → ℕ → List ℕ → Option Definition
+untitled name url n t = elim (line_rest t) [ Some k ↦ Some (record { name = name; url = url; title = None; size = n + k }) | None ↦ None ]
+
 abbrev pub titled : List ℕ → List ℕ → ℕ → List ℕ → Option Definition
-titled name url n t =
-    let gap = taken (white_gap t) in
-    if gap == 0 then ending_line name url None n t
-    else with_title_if name url (n + gap) (drop gap t) (link_title (drop gap t)) orelse ending_line name url None n t
+titled name url n t = elim (line_title t) [ Some part ↦ Some (record { name = name; url = url; title = Some part.0; size = n + part.1 }) | None ↦ untitled name url n t ]
 
--- behind the colon: white space, which there may be, and a destination
+-- behind the colon, where n bytes stand: white space, which there may be, and a destination
 abbrev pub pointing : List ℕ → ℕ → List ℕ → Option Definition
 pointing name n t =
     let gap = taken (white_gap t) in
-    elim (destination (drop gap t)) [ Some part ↦ titled name part.0 (n + gap + part.1) (drop (gap + part.1) t) | None ↦ None ]
+    elim (destination (drop gap t)) [ Some part ↦ titled name part.0 (n + gap + part.1) (drop part.1 (drop gap t)) | None ↦ None ]
 
--- `[`, a label, `]:`, a destination and perhaps a title
+-- behind a label of n bytes: `:`, a destination and perhaps a title
+abbrev pub behind_label : List ℕ → ℕ → Option Definition
+behind_label t n = elim (begins_with (colon ∷ []) (drop n t)) [ true ↦ pointing (take (n - 2) (drop 1 t)) (n + 1) (drop 1 (drop n t)) | false ↦ None ]
+
+-- a label, `:`, a destination and perhaps a title
 abbrev pub front_definition : List ℕ → Option Definition
-front_definition t = elim (link_label t) [ Some n ↦ (if first_byte (drop n t) == colon then pointing (take (n - 2) (drop 1 t)) (n + 1) (drop (n + 1) t) else None) | None ↦ None ]
+front_definition t = elim (link_label t) [ Some n ↦ behind_label t n | None ↦ None ]
 
 -- the definitions at the front of a paragraph's text, one after another
 abbrev pub definitions_step : (List ℕ → List Definition) → List ℕ → List Definition

@@ -1,8 +1,9 @@
 -- Link destinations: CommonMark 0.31.2, section 6.3.
-use Rattle.std.specs.Prelude.{Bool, List, None, Option, Some, [], false, if◌then◌else◌, nat_lt, suc, take, true, ℕ, ◌&&◌, ◌+◌, ◌-◌, ◌==◌, ◌||◌, ◌∷◌}
+use Rattle.std.specs.Prelude.{Bool, List, None, Option, Some, [], drop, false, if◌then◌else◌, nat_lt, suc, take, true, ℕ, ◌&&◌, ◌+◌, ◌-◌, ◌==◌, ◌||◌, ◌∷◌}
 use Rattle.markdown_grammar.specs.Bytes.{backslash, greater_than, is_control, is_punct, left_paren, less_than, line_feed, right_paren, space}
 use Rattle.markdown_grammar.specs.Readers.{Reader, plus}
 use Rattle.markdown_grammar.specs.References.{resolved}
+use Rattle.markdown_grammar.specs.Fronts.{begins_with}
 
 -- the length of a destination between `<` and `>`: no line end, and no `<` or `>` without a backslash
 abbrev pub pointed_len : (is_escaped : Bool) → Reader
@@ -43,5 +44,4 @@ bare_destination t = elim (bare_len false 0 t) [ Some n ↦ (if n == 0 then None
 
 -- the destination at the front of a text
 abbrev pub destination : List ℕ → Option Part
-destination [] = None
-destination (c ∷ cs) = if c == less_than then pointed_destination cs else bare_destination (c ∷ cs)
+destination t = elim (begins_with (less_than ∷ []) t) [ true ↦ pointed_destination (drop 1 t) | false ↦ bare_destination t ]
