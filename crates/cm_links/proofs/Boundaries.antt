@@ -1,8 +1,9 @@
 -- Where a text may be cut.
-use Rattle.std.proofs.Common.{[], ◌∷◌, ap, false, ◌≡◌, ◌<◌, ◌+◌, ℕ, suc, true, Bool, ◌==◌, List, length, drop, get_or, IsUtf8, arith}
+use Rattle.std.proofs.Common.{subst, ◌-◌, [], ◌∷◌, ap, false, ◌≡◌, ◌<◌, ◌+◌, ℕ, suc, true, Bool, ◌==◌, List, length, drop, get_or, IsUtf8, arith}
 use Rattle.std.specs.Str.{IsCharBoundary}
-use Rattle.std.proofs.lemmas.Str.{IsCharBoundary-from_drop, IsCharBoundary-after_ascii}
+use Rattle.std.proofs.lemmas.Str.{IsCharBoundary-before_ascii, IsCharBoundary-from_drop, IsCharBoundary-after_ascii, IsCharBoundary-from_rest}
 use Rattle.std.proofs.lemmas.List.{drop_more}
+use Rattle.cm_links.specs.Cuts.{HasByte, Encloses, IsLabelled}
 use Rattle.markdown_grammar.specs.Fronts.{run_len, begins_with}
 use Rattle.markdown_grammar.specs.Bytes.{is_space}
 
@@ -28,3 +29,26 @@ begins_one [] c lt e = absurd (omega (arith, lt))
 begins_one (d ∷ ds) c lt e =
     let same : (c == d) ≡ true = grind arith in
     ap (λ (b : Bool). elim b as (λ x. Bool) [ true ↦ true | false ↦ false ]) same
+
+-- a mark of one byte, n bytes, and an ASCII byte after them
+pub encloses : (text : List ℕ) (n c : ℕ) → IsUtf8 (drop 1 text) → IsCharBoundary text 1 → HasByte c (drop 1 text) n → c < 128 → Encloses text n
+encloses text n c u start h small =
+    let ascii : get_or (drop 1 text) n 0 < 128 = omega (arith, h.byte, small) in
+    let e : 1 + (n + 1) ≡ n + 2 = omega arith in
+    record {
+      start = start;
+      inside = IsCharBoundary-before_ascii (drop 1 text) n h.within ascii;
+      end = subst (IsCharBoundary text) e (IsCharBoundary-from_rest text 1 (n + 1) start.0 (IsCharBoundary-after_ascii (drop 1 text) n u h.within ascii));
+    }
+
+pub labelled : (text : List ℕ) (n : ℕ) → IsUtf8 (drop 1 text) → IsCharBoundary text 1 → HasByte 93 (drop 1 text) n → IsLabelled text (n + 2)
+labelled text n u start h =
+    let round = encloses text n 93 u start h (omega arith) in
+    let e : n ≡ n + 2 - 2 = omega arith in
+    record { some = omega arith; start = start; inside = subst (IsCharBoundary (drop 1 text)) e round.inside; end = round.end }
+
+-- the byte at the front is of ASCII
+pub boundary_mark : (text bytes : List ℕ) (c : ℕ) → IsUtf8 bytes → bytes ≡ text → (length bytes ≡ 0 → ⊥) → get_or bytes 0 0 ≡ c → c < 128 → IsCharBoundary text 1
+boundary_mark text bytes c u same some e small =
+    let P : List ℕ → Type 0 = λ t. IsCharBoundary t 1 in
+    subst P same (boundary_byte bytes 0 c u (omega (arith, some)) e small)

@@ -2,3 +2,5 @@ pub mod Numbers
 pub mod Squeezing
 pub mod Boundaries
 pub mod ResolvingLaws
+pub mod Bare
+pub mod Measuring
