@@ -1,0 +1,6 @@
+pub mod Numbers
+pub mod Squeezing
+pub mod Boundaries
+pub mod ResolvingLaws
+pub mod Bare
+pub mod Measuring

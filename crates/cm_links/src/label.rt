@@ -1,0 +1,194 @@
+// Link labels.
+ghost use Rattle.std.specs.Prelude.{◌≡◌, ◌++◌, ◌&&◌, IfOk, OnOk, encode_utf8, encode_utf8_all, false, chars, string_bytes, if◌then◌else◌, [], ◌∷◌, IfSome, drop, length, nat_le, not};
+ghost use Rattle.std.specs.Str.{IsCharBoundary};
+ghost use Rattle.markdown_grammar.specs.Bytes as bytes;
+ghost use Rattle.markdown_grammar.specs.Fronts.{has_one};
+ghost use Rattle.markdown_grammar.specs.Labels as grammar;
+ghost use Rattle.markdown_grammar.specs.Labels.{label_key, squeezed};
+ghost use Rattle.cm_links.specs.Cuts.{HasByte, IsLabelled};
+
+use crate::bytes::is_white;
+use crate::gaps::begins;
+use caseless::default_case_fold_str;
+use site_base::{Memory, Text};
+use std::alloc::{AllocError, Global};
+
+/// A label without white space at its ends, with one space for each run of white space inside, and
+/// with its case folded. Labels match where this gives the same text.
+pub fn fold_label(alloc: Global, label: &str) -> Result<Text, Memory>
+    ensures { IfOk result (λ folded. folded ≡ encode_utf8_all (label_key label.now)) }
+{
+    let squeezed = match squeeze(alloc, label) {
+        Ok(squeezed) => squeezed,
+        Err(_) => return Err(Memory),
+    };
+    match default_case_fold_str(alloc, squeezed.as_str()) {
+        Ok(folded) => Ok(Text::from_string(folded)),
+        Err(_) => Err(Memory),
+    }
+}
+
+fn squeeze(alloc: Global, label: &str) -> Result<String, AllocError>
+    ensures { IfOk result (λ out. chars (string_bytes out) ≡ squeezed false false (chars label.now)) }
+{
+    let mut out = String::new(alloc);
+    let mut has_begun = false;
+    let mut has_gap = false;
+    for c in label.chars() {
+        if is_white(c) {
+            has_gap = true;
+        } else {
+            push_behind(&mut out, has_begun, has_gap, c)?;
+            has_begun = true;
+            has_gap = false;
+        }
+    }
+    Ok(out)
+}
+
+// A character, and a space before it where there is a gap behind others.
+fn push_behind(out: &mut String, has_begun: bool, has_gap: bool, c: char) -> Result<(), AllocError>
+    ensures { OnOk result (string_bytes out.new ≡ string_bytes out.old ++ encode_utf8_all (if has_begun && has_gap then 32 ∷ c ∷ [] else c ∷ [])) }
+{
+    if has_begun && has_gap {
+        out.push(' ')?;
+    }
+    out.push(c)
+}
+
+/// How many bytes the link label takes that a text begins with, its brackets included, or none.
+pub fn link_label(text: &str) -> Option<usize>
+    ensures value { result ≡ grammar.link_label text.now }
+    ensures cuts { IfSome result (IsLabelled text.now) }
+{
+    if begins(text, b'[') {
+        label_behind(text)
+    } else {
+        None
+    }
+}
+
+// Behind the opening bracket.
+fn label_behind(text: &str) -> Option<usize>
+    requires { IsCharBoundary text.now 1 }
+    ensures value { result ≡ grammar.label_behind (drop 1 text.now) }
+    ensures cuts { IfSome result (IsLabelled text.now) }
+{
+    let inside = &text[1..];
+    let n = label_len(inside)?;
+    if is_label(&inside[..n]) {
+        Some(n + 2)
+    } else {
+        None
+    }
+}
+
+// How long a label is that stands behind its opening bracket.
+fn label_len(text: &str) -> Option<usize>
+    ensures value { result ≡ grammar.label_len false text.now }
+    ensures end { IfSome result (HasByte 93 text.now) }
+{
+    let bytes = text.as_bytes();
+    let mut i = 0;
+    let mut is_escaped = false;
+    while i < bytes.len() {
+        let c = bytes[i];
+        if is_escaped {
+            is_escaped = false;
+        } else {
+            if c == b']' {
+                return Some(i);
+            }
+            if c == b'[' {
+                return None;
+            }
+            is_escaped = c == b'\\';
+        }
+        i += 1;
+    }
+    None
+}
+
+// At most 999 characters, one of which is not white space.
+fn is_label(text: &str) -> bool
+    ensures { result ≡ grammar.is_label text.now }
+{
+    is_short(text) && has_other(text)
+}
+
+fn is_short(text: &str) -> bool
+    ensures { result ≡ nat_le (length (chars text.now)) 999 }
+{
+    let mut count = 0u32;
+    for _c in text.chars() {
+        if count == 999 {
+            return false;
+        }
+        count += 1;
+    }
+    true
+}
+
+fn has_other(text: &str) -> bool
+    ensures { result ≡ has_one (λ c. not (bytes.is_white c)) (chars text.now) }
+{
+    for c in text.chars() {
+        if !is_white(c) {
+            return true;
+        }
+    }
+    false
+}
+
+#[cfg(test)]
+mod tests {
+    use super::*;
+    use std::test::Fail;
+
+    #[test]
+    fn labels_are_folded(rt: HostRuntime) -> Result<(), Fail> {
+        let rows = [
+            (" A\n b ", "a b"),
+            ("", ""),
+            (" \t\r\n", ""),
+            ("\u{1e9e}x", "ssx"),
+            ("\u{391}\u{393}\u{3a9}", "\u{3b1}\u{3b3}\u{3c9}"),
+            ("a\u{a0} b", "a\u{a0} b"),
+        ];
+        for (label, folded) in rows {
+            assert_eq!(rt; fold_label(rt.alloc(), label)?.as_str(), folded);
+        }
+        Ok(())
+    }
+
+    #[test]
+    fn labels_end(rt: HostRuntime) -> Result<(), Fail> {
+        let rows = [
+            ("[a]", Some(3)),
+            ("[a\\]b] c", Some(6)),
+            ("[\u{e9}]", Some(4)),
+            ("[ \n]", None),
+            ("[]", None),
+            ("[a[b]", None),
+            ("[a", None),
+            ("a]", None),
+        ];
+        for (text, len) in rows {
+            assert_eq!(rt; link_label(text), len);
+        }
+        Ok(())
+    }
+
+    #[test]
+    fn long_labels(rt: HostRuntime) -> Result<(), Fail> {
+        for (count, is_label) in [(999, true), (1_000, false)] {
+            let mut text = String::from_str(rt.alloc(), "[\u{e9}")?;
+            for _ in 1..count {
+                text.push_str("\u{e9}")?;
+            }
+            text.push_str("]")?;
+            assert_eq!(rt; link_label(&text).is_some(), is_label);
+        }
+        Ok(())
+    }
+}

@@ -1,0 +1,23 @@
+//! The parts of which Markdown's links are made: labels, character references, destinations, titles
+//! and link reference definitions, each read from the front of a text.
+#![tactic(auto)]
+
+mod bytes;
+mod definitions;
+mod destinations;
+mod gaps;
+mod label;
+mod names;
+mod parts;
+mod references;
+mod resolving;
+mod titles;
+
+pub use definitions::{LinkDef, definition};
+pub use destinations::destination;
+pub use gaps::{spaces, white_gap};
+pub use label::{fold_label, link_label};
+pub use parts::LinkPart;
+pub use references::{CharRef, reference};
+pub use resolving::resolved;
+pub use titles::link_title;

@@ -1,0 +1,168 @@
+// Character grammar.
+ghost use Rattle.std.specs.Prelude.{◌≡◌, ◌≤◌, ◌<◌, ◌+◌, ◌^◌, IfSome, drop, length, option_map};
+ghost use Rattle.std.specs.Str.{IsCharBoundary};
+ghost use Rattle.std.specs.Char.{digit_value};
+ghost use Rattle.cm_links.specs.Answers.{char_ref};
+ghost use Rattle.cm_links.specs.Resolving.{HasEnd};
+ghost use Rattle.markdown_grammar.specs.Bytes as bytes;
+ghost use Rattle.markdown_grammar.specs.References as grammar;
+
+use crate::bytes::{alnums, digits, hex_digits};
+use crate::names::named;
+
+/// A character reference in a text: its character, and the place where it ends.
+#[derive(Clone, Copy, PartialEq, Eq, Debug)]
+pub struct CharRef {
+    pub end: usize,
+    pub first: char,
+}
+
+/// The character reference that stands at a place of a text, or none where none stands there.
+pub fn reference(text: &str, at: usize) -> Option<CharRef>
+    requires { IsCharBoundary text.now at }
+    ensures { result ≡ option_map (char_ref at) (grammar.front_reference (drop at text.now)) }
+{
+    let (first, size) = front_reference(&text.as_bytes()[at..])?;
+    Some(CharRef {
+        end: at + size,
+        first,
+    })
+}
+
+/// The reference at the front of a text: its character, and how many bytes it takes.
+pub(crate) fn front_reference(text: &[u8]) -> Option<(char, usize)>
+    ensures value { result ≡ grammar.front_reference text.now }
+    ensures ends { IfSome result (λ found. HasEnd 0 text.now found.1) }
+{
+    let [b'&', rest @ ..] = text else {
+        return None;
+    };
+    match rest {
+        [b'#', b'x' | b'X', number @ ..] => hexadecimal(number),
+        [b'#', number @ ..] => decimal(number),
+        _ => with_name(rest),
+    }
+}
+
+// Behind `&`.
+fn with_name(text: &[u8]) -> Option<(char, usize)>
+    requires { length text.now < 2 ^ 63 }
+    ensures value { result ≡ grammar.named_reference text.now }
+    ensures ends { IfSome result (λ found. HasEnd 1 text.now found.1) }
+{
+    let n = alnums(text);
+    if n == text.len() || text[n] != b';' {
+        return None;
+    }
+    let first = named(&text[..n])?;
+    Some((first, n + 2))
+}
+
+// Behind `&#`.
+fn decimal(text: &[u8]) -> Option<(char, usize)>
+    requires { length text.now < 2 ^ 63 }
+    ensures value { result ≡ grammar.numeric_reference 10 bytes.is_digit 7 2 text.now }
+    ensures ends { IfSome result (λ found. HasEnd 2 text.now found.1) }
+{
+    let n = digits(text);
+    if n == 0 || 7 < n || n == text.len() || text[n] != b';' {
+        return None;
+    }
+    Some((valid_char(number(10, &text[..n])), n + 3))
+}
+
+// Behind `&#x`.
+fn hexadecimal(text: &[u8]) -> Option<(char, usize)>
+    requires { length text.now < 2 ^ 63 }
+    ensures value { result ≡ grammar.numeric_reference 16 bytes.is_hex 6 3 text.now }
+    ensures ends { IfSome result (λ found. HasEnd 3 text.now found.1) }
+{
+    let n = hex_digits(text);
+    if n == 0 || 6 < n || n == text.len() || text[n] != b';' {
+        return None;
+    }
+    Some((valid_char(number(16, &text[..n])), n + 4))
+}
+
+// The number that a few digits spell.
+fn number(base: u64, digits: &[u8]) -> u64
+    requires base { base ≤ 16 }
+    requires few { length digits.now ≤ 7 }
+    ensures { result ≡ grammar.number_in base 0 digits.now }
+{
+    let mut value = 0;
+    let mut i = 0;
+    while i < digits.len() {
+        value = value * base + digit(digits[i]);
+        i += 1;
+    }
+    value
+}
+
+fn digit(c: u8) -> u64
+    ensures value { result ≡ digit_value c }
+    ensures small { result ≤ 36 }
+{
+    if c < 48 {
+        36
+    } else if c < 58 {
+        c as u64 - 48
+    } else if c < 65 {
+        36
+    } else if c < 91 {
+        c as u64 - 55
+    } else if c < 97 {
+        36
+    } else if c < 123 {
+        c as u64 - 87
+    } else {
+        36
+    }
+}
+
+// The character of a code, or U+FFFD where there is none.
+fn valid_char(code: u64) -> char
+    ensures { result ≡ grammar.valid_code code }
+{
+    if code == 0 || (0xD800 <= code && code <= 0xDFFF) || 0x10FFFF < code {
+        return '\u{fffd}';
+    }
+    match char::from_u32(code as u32) {
+        Some(first) => first,
+        None => '\u{fffd}',
+    }
+}
+
+#[cfg(test)]
+mod tests {
+    use super::*;
+
+    #[test]
+    fn references_stand_where_they_do(rt: HostRuntime) {
+        let rows = [
+            ("&amp;", 0, Some((5, '&'))),
+            ("a &hellip; b", 2, Some((10, '\u{2026}'))),
+            ("&#65;", 0, Some((5, 'A'))),
+            ("&#x41;", 0, Some((6, 'A'))),
+            ("&#X1f600;", 0, Some((9, '\u{1f600}'))),
+            ("&#0;", 0, Some((4, '\u{fffd}'))),
+            ("&#xD800;", 0, Some((8, '\u{fffd}'))),
+            ("&#9999999;", 0, Some((10, '\u{fffd}'))),
+            ("&#00000065;", 0, None),
+            ("&#x0000041;", 0, None),
+            ("&#;", 0, None),
+            ("&#x;", 0, None),
+            ("&;", 0, None),
+            ("&amp", 0, None),
+            ("&AMP;", 0, None),
+            ("&nope;", 0, None),
+            ("amp;", 0, None),
+            ("&", 1, None),
+        ];
+        for (text, at, found) in rows {
+            assert!(rt; text.is_char_boundary(at));
+            let answer = reference(text, at);
+            assert_eq!(rt; answer.map(|r| (r.end, r.first)), found);
+        }
+    }
+}
