@@ -1,3 +1,5 @@
+pub mod Ahead
 pub mod Fits
 pub mod Gives
+pub mod Steps
 pub mod Token

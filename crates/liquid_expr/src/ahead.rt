@@ -1,0 +1,125 @@
+// What the next tokens are.
+ghost use Rattle.std.specs.Prelude.{◌≡◌, drop, IfOk};
+ghost use Rattle.liquid_grammar.specs.Expressions.{word_literal, is_joining, word_start, start_of, follow_of, closes_bracket, closes_range, goes_to};
+ghost use Rattle.liquid_expr.specs.Ahead.{tokens_of, start_is, follow_is};
+
+use crate::token::Token;
+use liquid_grammar::{Literal, Mark};
+use site_base::{Memory, Text};
+use std::alloc::Global;
+
+/// What starts an operand.
+#[derive(Drop)]
+pub(crate) enum Start<'a> {
+    Variable(&'a str),
+    Literal(Literal),
+    Range,
+    Nothing,
+}
+
+/// What follows a variable.
+#[derive(Clone, Copy)]
+pub(crate) enum Follow<'a> {
+    Name(&'a str),
+    Bracket,
+    /// A dot without a name.
+    Nothing,
+    End,
+}
+
+/// What follows the first tokens.
+pub(crate) fn rest<'a, 'b>(tokens: &'b [Token<'a>], len: usize) -> &'b [Token<'a>]
+    ensures { result.now ≡ drop len tokens.now }
+{
+    if len <= tokens.len() {
+        &tokens[len..]
+    } else {
+        &[]
+    }
+}
+
+pub(crate) fn start_of<'a>(alloc: Global, tokens: &[Token<'a>]) -> Result<Start<'a>, Memory>
+    ensures { IfOk result (λ start. start_is start ≡ start_of (tokens_of tokens.now)) }
+{
+    match tokens {
+        [Token::Word(name), ..] => Ok(word_start(*name)),
+        [Token::Text(text), ..] => match Text::copy(alloc, *text) {
+            Ok(text) => Ok(Start::Literal(Literal::Text(text))),
+            Err(Memory) => Err(Memory),
+        },
+        [Token::Whole(number), ..] => Ok(Start::Literal(Literal::Int(*number))),
+        [Token::Large, ..] => Ok(Start::Literal(Literal::Int(0))),
+        [Token::Mark(Mark::OpenRange), ..] => Ok(Start::Range),
+        _ => Ok(Start::Nothing),
+    }
+}
+
+fn word_start<'a>(name: &'a str) -> Start<'a>
+    ensures { start_is result ≡ word_start name.now (word_literal name.now) }
+{
+    match word_literal(name) {
+        Some(literal) => Start::Literal(literal),
+        None => {
+            if is_joining(name) {
+                Start::Nothing
+            } else {
+                Start::Variable(name)
+            }
+        }
+    }
+}
+
+fn word_literal(name: &str) -> Option<Literal>
+    ensures { result ≡ word_literal name.now }
+{
+    if name == "nil" {
+        Some(Literal::Nil)
+    } else if name == "null" {
+        Some(Literal::Nil)
+    } else if name == "true" {
+        Some(Literal::Bool(true))
+    } else if name == "false" {
+        Some(Literal::Bool(false))
+    } else if name == "blank" {
+        Some(Literal::Blank)
+    } else if name == "empty" {
+        Some(Literal::Empty)
+    } else {
+        None
+    }
+}
+
+fn is_joining(name: &str) -> bool
+    ensures { result ≡ is_joining name.now }
+{
+    name == "and" || name == "or" || name == "contains"
+}
+
+pub(crate) fn follow_of<'a>(tokens: &[Token<'a>]) -> Follow<'a>
+    ensures { follow_is result ≡ follow_of (tokens_of tokens.now) }
+{
+    match tokens {
+        [Token::Mark(Mark::Dot), Token::Word(name), ..] => Follow::Name(*name),
+        [Token::Mark(Mark::Dot), ..] => Follow::Nothing,
+        [Token::Mark(Mark::OpenBracket), ..] => Follow::Bracket,
+        _ => Follow::End,
+    }
+}
+
+pub(crate) fn closes_bracket(tokens: &[Token]) -> bool
+    ensures { result ≡ closes_bracket (tokens_of tokens.now) }
+{
+    matches!(tokens, [Token::Mark(Mark::CloseBracket), ..])
+}
+
+pub(crate) fn closes_range(tokens: &[Token]) -> bool
+    ensures { result ≡ closes_range (tokens_of tokens.now) }
+{
+    matches!(tokens, [Token::Mark(Mark::CloseRange), ..])
+}
+
+pub(crate) fn goes_to(tokens: &[Token]) -> bool
+    ensures { result ≡ goes_to (tokens_of tokens.now) }
+{
+    matches!(tokens, [Token::Mark(Mark::To), ..])
+}
