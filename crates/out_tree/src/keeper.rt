@@ -13,8 +13,8 @@ ghost use Rattle.out_tree.specs.declared.state.State.TheVariants.{Marked};
 ghost use Rattle.out_tree.specs.declared.step.Call.TheVariants as call;
 
 use crate::plan::{Planned, push_step};
-use crate::{KeepList, OutTree, Plan, SharedBytes, State, Step, Tree};
-use site_base::{ListError, Memory, PathList, PathMap, SitePath};
+use crate::{KeepList, OutTree, Plan, State, Step, Tree};
+use site_base::{ListError, Memory, PathList, PathMap, SharedBytes, SitePath};
 use std::alloc::Global;
 use std::marker::Model;
 

@@ -11,8 +11,8 @@ ghost use Rattle.out_tree.specs.Memory.{plain_files, is_listed_call, is_refused,
 ghost use Rattle.out_tree.specs.declared.step.Step.TheVariants.{Remove, Write};
 ghost use Rattle.out_tree.specs.declared.step.Call.TheVariants as call;
 
-use crate::{Call, OutTree, SharedBytes, Step};
-use site_base::{Failed, FileBytes, ListError, Memory, PathMap, SitePath};
+use crate::{Call, OutTree, Step};
+use site_base::{Failed, FileBytes, ListError, Memory, PathMap, SharedBytes, SitePath};
 use std::alloc::Global;
 use std::marker::Model;
 use std::mem;

@@ -1,5 +1,5 @@
 // What is believed of one path.
-use crate::SharedBytes;
+use site_base::SharedBytes;
 
 /// What is believed of a path that may be there.
 #[derive(Drop)]

@@ -1,6 +1,5 @@
 // The calls of an output.
-use crate::SharedBytes;
-use site_base::SitePath;
+use site_base::{SharedBytes, SitePath};
 
 /// A call that changes an output at one path.
 #[derive(Drop)]

@@ -3,8 +3,7 @@ ghost use Rattle.std.specs.Prelude.{◌≡◌, ◌<◌, ◌==◌, OnOk, OnErr, s
 ghost use Rattle.std.specs.FinMap as map;
 ghost use Rattle.std.specs.Option.{option_copied};
 
-use crate::SharedBytes;
-use site_base::{Memory, PathMap, SitePath};
+use site_base::{Memory, PathMap, SharedBytes, SitePath};
 use std::alloc::Global;
 use std::marker::Model;
 

@@ -10,7 +10,7 @@ ghost use Rattle.source_tree.specs.Put.{first_refusal, plain};
 use crate::PutError;
 use crate::held::Held;
 use crate::limits::passed_limit;
-use site_base::{FileBytes, Memory, PathMap, SitePath};
+use site_base::{Memory, PathMap, SharedBytes, SitePath};
 use std::alloc::Global;
 
 // What is held once these files were put one after another.
@@ -74,24 +74,24 @@ fn map_of_front(
     alloc: Global,
     mut files: Vec<(SitePath, Vec<u8>)>,
     number: usize,
-) -> Result<PathMap<FileBytes>, Memory>
+) -> Result<PathMap<SharedBytes>, Memory>
     requires { AllDiffer (paths_of files.items) }
     ensures { IfOk result (λ made. as_map made ≡ map.from_entries (take number (plain files.items))) }
 {
     files.truncate(number);
-    let entries = with_file_bytes(alloc, files)?;
+    let entries = with_shared_bytes(alloc, files)?;
     Ok(PathMap::from_entries(entries).unwrap())
 }
 
-fn with_file_bytes(
+fn with_shared_bytes(
     alloc: Global,
     files: Vec<(SitePath, Vec<u8>)>,
-) -> Result<Vec<(SitePath, FileBytes)>, Memory>
+) -> Result<Vec<(SitePath, SharedBytes)>, Memory>
     ensures { IfOk result (λ made. made.items ≡ plain files.items) }
 {
     let mut made = Vec::with_capacity(alloc, files.len())?;
     for (path, bytes) in files {
-        made.push((path, FileBytes::from_vec(bytes)))?;
+        made.push((path, SharedBytes::from_vec(alloc, bytes)?))?;
     }
     Ok(made)
 }

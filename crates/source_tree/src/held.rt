@@ -15,14 +15,14 @@ use crate::fitting::held_of;
 use crate::limits::passed_limit;
 use crate::reading::read_site;
 use crate::{PutError, ScanError, SourceTree};
-use site_base::{FileBytes, Memory, PathMap, SitePath};
+use site_base::{Memory, PathMap, SharedBytes, SitePath};
 use std::alloc::Global;
 use std::marker::Model;
 
 /// The files of a site that are held, from paths to bytes, within the limits.
 #[derive(Drop)]
 pub struct Held {
-    files: PathMap<FileBytes>,
+    files: PathMap<SharedBytes>,
     // The bytes of all files together.
     total: u64,
 }
@@ -56,7 +56,7 @@ impl Held {
     }
 
     // These files, with their bytes together.
-    pub(crate) fn of(files: PathMap<FileBytes>, total: u64) -> Held
+    pub(crate) fn of(files: PathMap<SharedBytes>, total: u64) -> Held
         requires total { total ≡ site_bytes (as_map files) }
         requires files { CanBeHeld (as_map files) }
         ensures { result ≡ as_map files }
@@ -89,6 +89,22 @@ impl Held {
         (path, bytes.as_slice())
     }
 
+    /// The file at a place of the byte order, with a holder of its bytes.
+    pub fn shared_at(&self, place: u32) -> (&SitePath, &SharedBytes)
+        requires { place < map.len self.now }
+        ensures { (result.0.now, result.1.now)
+            ≡ slice_index_or (map.entries self.now) place (result.0.now, result.1.now) }
+    {
+        self.files.at(place as usize)
+    }
+
+    /// A holder of the bytes of the file with a path.
+    pub fn get_shared(&self, path: &SitePath) -> Option<&SharedBytes>
+        ensures { option_copied result ≡ map.get self.now path.now }
+    {
+        self.files.get(path)
+    }
+
     /// The bytes of the file with a path.
     pub fn get(&self, path: &SitePath) -> Option<&[u8]>
         ensures { option_copied result ≡ map.get self.now path.now }
@@ -111,7 +127,9 @@ impl Held {
             return Err(refusal);
         }
         let total = self.total_besides(&path) + bytes.len() as u64;
-        self.files.put(path, FileBytes::from_vec(bytes))?;
+        let alloc = *bytes.allocator();
+        let shared = SharedBytes::from_vec(alloc, bytes)?;
+        self.files.put(path, shared)?;
         self.total = total;
         Ok(())
     }

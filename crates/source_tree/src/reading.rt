@@ -15,13 +15,13 @@ ghost use Rattle.source_tree.specs.Scan.{first_long, scan_fault};
 use crate::held::Held;
 use crate::limits::{MOST_BYTES, MOST_FILES, MOST_SITE_BYTES};
 use crate::{ScanError, SourceTree};
-use site_base::{FaultKind, FileBytes, ListError, Memory, PathMap, ReadError, SitePath};
+use site_base::{FaultKind, ListError, Memory, PathMap, ReadError, SharedBytes, SitePath};
 use std::alloc::Global;
 
 // The files that were read, in byte order, or the path at which their sum passed its limit.
 #[derive(Drop)]
 pub(crate) struct Reading {
-    files: Vec<(SitePath, FileBytes)>,
+    files: Vec<(SitePath, SharedBytes)>,
     total: u64,
     over: Option<SitePath>,
     ghost sum: { total ≡ bytes_of files.items },
@@ -33,7 +33,7 @@ impl Reading {
     ghost use Rattle.source_tree.specs.Reading.{Adds, Follows, Going};
 
     // Adds a file. Once the sum is past its limit, nothing is kept.
-    fn add(&mut self, path: SitePath, bytes: Vec<u8>) -> Result<(), Memory>
+    fn add(&mut self, alloc: Global, path: SitePath, bytes: Vec<u8>) -> Result<(), Memory>
         requires { length bytes.items ≤ most_bytes }
         ensures { OnOk result (Adds self.old self.new path bytes.items) }
     {
@@ -45,7 +45,8 @@ impl Reading {
             self.pass(path);
             return Ok(());
         }
-        self.files.push((path, FileBytes::from_vec(bytes)))?;
+        self.files
+            .push((path, SharedBytes::from_vec(alloc, bytes)?))?;
         self.total = total;
         Ok(())
     }
@@ -84,7 +85,7 @@ impl Reading {
             if bytes.len() > MOST_BYTES {
                 return Err(ScanError::limit(FaultKind::FileTooLong, path));
             }
-            reading.add(path, bytes)?;
+            reading.add(alloc, path, bytes)?;
         }
         Ok(reading)
     }

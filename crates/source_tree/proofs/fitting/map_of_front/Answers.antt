@@ -3,13 +3,13 @@ use Rattle.std.specs.FinMap.{from_entries}
 use Rattle.std.proofs.lemmas.List.{take-map}
 use Rattle.site_base.specs.PathMap.{as_map}
 use Rattle.site_base.specs.Places.{AllDiffer, paths_of}
-use Rattle.site_base.specs.declared.bytes.FileBytes.{FileBytes}
+use Rattle.site_base.specs.declared.shared.SharedBytes.{SharedBytes}
 use Rattle.site_base.specs.declared.path_map.PathMap.{PathMap}
 use Rattle.source_tree.specs.Put.{plain}
 use Rattle.source_tree.proofs.Fitted.{File, as_plain, differ-kept, is_made, made_of}
 use Rattle.source_tree.proofs.fitting.map_of_front.Goals as goal
 
-abbrev Made : List File → PathMap FileBytes → Type 0
+abbrev Made : List File → PathMap SharedBytes → Type 0
 Made es made = AllDiffer (paths_of es) × (as_map made ≡ from_entries es)
 
 pub unwrap-requires : goal.unwrap-requires

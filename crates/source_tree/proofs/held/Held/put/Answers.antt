@@ -13,4 +13,4 @@ invariant_of-self-2 c =
     ap (put_refusal c.args.self.now path) (sym c.deref.ensures.value) ∙ sym c.refusal.ensures ∙ only_none c.refusal.result c.in_default.not-Some in
     keeps-insert _ _ _ _ path bytes c.self.view_is c.self.invariant.1 none
     (omega (arith, c.total_besides.ensures.is, c.len.ensures, c.deref.ensures.len, ap length c.deref.ensures.value))
-    (c.in_ok-put.ensures.ok ∙ ap (insert (as_map c.self.inside.files) path) c.from_vec.ensures)
+    (c.in_ok-put.ensures.ok ∙ ap (insert (as_map c.self.inside.files) path) c.in_ok-shared.ensures)

@@ -1,12 +1,12 @@
 // The bytes of a file, which several holders share.
-ghost use Rattle.std.specs.Prelude.{◌≡◌, IfOk};
+ghost use Rattle.std.specs.Prelude.{◌≡◌, IfOk, length};
 
-use site_base::{FileBytes, Memory};
+use crate::{FileBytes, Memory};
 use std::alloc::Global;
 use std::marker::Model;
 use std::rc::Rc;
 
-/// The bytes of a file, which a tree, a plan and a belief share without a copy.
+/// The bytes of a file, which held files, a tree, a plan and a belief share without a copy.
 #[derive(Drop)]
 pub struct SharedBytes {
     bytes: Rc<FileBytes>,
@@ -21,6 +21,7 @@ impl Model for SharedBytes {
 }
 
 impl SharedBytes {
+    /// The bytes, with one holder.
     pub fn from_vec(alloc: Global, bytes: Vec<u8>) -> Result<SharedBytes, Memory>
         ensures { IfOk result (λ shared. shared ≡ bytes.items) }
     {
@@ -44,5 +45,12 @@ impl SharedBytes {
         ensures { result.now ≡ self.now }
     {
         self.bytes.as_ref().as_slice()
+    }
+
+    /// How many bytes there are.
+    pub fn len(&self) -> u64
+        ensures { result ≡ length self.now }
+    {
+        self.bytes.as_ref().len()
     }
 }
