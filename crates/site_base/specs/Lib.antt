@@ -1,10 +1,14 @@
 pub mod Clash
 pub mod Ends
 pub mod Faults
+pub mod Flat
 pub mod Fronts
 pub mod Lines
 pub mod Listing
 pub mod Path
 pub mod PathMap
 pub mod Places
+pub mod Plain
 pub mod Recursion
+pub mod Sizes
+pub mod View

@@ -6,6 +6,7 @@ mod bytes;
 mod errors;
 mod faults;
 mod folder;
+mod item_name;
 mod path;
 mod path_list;
 mod path_map;
@@ -14,12 +15,14 @@ mod shared;
 mod sink;
 mod source;
 mod text;
+mod value;
 mod words;
 
 pub use bytes::FileBytes;
 pub use errors::{Failed, ListError, Memory, ReadError};
 pub use faults::{FaultKind, SiteFault, YamlKind};
 pub use folder::{Skips, list_folder};
+pub use item_name::ItemName;
 pub use path::{PathError, SitePath};
 pub use path_list::PathList;
 pub use path_map::PathMap;
@@ -28,6 +31,7 @@ pub use shared::SharedBytes;
 pub use sink::{ByteSink, MemorySink};
 pub use source::{ByteSource, MemoryInput};
 pub use text::Text;
+pub use value::{Hash, List, Pair, Value};
 pub use words::Words;
 
 #[cfg(test)]
