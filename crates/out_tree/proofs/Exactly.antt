@@ -22,12 +22,12 @@ use Rattle.out_tree.proofs.Paths.{path_order, the_same, tied_if_eq, less_if_lt, 
 
 module _ {V : Type 0} where
   -- no later entry has a path that ties with the first
-  tied_none : (q x : List ℕ) (es : List (List ℕ × V)) → path_cmp q x ≡ Equal → below_all path_cmp x es ≡ true → find path_cmp q es ≡ None
+  pub tied_none : (q x : List ℕ) (es : List (List ℕ × V)) → path_cmp q x ≡ Equal → below_all path_cmp x es ≡ true → find path_cmp q es ≡ None
   tied_none q x [] p h = refl
   tied_none q x (e ∷ es) p h = ap (λ r. cond (is_eq r) (Some e.1) (find path_cmp q es)) (path_order.congr q x e.0 p ∙ less_if_lt _ (front _ _ h)) ∙ tied_none q x es p (back _ _ h)
 
   -- entries that pass a test
-  none_passes : (p : List ℕ × V → Bool) (q : List ℕ) (es : List (List ℕ × V)) → find path_cmp q es ≡ None → find path_cmp q (filter p es) ≡ None
+  pub none_passes : (p : List ℕ × V → Bool) (q : List ℕ) (es : List (List ℕ × V)) → find path_cmp q es ≡ None → find path_cmp q (filter p es) ≡ None
   none_passes p q [] n = refl
   none_passes p q (e ∷ es) n =
       elim (same_path q e.0) as (λ t. same_path q e.0 ≡ t → cond t (Some e.1) (find path_cmp q es) ≡ None → find path_cmp q (cond (p e) (e ∷ filter p es) (filter p es)) ≡ None) [
@@ -38,7 +38,7 @@ module _ {V : Type 0} where
         ]
       ] refl n
 
-  hit : (p : List ℕ × V → Bool) (q : List ℕ) (v : V) (es : List (List ℕ × V)) → PathsRise es → find path_cmp q es ≡ Some v → p (q, v) ≡ true → find path_cmp q (filter p es) ≡ Some v
+  pub hit : (p : List ℕ × V → Bool) (q : List ℕ) (v : V) (es : List (List ℕ × V)) → PathsRise es → find path_cmp q es ≡ Some v → p (q, v) ≡ true → find path_cmp q (filter p es) ≡ Some v
   hit p q v [] s f h = absurd (cc (f))
   hit p q v (e ∷ es) s f h =
       elim (same_path q e.0) as (λ t. same_path q e.0 ≡ t → cond t (Some e.1) (find path_cmp q es) ≡ Some v → find path_cmp q (cond (p e) (e ∷ filter p es) (filter p es)) ≡ Some v) [
@@ -53,7 +53,7 @@ module _ {V : Type 0} where
         ]
       ] refl f
 
-  miss : (p : List ℕ × V → Bool) (q : List ℕ) (v : V) (es : List (List ℕ × V)) → PathsRise es → find path_cmp q es ≡ Some v → p (q, v) ≡ false → find path_cmp q (filter p es) ≡ None
+  pub miss : (p : List ℕ × V → Bool) (q : List ℕ) (v : V) (es : List (List ℕ × V)) → PathsRise es → find path_cmp q es ≡ Some v → p (q, v) ≡ false → find path_cmp q (filter p es) ≡ None
   miss p q v [] s f h = refl
   miss p q v (e ∷ es) s f h =
       elim (same_path q e.0) as (λ t. same_path q e.0 ≡ t → cond t (Some e.1) (find path_cmp q es) ≡ Some v → find path_cmp q (cond (p e) (e ∷ filter p es) (filter p es)) ≡ None) [
@@ -75,7 +75,7 @@ module _ {V : Type 0} where
     | false ↦ below_filter p x es (back _ _ h)
   ]
 
-  rises_filter : (p : List ℕ × V → Bool) (es : List (List ℕ × V)) → PathsRise es → PathsRise (filter p es)
+  pub rises_filter : (p : List ℕ × V → Bool) (es : List (List ℕ × V)) → PathsRise es → PathsRise (filter p es)
   rises_filter p [] s = refl
   rises_filter p (e ∷ es) s = elim (p e) as (λ b. PathsRise (cond b (e ∷ filter p es) (filter p es))) [
     | true ↦ both _ _ (below_filter p e.0 es (front _ _ s)) (rises_filter p es (back _ _ s))

@@ -8,3 +8,4 @@ pub mod Paths
 pub mod Picked
 pub mod Trying
 pub mod ValuesLemmas
+pub mod Within

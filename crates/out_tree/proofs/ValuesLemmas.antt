@@ -18,7 +18,7 @@ module _ {V W : Type 0} (f : V → W) where
   below_all-map q [] = refl
   below_all-map q (e ∷ es) = ap (λ b. is_lt (path_cmp q e.0) && b) (below_all-map q es)
 
-  is_sorted-map : (es : List (List ℕ × V)) → is_sorted path_cmp es ≡ is_sorted path_cmp (map (λ e. (e.0, f e.1)) es)
+  pub is_sorted-map : (es : List (List ℕ × V)) → is_sorted path_cmp es ≡ is_sorted path_cmp (map (λ e. (e.0, f e.1)) es)
   is_sorted-map [] = refl
   is_sorted-map (e ∷ es) = λ i. below_all-map e.0 es i && is_sorted-map es i
 

@@ -1,3 +1,4 @@
+pub mod Among
 pub mod Belief
 pub mod BeliefCode
 pub mod Device
@@ -7,5 +8,6 @@ pub mod Memory
 pub mod MemoryCode
 pub mod Plan
 pub mod PlanRoom
+pub mod Settled
 pub mod Tries
 pub mod Values

@@ -6,14 +6,17 @@ ghost use Rattle.site_base.specs.Ends.{HasCauseOf, Rose};
 ghost use Rattle.site_base.specs.PathMap.{as_map, room};
 ghost use Rattle.out_tree.specs.Device.{Tells, Calls, path_of};
 ghost use Rattle.out_tree.specs.Belief.{believed, all_marked, after_one, after, HoldsOf};
+ghost use Rattle.std.specs.Option.{option_copied};
+ghost use Rattle.out_tree.specs.Among.{is_removed, removals_at, wanted, writes_at};
 ghost use Rattle.out_tree.specs.Plan.{steps_of, plan_of, planned, removals, writes, is_known_as, is_surplus};
 ghost use Rattle.out_tree.specs.Tries.{Tried, InOrder, DoneBut, StaysTrue, CallsFor, RoseBy};
 ghost use Rattle.out_tree.specs.Exact.{IsExactly, MadeBut, MarksThose, Settles};
+ghost use Rattle.out_tree.specs.Settled.{Beyond, IsSettledBeyond, IsThere, Stays};
 ghost use Rattle.out_tree.specs.declared.state.State.TheVariants.{Marked};
 ghost use Rattle.out_tree.specs.declared.step.Call.TheVariants as call;
 
 use crate::plan::{Planned, push_step};
-use crate::{KeepList, OutTree, Plan, State, Step, Tree};
+use crate::{KeepList, OutTree, Plan, State, Step, Touched, Tree};
 use site_base::{ListError, Memory, PathList, PathMap, SharedBytes, SitePath};
 use std::alloc::Global;
 use std::marker::Model;
@@ -104,21 +107,39 @@ impl OutKeeper {
         requires { IsSome self.now }
         ensures { IfOk result (λ plan. plan ≡ plan_of (believed self.now) tree.now keep.now) }
     {
+        self.plan_within(alloc, tree, keep, &Touched::anywhere())
+    }
+
+    /// The plan where the output differs from the tree at no path but the touched ones. It looks at these alone.
+    pub fn plan_within(
+        &self,
+        alloc: Global,
+        tree: &Tree,
+        keep: &KeepList,
+        touched: &Touched,
+    ) -> Result<Plan, Memory>
+        requires listed { IsSome self.now }
+        requires settled { IsSettledBeyond touched.now (believed self.now) tree.now keep.now }
+        ensures { IfOk result (λ plan. plan ≡ plan_of (believed self.now) tree.now keep.now) }
+    {
         match &self.belief {
-            Some(belief) => plan_for(alloc, belief, tree, keep),
+            Some(belief) => plan_for(alloc, belief, tree, keep, touched),
             None => unreachable!(),
         }
     }
 
-    /// Makes the output equal to the tree, kept paths aside. After `Memory` nothing was done.
+    /// Makes the output equal to the tree, kept paths aside, where it differs at no path but the touched ones. After
+    /// `Memory` nothing was done.
     pub fn make_equal<O: OutTree>(
         &mut self,
         alloc: Global,
         tree: &Tree,
         keep: &KeepList,
+        touched: &Touched,
         device: &mut O,
     ) -> Result<Applied, Memory>
-        requires { IsSome self.old }
+        requires listed { IsSome self.old }
+        requires beyond { IsSettledBeyond touched.now (believed self.old) tree.now keep.now }
         ensures err { OnErr result ((self.new ≡ self.old) × (device.new ≡ device.old)) }
         ensures written { IfOk result (λ applied.
             applied.written ≡ length (writes (believed self.old) tree.now)) }
@@ -149,7 +170,7 @@ impl OutKeeper {
         ensures settled { IfOk result (λ applied.
             Settles applied.failed (believed self.new) tree.now keep.now) }
     {
-        let plan = self.plan(alloc, tree, keep)?;
+        let plan = self.plan_within(alloc, tree, keep, touched)?;
         Ok(self.apply(device, plan))
     }
 
@@ -222,11 +243,13 @@ fn plan_for(
     belief: &PathMap<State>,
     tree: &Tree,
     keep: &KeepList,
+    touched: &Touched,
 ) -> Result<Plan, Memory>
+    requires { IsSettledBeyond touched.now (as_map belief.now) tree.now keep.now }
     ensures { IfOk result (λ plan. plan ≡ plan_of (as_map belief.now) tree.now keep.now) }
 {
-    let removals = plan_removals(alloc, belief, tree, keep)?;
-    let writes = plan_writes(alloc, belief, tree)?;
+    let removals = plan_removals(alloc, belief, tree, keep, touched)?;
+    let writes = plan_writes(alloc, belief, tree, touched)?;
     let Some(steps) = removals.len().checked_add(writes.len()) else {
         return Err(Memory);
     };
@@ -253,6 +276,23 @@ fn plan_removals(
     belief: &PathMap<State>,
     tree: &Tree,
     keep: &KeepList,
+    touched: &Touched,
+) -> Result<Vec<Planned>, Memory>
+    requires { Beyond touched.now (Stays (as_map belief.now) tree.now keep.now) }
+    ensures { IfOk result (λ steps.
+        map (λ p. p.step) steps.items ≡ removals (as_map belief.now) tree.now keep.now) }
+{
+    match touched.paths() {
+        Some(paths) => removals_among(alloc, belief, tree, keep, paths),
+        None => all_removals(alloc, belief, tree, keep),
+    }
+}
+
+fn all_removals(
+    alloc: Global,
+    belief: &PathMap<State>,
+    tree: &Tree,
+    keep: &KeepList,
 ) -> Result<Vec<Planned>, Memory>
     ensures { IfOk result (λ steps.
         map (λ p. p.step) steps.items ≡ removals (as_map belief.now) tree.now keep.now) }
@@ -271,7 +311,47 @@ fn plan_removals(
     Ok(steps)
 }
 
-fn plan_writes(alloc: Global, belief: &PathMap<State>, tree: &Tree) -> Result<Vec<Planned>, Memory>
+fn removals_among(
+    alloc: Global,
+    belief: &PathMap<State>,
+    tree: &Tree,
+    keep: &KeepList,
+    paths: &PathMap<()>,
+) -> Result<Vec<Planned>, Memory>
+    ensures { IfOk result (λ steps.
+        map (λ p. p.step) steps.items ≡ removals_at (as_map belief.now) tree.now keep.now (as_map paths.now)) }
+{
+    let mut steps = Vec::new(alloc);
+    for place in 0..paths.len() {
+        let (path, _) = paths.at(place);
+        if is_removed(belief, tree, keep, path) {
+            push_step(
+                &mut steps,
+                Step::Remove(path.copy(alloc)?),
+                path.copy(alloc)?,
+            )?;
+        }
+    }
+    Ok(steps)
+}
+
+fn plan_writes(
+    alloc: Global,
+    belief: &PathMap<State>,
+    tree: &Tree,
+    touched: &Touched,
+) -> Result<Vec<Planned>, Memory>
+    requires { Beyond touched.now (IsThere (as_map belief.now) tree.now) }
+    ensures { IfOk result (λ steps.
+        map (λ p. p.step) steps.items ≡ writes (as_map belief.now) tree.now) }
+{
+    match touched.paths() {
+        Some(paths) => writes_among(alloc, belief, tree, paths),
+        None => all_writes(alloc, belief, tree),
+    }
+}
+
+fn all_writes(alloc: Global, belief: &PathMap<State>, tree: &Tree) -> Result<Vec<Planned>, Memory>
     ensures { IfOk result (λ steps.
         map (λ p. p.step) steps.items ≡ writes (as_map belief.now) tree.now) }
 {
@@ -284,6 +364,49 @@ fn plan_writes(alloc: Global, belief: &PathMap<State>, tree: &Tree) -> Result<Ve
         }
     }
     Ok(steps)
+}
+
+fn writes_among(
+    alloc: Global,
+    belief: &PathMap<State>,
+    tree: &Tree,
+    paths: &PathMap<()>,
+) -> Result<Vec<Planned>, Memory>
+    ensures { IfOk result (λ steps.
+        map (λ p. p.step) steps.items ≡ writes_at (as_map belief.now) tree.now (as_map paths.now)) }
+{
+    let mut steps = Vec::new(alloc);
+    for place in 0..paths.len() {
+        let (path, _) = paths.at(place);
+        if let Some(bytes) = wanted(belief, tree, path) {
+            let step = Step::Write(path.copy(alloc)?, bytes.share()?);
+            push_step(&mut steps, step, path.copy(alloc)?)?;
+        }
+    }
+    Ok(steps)
+}
+
+// Whether the path is believed, and surplus.
+fn is_removed(belief: &PathMap<State>, tree: &Tree, keep: &KeepList, path: &SitePath) -> bool
+    ensures { result ≡ is_removed (as_map belief.now) tree.now keep.now path.now }
+{
+    belief.get(path).is_some() && is_surplus(tree, keep, path)
+}
+
+// What is to be written at a path, if anything is.
+fn wanted<'a>(belief: &PathMap<State>, tree: &'a Tree, path: &SitePath) -> Option<&'a SharedBytes>
+    ensures { option_copied result ≡ wanted (as_map belief.now) tree.now path.now }
+{
+    match tree.get_shared(path) {
+        Some(bytes) => {
+            if is_known(belief, path, bytes) {
+                None
+            } else {
+                Some(bytes)
+            }
+        }
+        None => None,
+    }
 }
 
 // Whether no file of the tree has the path, and no entry keeps it.

@@ -9,6 +9,7 @@ mod memory;
 mod plan;
 mod state;
 mod step;
+mod touched;
 mod tree;
 
 pub use device::OutTree;
@@ -19,4 +20,5 @@ pub use memory::MemoryOut;
 pub use plan::Plan;
 pub use state::State;
 pub use step::{Call, Step};
+pub use touched::Touched;
 pub use tree::Tree;
