@@ -76,7 +76,7 @@ removals_within belief tree keep touched settled =
     at : (q : List ℕ) (t : Option (Unit {0})) (b : Option State) → get touched q ≡ t → get belief q ≡ b
         → passes (λ e. is_removed belief tree keep e.0) q t ≡ passes (λ e. is_surplus tree keep e.0) q b
     at q None None t b = refl
-    at q None (Some s) t b = sym (settled q (ap is_some t) (ap is_some b))
+    at q None (Some s) t b = sym (settled q (ap (λ o. not (is_some o)) t) (ap is_some b))
     at q (Some u) None t b = ap (λ o. is_some o && is_surplus tree keep q) b
     at q (Some u) (Some s) t b = ap (λ o. is_some o && is_surplus tree keep q) b
 
@@ -111,7 +111,7 @@ writes_within belief tree touched settled =
     at : (q : List ℕ) (t : Option (Unit {0})) (o : Option (List ℕ)) → get touched q ≡ t → get tree q ≡ o
         → passes (λ e. is_some (wanted belief tree e.0)) q t ≡ passes (is_wanting belief) q o
     at q None None t o = refl
-    at q None (Some bytes) t o = sym (ap not (settled q (ap is_some t) bytes o))
+    at q None (Some bytes) t o = sym (ap not (settled q (ap (λ o. not (is_some o)) t) bytes o))
     at q (Some u) None t o = ap (λ x. is_some (wanted_by belief q x)) o
     at q (Some u) (Some bytes) t o = ap (λ x. is_some (wanted_by belief q x)) o ∙ told (is_known_as (get belief q) bytes) bytes
 

@@ -1,5 +1,5 @@
 -- Where an output may differ from the tree that it is to have.
-use Rattle.std.specs.Prelude.{◌≡◌, ℕ, true, false, List, Option, Some, None, refl}
+use Rattle.std.specs.Prelude.{◌≡◌, ℕ, Bool, true, false, not, List, Option, Some, None, refl}
 use Rattle.std.specs.Coded.{Coded, code_by, coded_ℕ, coded_list, coded_option}
 use Rattle.std.specs.FinMap as finmap
 use Rattle.std.specs.FinMap.{FinMap, get, contains_key}
@@ -21,10 +21,14 @@ Stays belief tree keep path = contains_key belief path ≡ true → is_surplus t
 abbrev pub IsThere : Belief → Files → List ℕ → Type 0
 IsThere belief tree path = (bytes : List ℕ) → get tree path ≡ Some bytes → is_known_as (get belief path) bytes ≡ true
 
--- it holds at each path but these; with no paths named, nothing is said
+-- the path is none of these; with no paths named, that is said of none
+abbrev pub is_beyond : Option Paths → List ℕ → Bool
+is_beyond None path = false
+is_beyond (Some paths) path = not (contains_key paths path)
+
+-- it holds at each path but these
 abbrev pub Beyond : Option Paths → (List ℕ → Type 0) → Type 0
-Beyond None fact = Unit {0}
-Beyond (Some paths) fact = (path : List ℕ) → contains_key paths path ≡ false → fact path
+Beyond touched fact = (path : List ℕ) → is_beyond touched path ≡ true → fact path
 
 -- nothing is to be done at any path but these
 pub record IsSettledBeyond (touched : Option Paths) (belief : Belief) (tree : Files) (keep : List (List ℕ)) : Type 0 where

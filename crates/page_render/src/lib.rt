@@ -14,4 +14,4 @@ mod setting;
 mod site;
 
 pub use page::is_page;
-pub use site::{render_thin, unbuilt};
+pub use site::{is_unbuilt, render_thin, unbuilt};

@@ -34,9 +34,9 @@ pub fn render_thin(alloc: Global, held: &Held, path: &SitePath) -> Result<Text, 
     }
 }
 
-// Whether a file has a form that is not built yet, by its path and its bytes.
+/// Whether a file has a form that is not built yet, by its path and its bytes. It takes no memory.
 #[tactic(auto, unfolding(crate::specs::Thin::is_unbuilt))]
-fn is_unbuilt(path: &str, bytes: &[u8]) -> bool
+pub fn is_unbuilt(path: &str, bytes: &[u8]) -> bool
     ensures { result ≡ is_unbuilt path.now bytes.now }
 {
     is_set_apart(path.as_bytes()) || has_unbuilt_content(path, bytes)

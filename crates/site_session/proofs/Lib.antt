@@ -1,3 +1,3 @@
 pub mod Builds
-pub mod Outputs
+pub mod Keeping
 pub mod Steps

@@ -3,12 +3,15 @@ ghost use Rattle.std.specs.Prelude.{◌≡◌, ◌+◌, ◌-◌, ◌^◌, ◌≤
 ghost use Rattle.std.specs.FinMap as map;
 ghost use Rattle.site_base.specs.Places.{Files};
 ghost use Rattle.out_tree.specs.Belief.{Belief, believed, IsTrueOf};
+ghost use Rattle.out_tree.specs.Settled.{IsSettledBeyond};
 ghost use Rattle.site_session.specs.Full.{kept};
+ghost use Rattle.site_session.specs.Ready.{IsBuilt, IsDone, IsEqual, IsReady};
+ghost use Rattle.std.specs.Bool.{OnTrue};
 ghost use Rattle.site_session.specs.Standing.{Standing, Holds, MakesBut, MarksExactly};
 ghost use Rattle.site_session.specs.Session.{Given, Reply, event_of, failed_of, build_tree, build_listed, output_faults, TheList};
 ghost use Rattle.site_session.specs.Replies.{built_reply, FailedAt};
 
-use out_tree::{KeepList, OutKeeper, OutTree, Tree};
+use out_tree::{KeepList, OutKeeper, OutTree, Touched, Tree};
 use site_base::{ListError, Memory, PathList, SiteFault, Text};
 use std::alloc::Global;
 
@@ -38,14 +41,33 @@ pub enum Rebuilt {
     Unlisted,
 }
 
+// Whether a build is done.
+pub(crate) fn is_done(built: &Result<Rebuilt, Memory>) -> bool
+    ensures { OnTrue result (IsDone built.now) }
+{
+    match built {
+        Ok(built) => is_built(built),
+        Err(_) => false,
+    }
+}
+
+fn is_built(built: &Rebuilt) -> bool
+    ensures { OnTrue result (IsBuilt built.now) }
+{
+    matches!(built, Rebuilt::Built(_))
+}
+
 // Lists the output where it has not been listed, and makes it equal to the tree.
 pub(crate) fn make<O: OutTree>(
     keeper: &mut OutKeeper,
     alloc: Global,
     tree: &Tree,
+    touched: &Touched,
     rendered: u32,
     out: &mut O,
 ) -> Result<Rebuilt, Memory>
+    requires { IsReady keeper.old touched.now tree.now }
+    ensures done { IsDone result → IsEqual keeper.new tree.now }
     ensures answers { (given : Given) (now : Standing) (reply : Reply) → now.belief ≡ keeper.old → Holds (O.contents out.old) keeper.old given.output →
         built_reply result ≡ Some reply →
         build_tree given now tree.now rendered keeper.old (event_of reply) ≡ (record now { belief = keeper.new }, reply) }
@@ -59,7 +81,7 @@ pub(crate) fn make<O: OutTree>(
     ensures err { OnErr result (O.contents out.new ≡ O.contents out.old) }
 {
     match keeper.list_once(alloc, out) {
-        Ok(()) => make_listed(keeper, alloc, tree, rendered, out),
+        Ok(()) => make_listed(keeper, alloc, tree, touched, rendered, out),
         Err(ListError::Failed) => Ok(Rebuilt::Unlisted),
         Err(ListError::Memory) => Err(Memory),
     }
@@ -70,10 +92,13 @@ fn make_listed<O: OutTree>(
     keeper: &mut OutKeeper,
     alloc: Global,
     tree: &Tree,
+    touched: &Touched,
     rendered: u32,
     out: &mut O,
 ) -> Result<Rebuilt, Memory>
-    requires { IsSome keeper.old }
+    requires some { IsSome keeper.old }
+    requires beyond { IsSettledBeyond touched.now (believed keeper.old) tree.now kept }
+    ensures done { IsDone result → IsEqual keeper.new tree.now }
     ensures answers { (now : Standing) (reply : Reply) → built_reply result ≡ Some reply →
         build_listed now tree.now rendered (believed keeper.old) (failed_of (event_of reply)) ≡ (record now { belief = keeper.new }, reply) }
     ensures belief { (old : Files) → O.contents out.old ≡ Some old → IsTrueOf (believed keeper.old) old →
@@ -92,7 +117,7 @@ fn make_listed<O: OutTree>(
         Ok(keep) => keep,
         Err(Memory) => return Err(Memory),
     };
-    let applied = match keeper.make_equal(alloc, tree, &keep, out) {
+    let applied = match keeper.make_equal(alloc, tree, &keep, touched, out) {
         Ok(applied) => applied,
         Err(Memory) => return Err(Memory),
     };

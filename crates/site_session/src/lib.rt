@@ -2,9 +2,9 @@
 #![tactic(auto)]
 
 mod build;
+mod made;
 mod reply;
 mod session;
-mod tree;
 
 pub use build::{Rebuilt, Report};
 pub use reply::Reply;

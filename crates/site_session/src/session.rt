@@ -12,8 +12,8 @@ ghost use Rattle.site_session.specs.Replies.{scan_reply, built_reply, FailedAt, 
 ghost use Rattle.site_script.specs.declared.line.Line.TheVariants as line;
 
 use crate::build::{Rebuilt, make};
+use crate::made::{Made, Outputs, kept_last, make_outputs};
 use crate::reply::Reply;
-use crate::tree::{first_fault, render_all};
 use out_tree::{OutKeeper, OutTree};
 use site_base::{FileBytes, Memory, Settings, SitePath};
 use site_script::{Line, ScriptKind};
@@ -28,6 +28,9 @@ pub struct Session {
     settings: Settings,
     moment: i64,
     keeper: OutKeeper,
+    alloc: Global,
+    // What is kept of the last build, where it was done and nothing since has made it useless.
+    last: Option<Made>,
 }
 
 impl Model for Session {
@@ -38,6 +41,11 @@ impl Model for Session {
     ghost coded = { standing_code };
 
     ghost view = { λ s. record { files = s.held; moment = s.moment; belief = s.keeper } };
+
+    ghost use Rattle.site_session.specs.Made.{Stands, IsSettled};
+    ghost use Rattle.site_session.specs.Ready.{IfLast};
+
+    ghost invariant = { λ s. IfLast s.last (λ made. Stands s.held made × IsSettled s.keeper made) };
 }
 
 impl Session {
@@ -50,6 +58,8 @@ impl Session {
             settings,
             moment,
             keeper: OutKeeper::open(),
+            alloc,
+            last: None,
         }
     }
 
@@ -59,7 +69,12 @@ impl Session {
             (λ _. (self.new ≡ record self.old { files = map.insert self.old.files path bytes.items }) × (put_refusal self.old.files path bytes.items ≡ None))
             (λ error. (self.new ≡ self.old) × ((error ≡ PutError.Memory) ⊎ (put_refusal self.old.files path bytes.items ≡ Some error))) }
     {
-        self.held.put(path, bytes)
+        let name = path.copy(self.alloc);
+        match self.held.put(path, bytes) {
+            Ok(()) => self.last = kept_last(self.last.take(), self.alloc, &self.held, name),
+            Err(error) => return Err(error),
+        }
+        Ok(())
     }
 
     /// Deletes a file, and says whether it was held. It takes no memory.
@@ -67,6 +82,7 @@ impl Session {
         ensures files { self.new ≡ record self.old { files = map.remove self.old.files path.now } }
         ensures was { result ≡ map.contains_key self.old.files path.now }
     {
+        self.last = None;
         self.held.delete(path)
     }
 
@@ -86,6 +102,7 @@ impl Session {
         ensures same { S.files source.new ≡ S.files source.old }
         ensures cause { HasCauseOf ScanError.Failed (S.faults source.old) (S.faults source.new) result }
     {
+        self.last = None;
         self.held.scan(alloc, source)
     }
 
@@ -109,22 +126,25 @@ impl Session {
         ensures same { (self.new.files ≡ self.old.files) × (self.new.moment ≡ self.old.moment) }
         ensures err { OnErr result (O.contents out.new ≡ O.contents out.old) }
     {
-        let fault = match first_fault(alloc, &self.held) {
-            Ok(fault) => fault,
+        let last = self.last.take();
+        let outputs = match make_outputs(alloc, &self.held, last) {
+            Ok(outputs) => outputs,
             Err(Memory) => return Err(Memory),
         };
-        match fault {
-            Some(fault) => Ok(Rebuilt::Fault(fault)),
-            None => match render_all(alloc, &self.held) {
-                Ok(outputs) => make(
+        match outputs {
+            Outputs::Fault(fault) => Ok(Rebuilt::Fault(fault)),
+            Outputs::Tree(made, rendered) => {
+                let built = make(
                     &mut self.keeper,
                     alloc,
-                    &outputs.tree,
-                    outputs.rendered,
+                    &made.tree,
+                    &made.touched,
+                    rendered,
                     out,
-                ),
-                Err(Memory) => Err(Memory),
-            },
+                );
+                self.last = made.after(alloc, &built);
+                built
+            }
         }
     }
 

@@ -5,12 +5,12 @@ use Rattle.site_session.proofs.Builds.{holds_listed, holds_after, makes_but, not
 use Rattle.site_session.proofs.build.make_listed.Goals as goal
 
 pub returns-in-Err-clause-belief : goal.returns-in-Err-clause-belief
-returns-in-Err-clause-belief g c = λ old told truth. holds_listed _ _ old old c.requires told truth
+returns-in-Err-clause-belief g c = λ old told truth. holds_listed _ _ old old c.requires.some told truth
 
 pub returns-in-Err-make_equal-clause-belief : goal.returns-in-Err-make_equal-clause-belief
 returns-in-Err-make_equal-clause-belief g c = λ old told truth.
     let same = c.in-Err-make_equal.ensures.err in
-    holds_listed _ _ old old (subst (λ b. IsSome b) (sym same.0) c.requires) (ap g.O.OutTree.contents same.1 ∙ told) (subst (λ b. IsTrueOf (believed b) old) (sym same.0) truth)
+    holds_listed _ _ old old (subst (λ b. IsSome b) (sym same.0) c.requires.some) (ap g.O.OutTree.contents same.1 ∙ told) (subst (λ b. IsTrueOf (believed b) old) (sym same.0) truth)
 
 pub returns-then-is_empty-clause-belief : goal.returns-then-is_empty-clause-belief
 returns-then-is_empty-clause-belief g c = λ old told truth.
