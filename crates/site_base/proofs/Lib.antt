@@ -1,5 +1,9 @@
 pub mod Clashing
+pub mod CodeLaws
+pub mod DecimalLaws
 pub mod Entries
 pub mod LinesLaws
+pub mod PastLaws
 pub mod Sorting
 pub mod ValueLaws
+pub mod Weights

@@ -73,3 +73,11 @@ set_found k v ps i d e =
 pub set_missing : (k : List ℕ) (v : Value) (ps : List Pair) → None ≡ position (λ p. bytes_eq k p.key) ps
     → pairs_of (ps ++ pair_of k v ∷ []) ≡ set k (plain v) (pairs_of ps)
 set_missing k v ps e = set_absent k v ps (not_found (place k ps) (length ps) e)
+
+-- equal trees have as many parts
+
+pub items_length : (l r : List Value) → items_of l ≡ items_of r → length l ≡ length r
+items_length l r e = sym (count_length l) ∙ ap count e ∙ count_length r
+
+pub pairs_length : (l r : List Pair) → pairs_of l ≡ pairs_of r → length l ≡ length r
+pairs_length l r e = sym (count_pairs_length l) ∙ ap count_pairs e ∙ count_pairs_length r

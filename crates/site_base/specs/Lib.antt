@@ -1,4 +1,6 @@
 pub mod Clash
+pub mod Code
+pub mod Decimal
 pub mod Ends
 pub mod Faults
 pub mod Flat
@@ -11,4 +13,5 @@ pub mod Places
 pub mod Plain
 pub mod Recursion
 pub mod Sizes
+pub mod Values
 pub mod View

@@ -31,7 +31,9 @@ pub use shared::SharedBytes;
 pub use sink::{ByteSink, MemorySink};
 pub use source::{ByteSource, MemoryInput};
 pub use text::Text;
-pub use value::{Hash, List, Pair, Value};
+pub use value::{
+    Hash, List, Pair, Unlike, Value, code, compare, copy, equals, is_true, same_code, value_text,
+};
 pub use words::Words;
 
 #[cfg(test)]

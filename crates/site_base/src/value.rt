@@ -1,6 +1,18 @@
 // Values, as front matter, data and templates have them.
+mod coding;
+mod copies;
+mod equality;
 mod growth;
 mod lookups;
+mod matching;
+mod writing;
+
+pub use coding::code;
+pub use copies::copy;
+pub use equality::{Unlike, compare, equals, is_true};
+pub use matching::same_code;
+pub use writing::value_text;
+
 #[cfg(test)]
 mod tests;
 

@@ -1,0 +1,11 @@
+use Rattle.std.proofs.Common.{◌≡◌, ◌++◌, drop}
+use Rattle.std.specs.String.{string_bytes}
+use Rattle.site_base.specs.View.{items_of, pairs_of}
+use Rattle.site_base.specs.Code.{items_code, pairs_code}
+use Rattle.site_base.proofs.value.+code.Given as goal
+
+abbrev pub invariant-List::push_code-loop-value : goal.invariant-List::push_code-loop-value
+invariant-List::push_code-loop-value l = string_bytes l.out ++ items_code (items_of (drop l.value-index l.value-items)) ≡ string_bytes l.initial.out ++ items_code (items_of l.value-items)
+
+abbrev pub invariant-Hash::push_code-loop-pair : goal.invariant-Hash::push_code-loop-pair
+invariant-Hash::push_code-loop-pair l = string_bytes l.out ++ pairs_code (pairs_of (drop l.pair-index l.pair-items)) ≡ string_bytes l.initial.out ++ pairs_code (pairs_of l.pair-items)
