@@ -51,16 +51,6 @@ make_answers given now tree pages reply None mid new told l h other is =
     let marked : mid ≡ Some (all_marked given.output) = l.marks refl given.output (h.told_is ∙ ap Some h.is_true) in
     listed_now given now tree pages (event_of reply) other ∙ ap (λ (b : Option Belief). build_listed now tree pages (believed b) (failed_of (event_of reply))) (sym marked) ∙ is
 
--- no fault is found: the files stand for their outputs
-pub gives_all : (files : Files) (fault : Option SiteFault) → fault ≡ option_map (fault_at Unbuilt) (first_unbuilt (entries files)) → fault ≡ None
-    → (first_unbuilt (entries files) ≡ None) × (full files ≡ Gives (tree_of files) (page_count files))
-unfolding full
-gives_all files fault is none = (nothing (first_unbuilt (entries files)) (sym is ∙ none), ap (full_by files) (nothing (first_unbuilt (entries files)) (sym is ∙ none)))
-  where
-    nothing : (path : Option (List ℕ)) → option_map (fault_at Unbuilt) path ≡ None → path ≡ None
-    nothing None e = refl
-    nothing (Some path) e = absurd (cc (e))
-
 pub fails_at : (files : Files) (fault : SiteFault) (found : Option SiteFault) → found ≡ option_map (fault_at Unbuilt) (first_unbuilt (entries files)) → found ≡ Some fault → full files ≡ Fails fault
 unfolding full
 fails_at files fault found is some = by (first_unbuilt (entries files)) (sym is ∙ some)
@@ -129,15 +119,3 @@ pub same_told : (failed : List (List ℕ)) (tree : Files) (told was tells : Opti
 same_told failed tree told was tells same made =
     record { old = made.old; new = made.new; told_is = sym same ∙ made.told_is; tells_is = made.tells_is; exactly = made.exactly }
 
-pub gives_these : (files : Files) (fault : Option SiteFault) (tree : Files) (pages : ℕ) → fault ≡ option_map (fault_at Unbuilt) (first_unbuilt (entries files)) → fault ≡ None
-    → tree ≡ tree_of files → pages ≡ page_count files → full files ≡ Gives tree pages
-gives_these files fault tree pages is none tree_is pages_is = (gives_all files fault is none).1 ∙ (λ i. Gives (sym tree_is i) (sym pages_is i))
-
-pub faulty_answer : (given : Given) (now : Standing) (fault : SiteFault) (reply : Reply) → full now.files ≡ Fails fault → ◌≡◌ {A = Option Reply} (Some (Faulty fault)) (Some reply)
-    → build given now (full now.files) (event_of reply) ≡ (now, reply)
-faulty_answer given now fault reply fails is =
-    let e : Faulty fault ≡ reply = cc in
-    ap (λ (f : Full). build given now f (event_of reply)) fails ∙ (λ i. (now, e i))
-
-pub fault_is : (one other : SiteFault) → ◌≡◌ {A = Result Rebuilt Memory} (Ok (rebuilt.Fault one)) (Ok (rebuilt.Fault other)) → one ≡ other
-fault_is one other e = cc (e)

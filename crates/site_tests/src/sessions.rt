@@ -266,6 +266,75 @@ fn builds(rt: HostRuntime) -> Result<(), Fail> {
     Ok(())
 }
 
+// Builds after edits of a session that has built: each does what is left, and counts every page as rendered.
+#[test]
+fn edits_go_on_from_the_build_before(rt: HostRuntime) -> Result<(), Fail> {
+    let alloc = rt.alloc();
+    // A file gets other bytes, another is added, and a third stays.
+    comes_out(
+        &rt,
+        alloc,
+        Given::session("put b 1\nxput c 1\nzbuild\nput b 1\nyput a 1\nwbuild\nbuild\n"),
+        0,
+        "ok\nok\nbuilt rendered=0 reused=0 written=2 removed=0\nok\nok\nbuilt rendered=0 reused=0 written=2 removed=0\nbuilt rendered=0 reused=0 written=0 removed=0\n",
+        &[("a", "w"), ("b", "y"), ("c", "z")],
+    )?;
+    // A page becomes a file that is copied, and a page again.
+    comes_out(
+        &rt,
+        alloc,
+        Given::session(
+            "put p.html 9\n---\n---\npput q.html 9\n---\n---\nqbuild\nput p.html 1\nxbuild\nput p.html 9\n---\n---\nrbuild\n",
+        ),
+        0,
+        "ok\nok\nbuilt rendered=2 reused=0 written=2 removed=0\nok\nbuilt rendered=1 reused=0 written=1 removed=0\nok\nbuilt rendered=2 reused=0 written=1 removed=0\n",
+        &[("p.html", "r"), ("q.html", "q")],
+    )?;
+    // A file is deleted and put again as it was; another is deleted for good.
+    comes_out(
+        &rt,
+        alloc,
+        Given::session("put a 1\nxput b 1\nybuild\ndelete a\nput a 1\nxbuild\ndelete b\nbuild\n"),
+        0,
+        "ok\nok\nbuilt rendered=0 reused=0 written=2 removed=0\nok\nok\nbuilt rendered=0 reused=0 written=0 removed=0\nok\nbuilt rendered=0 reused=0 written=0 removed=1\n",
+        &[("a", "x")],
+    )?;
+    // A form that is not built comes and goes between two edits.
+    comes_out(
+        &rt,
+        alloc,
+        Given::session("put a 1\nxbuild\nput b.md 9\n---\n---\nbbuild\nput a 1\nyput b.md 1\nbbuild\n"),
+        0,
+        "ok\nbuilt rendered=0 reused=0 written=1 removed=0\nok\nfault F0 0 b.md\nok\nok\nbuilt rendered=0 reused=0 written=2 removed=0\n",
+        &[("a", "y"), ("b.md", "b")],
+    )?;
+    // A write of a later build fails; then something else is edited.
+    comes_out(
+        &rt,
+        alloc,
+        Given {
+            output_fails: &[4],
+            ..Given::session("put a 1\nxput b 1\nybuild\nput a 1\nzbuild\nput b 1\nwbuild\nbuild\n")
+        },
+        0,
+        "ok\nok\nbuilt rendered=0 reused=0 written=2 removed=0\nok\nout-fault 1\nmarked a\nok\nbuilt rendered=0 reused=0 written=2 removed=0\nbuilt rendered=0 reused=0 written=0 removed=0\n",
+        &[("a", "z"), ("b", "w")],
+    )?;
+    // A scan takes the place of all that was put and built.
+    comes_out(
+        &rt,
+        alloc,
+        Given {
+            sources: &[("a", "x"), ("c", "v")],
+            ..Given::session("put a 1\nxput b 1\nybuild\nscan\nbuild\nput c 1\nubuild\n")
+        },
+        0,
+        "ok\nok\nbuilt rendered=0 reused=0 written=2 removed=0\nscanned 2\nbuilt rendered=0 reused=0 written=1 removed=1\nok\nbuilt rendered=0 reused=0 written=1 removed=0\n",
+        &[("a", "x"), ("c", "u")],
+    )?;
+    Ok(())
+}
+
 #[test]
 fn a_second_build_calls_nobody(rt: HostRuntime) -> Result<(), Fail> {
     let script =
@@ -289,13 +358,16 @@ fn refuses_a_file_that_is_too_long(rt: HostRuntime) -> Result<(), Fail> {
     for _ in 0..16_777_217 {
         long.push('x')?;
     }
-    let given = Given {
+    let sources = [("big", long.as_str())];
+    let build = Given {
         words: &["build"],
-        sources: &[("big", long.as_str())],
-        ..Given::session("")
+        ..Given::once(&sources)
     };
-    let outcome = given.run_jobs(&rt, rt.alloc())?;
-    assert_eq!(rt; outcome.status.number(), 1);
-    assert_eq!(rt; outcome.replies.as_str(), "fault F2 0 big\n");
+    let built = build.run_jobs(&rt, rt.alloc())?;
+    assert_eq!(rt; built.status.number(), 1);
+    assert_eq!(rt; built.replies.as_str(), "fault F2 0 big\n");
+    let once = Given::once(&sources).run(rt.alloc())?;
+    assert_eq!(rt; once.status.number(), 1);
+    assert_eq!(rt; once.replies.as_str(), "fault F2 0 big\n");
     Ok(())
 }
