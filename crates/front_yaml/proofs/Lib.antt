@@ -1,3 +1,10 @@
 pub mod Cuts
 pub mod FrontLemmas
 mod Rows
+mod BlockScalarRows
+mod FlowRows
+mod MappingRows
+mod QuoteRows
+mod ScalarRows
+mod SequenceRows
+mod TextRows

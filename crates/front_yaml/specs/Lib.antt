@@ -1,1 +1,16 @@
+pub mod BlockScalars
+pub mod Blocks
+pub mod Bytes
+pub mod Extents
+pub mod Flow
+pub mod Folding
 pub mod Front
+pub mod Gaps
+pub mod Keys
+pub mod Leaves
+pub mod PlainScalars
+pub mod Quotes
+pub mod Reading
+pub mod Scalars
+pub mod TextLines
+pub mod Yaml
