@@ -33,22 +33,22 @@ abbrev pub starts_white : List ℕ → Bool
 starts_white [] = false
 starts_white (c ∷ cs) = is_white c
 
--- what stands between two lines with b blank ones between them; without a first line, before the second
-abbrev pub lines_joint : Bool → Option (List ℕ) → ℕ → List ℕ → List ℕ
+-- what stands between two lines with b blank ones between them, or before the first line; of the line before, whether it starts with white space
+abbrev pub lines_joint : Bool → Option Bool → ℕ → List ℕ → List ℕ
 lines_joint folded None b t = repeated b 10
-lines_joint folded (Some p) b t = if not folded || starts_white p || starts_white t then repeated (suc b) 10 else if b == 0 then 32 ∷ [] else repeated b 10
+lines_joint folded (Some spaced) b t = if not folded || spaced || starts_white t then repeated (suc b) 10 else if b == 0 then 32 ∷ [] else repeated b 10
 
-abbrev pub lines_end : Chomp → Option (List ℕ) → ℕ → List ℕ
+abbrev pub lines_end : Chomp → Option Bool → ℕ → List ℕ
 lines_end keep None b = repeated b 10
-lines_end keep (Some p) b = repeated (suc b) 10
-lines_end clip (Some p) b = 10 ∷ []
+lines_end keep (Some spaced) b = repeated (suc b) 10
+lines_end clip (Some spaced) b = 10 ∷ []
 lines_end c p b = []
 
--- the text of lines after the line p and b blank ones, at indent m
-abbrev pub joined_lines : Bool → Chomp → ℕ → Option (List ℕ) → ℕ → List Line → List ℕ
+-- the text of lines after a line and b blank ones, at indent m
+abbrev pub joined_lines : Bool → Chomp → ℕ → Option Bool → ℕ → List Line → List ℕ
 joined_lines folded c m p b [] = lines_end c p b
 joined_lines folded c m p b (l ∷ ls) =
-    elim (is_blank l) [ true ↦ joined_lines folded c m p (suc b) ls | false ↦ lines_joint folded p b (drop m l.text) ++ (drop m l.text ++ joined_lines folded c m (Some (drop m l.text)) 0 ls) ]
+    elim (is_blank l) [ true ↦ joined_lines folded c m p (suc b) ls | false ↦ lines_joint folded p b (drop m l.text) ++ (drop m l.text ++ joined_lines folded c m (Some (starts_white (drop m l.text))) 0 ls) ]
 
 -- the lines after a header `s` on line n
 abbrev pub block_scalar : ℕ → List ℕ → List Line → Reading (List ℕ)

@@ -1,8 +1,9 @@
 -- Line ends inside a value: each becomes a space, or the blank lines that follow it. YAML 1.2.2, section 6.5.
-use Rattle.std.specs.Prelude.{ℕ, zero, suc, ◌==◌, Bool, true, false, ◌&&◌, ◌||◌, not, List, [], ◌∷◌, ◌++◌, if◌then◌else◌, Option, Some, None, nat_le}
+use Rattle.std.specs.Prelude.{ℕ, zero, suc, ◌==◌, Bool, true, false, ◌&&◌, ◌||◌, not, List, [], ◌∷◌, ◌++◌, if◌then◌else◌, Option, Some, None, nat_le, encode_utf8}
 use Rattle.site_base.specs.declared.faults.YamlKind.{YamlKind}
 use Rattle.front_yaml.specs.Reading.{Fault}
 use Rattle.front_yaml.specs.Bytes.{later, is_white, repeated}
+use Rattle.front_yaml.specs.Escapes.{escape}
 
 -- where a reading of a value is: inside a line, or between two lines with b blank ones so far; `joined` after a `\` at a line's end
 pub data Where : Type 0 where
@@ -31,15 +32,23 @@ abbrev pub ends_line : List ℕ → Bool
 ends_line [] = false
 ends_line (c ∷ cs) = if c == 10 then true else is_white c && ends_line cs
 
-abbrev pub fold_from : Where → List ℕ → List ℕ
-fold_from w [] = joint w
-fold_from w (c ∷ cs) = elim (c == 10) [
-  | true ↦ fold_from (next_line w) cs
-  | false ↦ elim (is_white c && (is_between w || ends_line cs)) [ true ↦ fold_from w cs | false ↦ joint w ++ (c ∷ fold_from within cs) ]
+-- the text that stands for a scalar's bytes; where `escapes`, `\` begins an escape, of which `skip` bytes are still to come
+abbrev pub folded : (escapes : Bool) → Where → (skip : ℕ) → List ℕ → List ℕ
+folded escapes w skip [] = joint w
+folded escapes w (suc k) (c ∷ cs) = folded escapes w k cs
+folded escapes w zero (c ∷ cs) = elim (c == 10) [
+  | true ↦ folded escapes (next_line w) 0 cs
+  | false ↦ elim (is_white c && (is_between w || ends_line cs)) [
+    | true ↦ folded escapes w 0 cs
+    | false ↦ joint w ++ elim (escapes && (c == 92)) [
+      | true ↦ elim (escape cs) [ Some e ↦ encode_utf8 e.0 ++ folded escapes within e.1 cs | None ↦ folded escapes (joined 0) 1 cs ]
+      | false ↦ c ∷ folded escapes within 0 cs
+    ]
+  ]
 ]
 
 abbrev pub fold : List ℕ → List ℕ
-fold = fold_from within
+fold = folded false within 0
 
 -- the first tab among the leading white space of a line that is not blank; `lead` where only spaces stand since the line's start
 abbrev pub first_tab : Bool → List ℕ → Option ℕ

@@ -1,6 +1,7 @@
 pub mod BlockScalars
 pub mod Blocks
 pub mod Bytes
+pub mod Escapes
 pub mod Extents
 pub mod Flow
 pub mod Folding

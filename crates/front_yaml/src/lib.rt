@@ -1,6 +1,7 @@
 //! The front matter of a file.
 #![tactic(auto)]
 
+mod extents;
 mod front_matter;
 mod lines;
 
