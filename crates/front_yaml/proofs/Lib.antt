@@ -1,4 +1,7 @@
 pub mod Cuts
+pub mod LineLaws
+pub mod Added
+pub mod Trimming
 pub mod FrontLemmas
 mod Rows
 mod BlockScalarRows

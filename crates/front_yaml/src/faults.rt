@@ -1,0 +1,56 @@
+// Why a text has no value.
+ghost use Rattle.std.specs.Prelude.{◌≡◌};
+
+use site_base::{Memory, YamlKind};
+
+/// What is wrong with a YAML text first, and the number of the line, from 1, where it is met.
+#[derive(Clone, Copy, Debug, PartialEq, Eq)]
+pub struct YamlFault {
+    pub line: u64,
+    pub kind: YamlKind,
+}
+
+/// Why a YAML text has no value.
+#[derive(Clone, Copy, Debug, PartialEq, Eq)]
+pub enum YamlError {
+    /// The text has no value; this is its first fault.
+    Fault(YamlFault),
+    /// Memory was wanting.
+    Memory,
+}
+
+impl From<Memory> for YamlError {
+    ghost use Rattle.std.specs.Prelude.{◌≡◌};
+    ghost use Rattle.front_yaml.specs.declared.faults.YamlError.TheVariants as yaml_error;
+
+    ghost from_gives = { λ _ error. error ≡ yaml_error.Memory };
+
+    fn from(_: Memory) -> YamlError {
+        YamlError::Memory
+    }
+}
+
+/// What is wrong within a text, and the place of the byte where it is met.
+#[derive(Clone, Copy)]
+pub(crate) struct PlaceFault {
+    pub place: usize,
+    pub kind: YamlKind,
+}
+
+/// Why a part of a text has no value.
+#[derive(Clone, Copy)]
+pub(crate) enum PlaceError {
+    Fault(PlaceFault),
+    Memory,
+}
+
+impl From<Memory> for PlaceError {
+    ghost use Rattle.std.specs.Prelude.{◌≡◌};
+    ghost use Rattle.front_yaml.specs.declared.faults.PlaceError.TheVariants as place_error;
+
+    ghost from_gives = { λ _ error. error ≡ place_error.Memory };
+
+    fn from(_: Memory) -> PlaceError {
+        PlaceError::Memory
+    }
+}
