@@ -1,4 +1,7 @@
 pub mod Cuts
+pub mod FoldLaws
+pub mod Growing
+pub mod HexBounds
 pub mod LineLaws
 pub mod Added
 pub mod Trimming

@@ -1,6 +1,7 @@
 -- The escapes of double-quoted scalars: YAML 1.2.2, section 5.7, without those for white space and for blank characters.
-use Rattle.std.specs.Prelude.{ℕ, suc, ◌+◌, ◌-◌, ◌*◌, ◌==◌, Bool, ◌&&◌, ◌||◌, List, [], ◌∷◌, length, take, nat_lt, nat_le, if◌then◌else◌, Option, Some, None}
+use Rattle.std.specs.Prelude.{ℕ, suc, ◌+◌, ◌-◌, ◌*◌, ◌==◌, Bool, ◌&&◌, ◌||◌, List, [], ◌∷◌, length, take, nat_le, if◌then◌else◌, Option, Some, None}
 use Rattle.std.specs.List.{list_all}
+use Rattle.std.proofs.Math.Utf8.{scalar}
 
 -- the character of `\"`, `\\`, `\/`, `\0`, `\a`, `\b`, `\t`, `\n`, `\v`, `\f`, `\r` and `\e`
 abbrev pub named_char : ℕ → Option ℕ
@@ -27,14 +28,10 @@ abbrev pub hex_from : ℕ → List ℕ → ℕ
 hex_from n [] = n
 hex_from n (c ∷ cs) = hex_from (n * 16 + hex_digit c) cs
 
--- the number of a character: Unicode's scalar values
-abbrev pub is_scalar : ℕ → Bool
-is_scalar n = nat_lt n 0xD800 || (nat_lt 0xDFFF n && nat_lt n 0x110000)
-
--- the character whose number stands in n hexadecimal digits
+-- the character whose number, a scalar value of Unicode, stands in n hexadecimal digits
 abbrev pub hex_char : ℕ → List ℕ → Option ℕ
 hex_char n s = let ds = take n s in
-    if (length ds == n) && list_all is_hex ds && is_scalar (hex_from 0 ds) then Some (hex_from 0 ds) else None
+    if (length ds == n) && list_all is_hex ds && scalar (hex_from 0 ds) then Some (hex_from 0 ds) else None
 
 abbrev pub of_length : ℕ → Option ℕ → Option (ℕ × ℕ)
 of_length n None = None

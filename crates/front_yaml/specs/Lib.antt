@@ -7,6 +7,7 @@ pub mod Flow
 pub mod Folding
 pub mod Front
 pub mod Gaps
+pub mod Given
 pub mod Keys
 pub mod Leaves
 pub mod PlainScalars

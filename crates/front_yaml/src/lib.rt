@@ -1,9 +1,12 @@
 //! Front matter, and the YAML subset that it and data files are written in.
 #![tactic(auto)]
 
+mod escapes;
 mod extents;
 mod faults;
+mod folding;
 mod front_matter;
+mod growth;
 mod lines;
 mod plain_scalars;
 mod scans;

@@ -1,0 +1,44 @@
+-- What an answer says of the definition.
+use Rattle.std.specs.Prelude.{◌≡◌, ℕ, ◌+◌, ◌<◌, ◌≤◌, List, ◌++◌, length, take, drop, Bool, not, ◌&&◌, ◌||◌, ◌==◌, if◌then◌else◌, Result, Ok, Err}
+use Rattle.site_base.specs.Plain.{Plain}
+use Rattle.site_base.specs.View.{plain}
+use Rattle.site_base.specs.declared.value.Value.{Value}
+use Rattle.front_yaml.specs.Reading.{Reading}
+use Rattle.front_yaml.specs.Bytes.{is_gap, white_len}
+use Rattle.front_yaml.specs.Folding.{within, folded, ends_line}
+use Rattle.front_yaml.specs.declared.faults.PlaceError.{PlaceError}
+use Rattle.front_yaml.specs.declared.faults.PlaceError.TheVariants as place_error
+
+-- the definition's first fault, unless memory ran out
+abbrev pub FailsAt : {A : Type 0} → PlaceError → Reading A → Type 0
+FailsAt place_error.Memory r = Unit {0}
+FailsAt (place_error.Fault f) r = r ≡ Err (f.place, f.kind)
+
+-- the definition's value or first fault, unless memory ran out
+abbrev pub ReadsAt : {A : Type 0} → Result A PlaceError → Reading A → Type 0
+ReadsAt (Ok x) r = r ≡ Ok x
+ReadsAt (Err e) r = FailsAt e r
+
+-- the same of a value, for which a plain tree stands
+abbrev pub ReadsValue : Result Value PlaceError → Reading Plain → Type 0
+ReadsValue (Ok v) r = r ≡ Ok (plain v)
+ReadsValue (Err e) r = FailsAt e r
+
+-- the same of a value with its bytes
+abbrev pub ReadsSized : Result (Value × ℕ) PlaceError → Reading (Plain × ℕ) → Type 0
+ReadsSized (Ok x) r = r ≡ Ok (plain x.0, x.1)
+ReadsSized (Err e) r = FailsAt e r
+
+-- a byte that stands for itself
+abbrev pub is_solid : Bool → ℕ → Bool
+is_solid escapes c = not (is_gap c || escapes && (c == 92))
+
+-- the white space at the front, unless the line ends behind it
+abbrev pub kept_white : List ℕ → List ℕ
+kept_white s = take (if ends_line s then 0 else white_len s) s
+
+-- the first n bytes of a text went to the end of what was made of the text before
+pub record Folds (escapes : Bool) (old new text : List ℕ) (n : ℕ) : Type 0 where
+  pub some : 0 < n
+  pub inside : n ≤ length text
+  pub same : new ++ folded escapes within 0 (drop n text) ≡ old ++ folded escapes within 0 text
