@@ -3,12 +3,12 @@ use Rattle.std.proofs.Common.{◌≡◌, ℕ, zero, suc, ◌+◌, ◌<◌, ◌�
 use Rattle.std.specs.Prelude.{◌==◌, Option, Some, None, encode_utf8}
 use Rattle.std.proofs.lemmas.Bool.Decides.{nat_tests}
 use Rattle.site_base.specs.Fronts.{front_len}
-use Rattle.front_yaml.specs.Bytes.{later, starts, is_white, is_gap, white_len, repeated}
+use Rattle.front_yaml.specs.Bytes.{later, added, starts, is_white, is_gap, white_len, repeated}
 use Rattle.front_yaml.specs.TextLines.{line_ends}
 use Rattle.front_yaml.specs.Escapes.{escape}
 use Rattle.front_yaml.specs.Folding.{Where, within, between, joined, next_line, joint, is_between, ends_line, folded}
-use Rattle.front_yaml.specs.Quotes.{bad_escape}
-use Rattle.front_yaml.proofs.Added.{added, added_zero, added_later}
+use Rattle.front_yaml.specs.Quotes.{escape_len, bad_escape}
+use Rattle.front_yaml.proofs.Added.{added_zero, added_more}
 use Rattle.front_yaml.specs.Given.{is_solid, kept_white, Folds}
 
 white-inside : (c : ℕ) → is_white c ≡ true → (c == 10) ≡ false
@@ -260,14 +260,10 @@ nothing_taken (c ∷ cs) old p e = absurd (omega arith)
 
 -- ---- escapes
 
-added_more : (k : ℕ) (o : Option ℕ) → later (added k o) ≡ added (suc k) o
-added_more k None = refl
-added_more k (Some n) = ap (λ m. Some m) (let e : suc (k + n) ≡ suc k + n = omega arith in e)
-
 pub past_bad : (k : ℕ) (s : List ℕ) → bad_escape k s ≡ added k (bad_escape 0 (drop k s))
 past_bad zero s = sym (added_zero (bad_escape 0 s))
 past_bad (suc k) [] = refl
-past_bad (suc k) (c ∷ cs) = ap later (past_bad k cs) ∙ added_more k (bad_escape 0 (drop k cs))
+past_bad (suc k) (c ∷ cs) = let e : 1 + k ≡ suc k = omega arith in ap later (past_bad k cs) ∙ added_more k (bad_escape 0 (drop k cs)) ∙ ap (λ m. added m (bad_escape 0 (drop k cs))) e
 
 pub not_empty : (s : List ℕ) → (length s == 0) ≡ false → 0 < length s
 not_empty [] e = cc
@@ -276,3 +272,11 @@ not_empty (c ∷ cs) e = omega arith
 -- the line ends of a gap, as the code counts them
 pub gap_count : (s rest gap : List ℕ) (n k : ℕ) → rest ≡ drop 1 s → n ≡ gap_len rest → gap ≡ take n rest → k ≡ line_ends gap → k ≡ ends_in_gap (drop 1 s)
 gap_count s rest gap n k p q r o = o ∙ ap line_ends (r ∙ ap (λ m. take m rest) q) ∙ ap ends_in_gap p
+
+abbrev bad_by : Option ℕ → List ℕ → Option ℕ
+bad_by o cs = elim o [ None ↦ Some 0 | Some k ↦ later (bad_escape k cs) ]
+
+pub escaped_on : (c : ℕ) (cs : List ℕ) (k : ℕ) → c ≡ 92 → escape_len cs ≡ Some k → bad_escape 0 (c ∷ cs) ≡ added (1 + k) (bad_escape 0 (drop (1 + k) (c ∷ cs)))
+escaped_on c cs k p q =
+    let e : 1 + k ≡ suc k = omega arith in
+    rw p (ap (λ o. bad_by o cs) q ∙ ap later (past_bad k cs) ∙ added_more k (bad_escape 0 (drop k cs)) ∙ ap (λ n. added (1 + k) (bad_escape 0 (drop n (92 ∷ cs)))) (sym e))

@@ -1,8 +1,10 @@
 pub mod Cuts
 pub mod FoldLaws
 pub mod Growing
+pub mod Halving
 pub mod HexBounds
 pub mod LineLaws
+pub mod Numbers
 pub mod Added
 pub mod Trimming
 pub mod FrontLemmas

@@ -1,10 +1,15 @@
 -- Words on the bytes of a text.
-use Rattle.std.specs.Prelude.{ℕ, zero, suc, ◌==◌, Bool, true, false, ◌&&◌, ◌||◌, List, [], ◌∷◌, if◌then◌else◌, Option, Some, None}
+use Rattle.std.specs.Prelude.{ℕ, zero, suc, ◌+◌, ◌==◌, Bool, true, false, ◌&&◌, ◌||◌, List, [], ◌∷◌, if◌then◌else◌, Option, Some, None}
 use Rattle.site_base.specs.Fronts.{front_len}
 
 abbrev pub later : Option ℕ → Option ℕ
 later None = None
 later (Some n) = Some (suc n)
+
+-- a place in a text, told from i bytes before it
+abbrev pub added : ℕ → Option ℕ → Option ℕ
+added i None = None
+added i (Some n) = Some (i + n)
 
 abbrev pub starts : ℕ → List ℕ → Bool
 starts b [] = false

@@ -6,6 +6,8 @@ use Rattle.site_base.specs.declared.value.Value.{Value}
 use Rattle.front_yaml.specs.Reading.{Reading}
 use Rattle.front_yaml.specs.Bytes.{is_gap, white_len}
 use Rattle.front_yaml.specs.Folding.{within, folded, ends_line}
+use Rattle.site_base.specs.declared.faults.YamlKind.{YamlKind}
+use Rattle.front_yaml.specs.declared.faults.PlaceFault.{PlaceFault}
 use Rattle.front_yaml.specs.declared.faults.PlaceError.{PlaceError}
 use Rattle.front_yaml.specs.declared.faults.PlaceError.TheVariants as place_error
 
@@ -19,6 +21,10 @@ abbrev pub ReadsAt : {A : Type 0} → Result A PlaceError → Reading A → Type
 ReadsAt (Ok x) r = r ≡ Ok x
 ReadsAt (Err e) r = FailsAt e r
 
+-- a fault as the definition has it
+abbrev pub as_pair : PlaceFault → ℕ × YamlKind
+as_pair f = (f.place, f.kind)
+
 -- the same of a value, for which a plain tree stands
 abbrev pub ReadsValue : Result Value PlaceError → Reading Plain → Type 0
 ReadsValue (Ok v) r = r ≡ Ok (plain v)
@@ -28,6 +34,18 @@ ReadsValue (Err e) r = FailsAt e r
 abbrev pub ReadsSized : Result (Value × ℕ) PlaceError → Reading (Plain × ℕ) → Type 0
 ReadsSized (Ok x) r = r ≡ Ok (plain x.0, x.1)
 ReadsSized (Err e) r = FailsAt e r
+
+-- a fault stands within n bytes
+abbrev pub FaultFits : {A : Type 0} → ℕ → Result A PlaceError → Type 0
+FaultFits n (Ok x) = Unit {0}
+FaultFits n (Err place_error.Memory) = Unit {0}
+FaultFits n (Err (place_error.Fault f)) = f.place ≤ n
+
+-- what was read, or the place of a fault, is within n bytes
+abbrev pub Fits : {A : Type 0} → ℕ → Result (A × ℕ) PlaceError → Type 0
+Fits n (Ok x) = x.1 ≤ n
+Fits n (Err place_error.Memory) = Unit {0}
+Fits n (Err (place_error.Fault f)) = f.place ≤ n
 
 -- a byte that stands for itself
 abbrev pub is_solid : Bool → ℕ → Bool

@@ -36,10 +36,20 @@ in_range minus n = if minus then nat_le n (2 ^ 63) else nat_lt n (2 ^ 63)
 abbrev pub integer : Bool → ℕ → Reading Plain
 integer minus n = if in_range minus n then Ok (int (if minus then negated n else pos n)) else Err (0, kind.Number)
 
+-- YAML 1.2.2, section 10.3.2, and YAML 1.1 for `yes`, `no`, `on` and `off`
+abbrev pub is_nil_word : List ℕ → Bool
+is_nil_word s = is_empty s || is_among s (codes "~" ∷ codes "null" ∷ codes "Null" ∷ codes "NULL" ∷ [])
+
+abbrev pub is_true_word : List ℕ → Bool
+is_true_word s = is_among s (codes "true" ∷ codes "True" ∷ codes "TRUE" ∷ codes "yes" ∷ codes "Yes" ∷ codes "YES" ∷ codes "on" ∷ codes "On" ∷ codes "ON" ∷ [])
+
+abbrev pub is_false_word : List ℕ → Bool
+is_false_word s = is_among s (codes "false" ∷ codes "False" ∷ codes "FALSE" ∷ codes "no" ∷ codes "No" ∷ codes "NO" ∷ codes "off" ∷ codes "Off" ∷ codes "OFF" ∷ [])
+
 abbrev pub resolve : List ℕ → Reading Plain
 resolve s =
-    if is_empty s || is_among s (codes "~" ∷ codes "null" ∷ codes "Null" ∷ codes "NULL" ∷ []) then Ok nil
-    else if is_among s (codes "true" ∷ codes "True" ∷ codes "TRUE" ∷ codes "yes" ∷ codes "Yes" ∷ codes "YES" ∷ codes "on" ∷ codes "On" ∷ codes "ON" ∷ []) then Ok (bool true)
-    else if is_among s (codes "false" ∷ codes "False" ∷ codes "FALSE" ∷ codes "no" ∷ codes "No" ∷ codes "NO" ∷ codes "off" ∷ codes "Off" ∷ codes "OFF" ∷ []) then Ok (bool false)
+    if is_nil_word s then Ok nil
+    else if is_true_word s then Ok (bool true)
+    else if is_false_word s then Ok (bool false)
     else if is_number (unsigned s) then integer (starts 45 s) (number_from 0 (unsigned s))
     else Ok (text s)

@@ -1,8 +1,9 @@
 // The escapes of double-quoted scalars.
-ghost use Rattle.std.specs.Prelude.{◌≡◌, ◌≤◌, ◌<◌, length, if◌then◌else◌, Some, None, IfSome};
+ghost use Rattle.std.specs.Prelude.{◌≡◌, ◌≤◌, ◌<◌, ◌+◌, ◌∷◌, length, drop, MatchOption, if◌then◌else◌, Some, None, IfSome};
 ghost use Rattle.std.specs.List.{list_all};
 ghost use Rattle.std.proofs.Math.Utf8.{scalar};
 ghost use Rattle.front_yaml.specs.Escapes.{named_char, is_hex, hex_digit, hex_from, hex_char, of_length, escape};
+ghost use Rattle.front_yaml.specs.Bytes.{added};
 ghost use Rattle.front_yaml.specs.Quotes.{escape_len, bad_escape};
 
 use crate::scans::{front, starts, tail};
@@ -128,20 +129,32 @@ fn escape_len(text: &[u8]) -> Option<usize>
     }
 }
 
+// How many bytes to go on over, if no bad escape begins here.
+fn escape_step(c: u8, rest: &[u8]) -> Option<usize>
+    ensures value { MatchOption result (bad_escape 0 (c ∷ rest.now) ≡ Some 0) (λ n. bad_escape 0 (c ∷ rest.now) ≡ added n (bad_escape 0 (drop n (c ∷ rest.now)))) }
+    ensures within { IfSome result (λ n. (0 < n) × (n ≤ 1 + length rest.now)) }
+{
+    if c != b'\\' {
+        return Some(1);
+    }
+    match escape_len(rest) {
+        Some(len) => Some(1 + len),
+        None => None,
+    }
+}
+
 /// The place of the first `\` that begins no escape.
-#[tactic(auto, using(crate::proofs::Added::added_later, crate::proofs::Added::added_zero, crate::proofs::FoldLaws::past_bad))]
+#[tactic(auto, using(crate::proofs::Added::added_zero))]
 pub(crate) fn bad_escape(text: &[u8]) -> Option<usize>
-    ensures { result ≡ bad_escape 0 text.now }
+    ensures value { result ≡ bad_escape 0 text.now }
+    ensures within { IfSome result (λ n. n < length text.now) }
 {
     let mut n = 0;
     while n < text.len() {
-        if text[n] == b'\\' {
-            match escape_len(tail(text, n + 1)) {
-                Some(len) => n += len,
-                None => return Some(n),
-            }
+        match escape_step(text[n], tail(text, n + 1)) {
+            Some(len) => n += len,
+            None => return Some(n),
         }
-        n += 1;
     }
     None
 }

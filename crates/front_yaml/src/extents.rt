@@ -1,5 +1,5 @@
 // Where quotes and flow values end.
-ghost use Rattle.std.specs.Prelude.{◌≡◌, ◌≤◌, ◌<◌, ◌+◌, ◌^◌, ◌∷◌, ◌==◌, ◌||◌, length, drop, zero, suc, Some, None, option_map, false, true};
+ghost use Rattle.std.specs.Prelude.{◌≡◌, ◌<◌, length, IfSome};
 ghost use Rattle.front_yaml.specs.Quotes.{single_len, double_len, quote_len, is_quote};
 
 use crate::scans::{starts, tail};
@@ -21,10 +21,11 @@ pub(crate) fn is_quote(c: u8) -> bool
     c == b'\'' || c == b'"'
 }
 
-/// How many bytes stand before the closing double quote.
+// How many bytes stand before the closing double quote.
 #[tactic(auto, using(crate::proofs::Added::added_later, crate::proofs::Added::added_zero))]
 fn double_len(text: &[u8]) -> Option<usize>
-    ensures { result ≡ double_len 0 text.now }
+    ensures value { result ≡ double_len 0 text.now }
+    ensures within { IfSome result (λ n. n < length text.now) }
 {
     let mut escaped = false;
     let mut n = 0;
@@ -42,10 +43,11 @@ fn double_len(text: &[u8]) -> Option<usize>
     None
 }
 
-/// How many bytes stand before the closing single quote.
+// How many bytes stand before the closing single quote.
 #[tactic(auto, using(crate::proofs::Added::added_later, crate::proofs::Added::added_zero))]
 fn single_len(text: &[u8]) -> Option<usize>
-    ensures { result ≡ single_len 0 text.now }
+    ensures value { result ≡ single_len 0 text.now }
+    ensures within { IfSome result (λ n. n < length text.now) }
 {
     let mut second = false;
     let mut n = 0;
@@ -66,7 +68,8 @@ fn single_len(text: &[u8]) -> Option<usize>
 
 /// How many bytes stand before the quote that closes what this one opened, where one does.
 pub(crate) fn quote_len(quote: u8, text: &[u8]) -> Option<usize>
-    ensures { result ≡ quote_len quote text.now }
+    ensures value { result ≡ quote_len quote text.now }
+    ensures within { IfSome result (λ n. n < length text.now) }
 {
     if quote == b'\'' {
         single_len(text)

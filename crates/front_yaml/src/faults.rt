@@ -1,5 +1,7 @@
 // Why a text has no value.
-ghost use Rattle.std.specs.Prelude.{◌≡◌};
+ghost use Rattle.std.specs.Prelude.{◌≡◌, ◌⊎◌, option_map, IfSome};
+ghost use Rattle.front_yaml.specs.Folding.{as_fault, earlier};
+ghost use Rattle.front_yaml.specs.Given.{as_pair};
 
 use site_base::{Memory, YamlKind};
 
@@ -35,6 +37,31 @@ impl From<Memory> for YamlError {
 pub(crate) struct PlaceFault {
     pub place: usize,
     pub kind: YamlKind,
+}
+
+impl PlaceFault {
+    /// A fault of a kind at a place, where there is one.
+    pub(crate) fn at(kind: YamlKind, place: Option<usize>) -> Option<PlaceFault>
+        ensures value { option_map as_pair result ≡ as_fault kind place }
+        ensures there { IfSome result (λ fault. place ≡ Some fault.place) }
+    {
+        match place {
+            Some(place) => Some(PlaceFault { place, kind }),
+            None => None,
+        }
+    }
+
+    /// The earlier of two faults, and of two at one place the first.
+    pub(crate) fn earlier(one: Option<PlaceFault>, other: Option<PlaceFault>) -> Option<PlaceFault>
+        ensures value { option_map as_pair result ≡ earlier (option_map as_pair one) (option_map as_pair other) }
+        ensures among { IfSome result (λ fault. (one ≡ Some fault) ⊎ (other ≡ Some fault)) }
+    {
+        match (one, other) {
+            (Some(first), Some(second)) => Some(if first.place <= second.place { first } else { second }),
+            (Some(fault), None) | (None, Some(fault)) => Some(fault),
+            (None, None) => None,
+        }
+    }
 }
 
 /// Why a part of a text has no value.

@@ -1,5 +1,5 @@
 // Line ends inside a value, and the tabs that stand at the front of a line.
-ghost use Rattle.std.specs.Prelude.{◌≡◌, ◌≤◌, ◌<◌, ◌++◌, ◌∷◌, ◌==◌, ◌&&◌, ◌||◌, not, length, OnOk, IfOk, false, true, encode_utf8, None};
+ghost use Rattle.std.specs.Prelude.{◌≡◌, ◌≤◌, ◌<◌, ◌++◌, ◌∷◌, ◌==◌, ◌&&◌, ◌||◌, not, length, OnOk, IfOk, IfSome, false, true, encode_utf8, None};
 ghost use Rattle.site_base.specs.Fronts.{front_len};
 ghost use Rattle.front_yaml.specs.Bytes.{repeated};
 ghost use Rattle.front_yaml.specs.Escapes.{escape};
@@ -36,7 +36,8 @@ fn leads_on(leads: bool, c: u8) -> bool
 /// The first tab among the leading white space of a line that is not blank, behind the first line.
 #[tactic(auto, using(crate::proofs::Added::added_later, crate::proofs::Added::added_zero))]
 pub(crate) fn first_tab(text: &[u8]) -> Option<usize>
-    ensures { result ≡ first_tab false text.now }
+    ensures value { result ≡ first_tab false text.now }
+    ensures within { IfSome result (λ n. n < length text.now) }
 {
     let mut leads = false;
     let mut n = 0;

@@ -6,9 +6,12 @@ mod extents;
 mod faults;
 mod folding;
 mod front_matter;
+mod gaps;
 mod growth;
 mod lines;
 mod plain_scalars;
+mod quotes;
+mod scalars;
 mod scans;
 
 pub use faults::{YamlError, YamlFault};

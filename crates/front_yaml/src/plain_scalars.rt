@@ -1,9 +1,15 @@
 // Plain scalars.
-ghost use Rattle.std.specs.Prelude.{◌≡◌, ◌≤◌, ◌+◌, ◌==◌, ◌&&◌, ◌||◌, length, drop, true, false, zero, suc, codes};
+ghost use Rattle.std.specs.Prelude.{◌≡◌, ◌≤◌, ◌<◌, ◌+◌, ◌==◌, ◌&&◌, ◌||◌, length, drop, true, false, zero, suc, codes, option_map, IfSome};
 ghost use Rattle.front_yaml.specs.Bytes.{is_gap};
-ghost use Rattle.front_yaml.specs.PlainScalars.{starts_plain, blank_next, is_one_of, plain_raw, separates, is_bracket, ends_plain, plain_len, first_colon};
+ghost use Rattle.front_yaml.specs.PlainScalars.{starts_plain, blank_next, is_one_of, plain_raw, separates, is_bracket, ends_plain, plain_len, first_colon, plain_fault, plain};
+ghost use Rattle.front_yaml.specs.Given.{ReadsSized, Fits, as_pair};
 
+use crate::faults::{PlaceError, PlaceFault};
+use crate::folding::{first_tab, folded};
+use crate::scalars::resolve;
 use crate::scans::{front, is_gap, tail, trim};
+use site_base::{Value, YamlKind};
+use std::alloc::Global;
 
 /// Whether a byte is one of `, [ ] { }`.
 pub(crate) fn is_bracket(c: u8) -> bool
@@ -44,7 +50,8 @@ fn plain_len(flow: bool, text: &[u8]) -> usize
 
 /// The bytes of the plain scalar at the front, without white space at its end.
 pub(crate) fn plain_raw(flow: bool, text: &[u8]) -> &[u8]
-    ensures { result.now ≡ plain_raw flow text.now }
+    ensures value { result.now ≡ plain_raw flow text.now }
+    ensures within { length result.now ≤ length text.now }
 {
     trim(front(text, plain_len(flow, text)))
 }
@@ -58,7 +65,8 @@ fn ends_key(c: u8, rest: &[u8]) -> bool
 /// The place of the first `:` that ends a key.
 #[tactic(auto, using(crate::proofs::Added::added_later, crate::proofs::Added::added_zero))]
 pub(crate) fn first_colon(text: &[u8]) -> Option<usize>
-    ensures { result ≡ first_colon text.now }
+    ensures value { result ≡ first_colon text.now }
+    ensures within { IfSome result (λ n. n < length text.now) }
 {
     let mut n = 0;
     while n < text.len() {
@@ -114,5 +122,32 @@ pub(crate) fn starts_plain(flow: bool, text: &[u8]) -> bool
                 || *c == b':' && separates(flow, rest))
         }
         [] => false,
+    }
+}
+
+// The first fault within a plain scalar.
+fn plain_fault(flow: bool, raw: &[u8]) -> Option<PlaceFault>
+    ensures value { option_map as_pair result ≡ plain_fault flow raw.now }
+    ensures within { IfSome result (λ fault. fault.place ≤ length raw.now) }
+{
+    let tab = PlaceFault::at(YamlKind::Tab, first_tab(raw));
+    if flow {
+        return tab;
+    }
+    PlaceFault::earlier(tab, PlaceFault::at(YamlKind::NoKey, first_colon(raw)))
+}
+
+/// The value of the plain scalar at the front, and its bytes.
+pub(crate) fn plain(alloc: Global, flow: bool, text: &[u8]) -> Result<(Value, usize), PlaceError>
+    ensures value { ReadsSized result (plain flow text.now) }
+    ensures within { Fits (length text.now) result }
+{
+    let raw = plain_raw(flow, text);
+    if let Some(fault) = plain_fault(flow, raw) {
+        return Err(PlaceError::Fault(fault));
+    }
+    match resolve(folded(alloc, false, raw)?) {
+        Ok(value) => Ok((value, raw.len())),
+        Err(error) => Err(error),
     }
 }

@@ -77,7 +77,8 @@ pub(crate) fn blank_len(text: &[u8]) -> usize
 /// The text without the white space and line ends at its end.
 #[tactic(auto, using(crate::proofs::Trimming::gap_off, crate::proofs::Trimming::trimmed_at))]
 pub(crate) fn trim(text: &[u8]) -> &[u8]
-    ensures { result.now ≡ trim text.now }
+    ensures value { result.now ≡ trim text.now }
+    ensures within { length result.now ≤ length text.now }
 {
     let mut end = text.len();
     while end > 0 {

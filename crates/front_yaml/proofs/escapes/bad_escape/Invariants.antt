@@ -1,6 +1,6 @@
 use Rattle.std.proofs.Common.{length, ◌-◌, ◌≡◌, ◌≤◌, drop}
 use Rattle.front_yaml.specs.Quotes.{bad_escape}
-use Rattle.front_yaml.proofs.Added.{added}
+use Rattle.front_yaml.specs.Bytes.{added}
 use Rattle.front_yaml.proofs.escapes.bad_escape.Given as goal
 
 abbrev pub invariant-loop-n : goal.invariant-loop-n

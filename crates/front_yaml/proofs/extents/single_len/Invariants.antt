@@ -1,6 +1,6 @@
 use Rattle.std.proofs.Common.{length, ◌-◌, ◌≡◌, ◌≤◌, drop, if◌then◌else◌}
 use Rattle.front_yaml.specs.Quotes.{single_len}
-use Rattle.front_yaml.proofs.Added.{added}
+use Rattle.front_yaml.specs.Bytes.{added}
 use Rattle.front_yaml.proofs.extents.single_len.Given as goal
 
 abbrev pub invariant-loop-n : goal.invariant-loop-n

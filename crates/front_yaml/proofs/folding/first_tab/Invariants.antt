@@ -1,6 +1,6 @@
 use Rattle.std.proofs.Common.{length, ◌-◌, ◌≡◌, ◌≤◌, drop, false}
 use Rattle.front_yaml.specs.Folding.{first_tab}
-use Rattle.front_yaml.proofs.Added.{added}
+use Rattle.front_yaml.specs.Bytes.{added}
 use Rattle.front_yaml.proofs.folding.first_tab.Given as goal
 
 abbrev pub invariant-loop-n : goal.invariant-loop-n

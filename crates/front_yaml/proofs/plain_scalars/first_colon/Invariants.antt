@@ -1,6 +1,6 @@
 use Rattle.std.proofs.Common.{length, ◌-◌, ◌≡◌, ◌≤◌, drop}
 use Rattle.front_yaml.specs.PlainScalars.{first_colon}
-use Rattle.front_yaml.proofs.Added.{added}
+use Rattle.front_yaml.specs.Bytes.{added}
 use Rattle.front_yaml.proofs.plain_scalars.first_colon.Given as goal
 
 abbrev pub invariant-loop-n : goal.invariant-loop-n
