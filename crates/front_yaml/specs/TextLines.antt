@@ -17,9 +17,12 @@ is_inside c = not ((c == 10) || (c == 13))
 abbrev pub without_end : List ℕ → List ℕ
 without_end line = take (front_len is_inside line) line
 
+abbrev pub line_of : ℕ → List ℕ → Line
+line_of n t = record { number = n; text = without_end t }
+
 abbrev pub numbered : ℕ → List (List ℕ) → List Line
 numbered n [] = []
-numbered n (t ∷ ts) = record { number = n; text = without_end t } ∷ numbered (suc n) ts
+numbered n (t ∷ ts) = line_of n t ∷ numbered (suc n) ts
 
 -- the lines of a text, numbered from 1
 abbrev pub text_lines : List ℕ → List Line

@@ -8,11 +8,13 @@ mod folding;
 mod front_matter;
 mod gaps;
 mod growth;
+mod keys;
 mod lines;
 mod plain_scalars;
 mod quotes;
 mod scalars;
 mod scans;
+mod text_lines;
 
 pub use faults::{YamlError, YamlFault};
 pub use front_matter::{Front, split_front};

@@ -10,7 +10,7 @@ use crate::growth::text_of;
 use crate::scans::{is_empty, starts, tail};
 use site_base::{Value, YamlKind};
 
-fn equals(text: &[u8], word: &str) -> bool
+pub(crate) fn equals(text: &[u8], word: &str) -> bool
     ensures { result ≡ bytes_eq text.now word.now }
 {
     text == word.as_bytes()
