@@ -1,7 +1,10 @@
 -- The indent of a line and what stands after it.
-use Rattle.std.proofs.Common.{◌≡◌, ℕ, zero, suc, ◌+◌, ◌<◌, ◌≤◌, Bool, true, false, ◌||◌, cond, List, [], ◌∷◌, ◌++◌, length, drop, refl, ap, ◌∙◌, arith}
+use Rattle.std.proofs.Common.{◌≡◌, ℕ, zero, suc, ◌+◌, ◌^◌, ◌<◌, ◌≤◌, Bool, true, false, ◌||◌, cond, List, [], ◌∷◌, ◌++◌, length, length-drop, take, drop, refl, ap, sym, append-nil, drop_of_length-le, ◌∙◌, arith}
+use Rattle.std.specs.Prelude.{◌==◌}
+use Rattle.std.proofs.lemmas.Bool.Decides.{nat_tests}
+use Rattle.site_base.specs.Lines.{lines}
 use Rattle.front_yaml.specs.Bytes.{starts, repeated, is_white, white_len}
-use Rattle.front_yaml.specs.TextLines.{spaces}
+use Rattle.front_yaml.specs.TextLines.{Line, spaces, numbered}
 
 pub spaces-repeated : (n : ℕ) (r : List ℕ) → starts 32 r ≡ false → spaces (repeated n 32 ++ r) ≡ n
 spaces-repeated zero [] e = refl
@@ -41,3 +44,41 @@ after_dash [] n le e = absurd (omega arith)
 after_dash (c ∷ cs) n le e =
     let same : 1 + n ≡ suc n = omega arith in
     ap (λ k. starts 32 (drop k (c ∷ cs))) same ∙ ap (λ k. starts 32 (drop k cs)) e ∙ after_white cs
+
+-- ---- a line's text
+
+space-step : (t : Bool) (c : ℕ) (cs : List ℕ) → (c == 32) ≡ t → starts 32 (drop (spaces cs) cs) ≡ false → starts 32 (drop (spaces (c ∷ cs)) (c ∷ cs)) ≡ false
+space-step true c cs e h = rw e h
+space-step false c cs e h = let z : spaces (c ∷ cs) ≡ 0 = rw e refl in ap (λ n. starts 32 (drop n (c ∷ cs))) z ∙ e
+
+-- no space follows the leading spaces
+pub after_spaces : (s : List ℕ) → starts 32 (drop (spaces s) s) ≡ false
+after_spaces [] = refl
+after_spaces (c ∷ cs) = space-step (c == 32) c cs refl (after_spaces cs)
+
+is-space : (c : ℕ) → (c == 32) ≡ true → 32 ≡ c
+is-space c e = grind (arith, nat_tests)
+
+again-step : (t : Bool) (c : ℕ) (cs : List ℕ) → (c == 32) ≡ t → repeated (spaces cs) 32 ++ drop (spaces cs) cs ≡ cs → repeated (spaces (c ∷ cs)) 32 ++ drop (spaces (c ∷ cs)) (c ∷ cs) ≡ c ∷ cs
+again-step true c cs e h =
+    let z : spaces (c ∷ cs) ≡ suc (spaces cs) = rw e refl in
+    ap (λ n. repeated n 32 ++ drop n (c ∷ cs)) z ∙ ap (λ xs. 32 ∷ xs) h ∙ ap (λ x. x ∷ cs) (is-space c e)
+again-step false c cs e h = let z : spaces (c ∷ cs) ≡ 0 = rw e refl in ap (λ n. repeated n 32 ++ drop n (c ∷ cs)) z
+
+pub spaces_again : (s : List ℕ) → repeated (spaces s) 32 ++ drop (spaces s) s ≡ s
+spaces_again [] = refl
+spaces_again (c ∷ cs) = again-step (c == 32) c cs refl (spaces_again cs)
+
+length_take_le : (n : ℕ) (s : List ℕ) → length (take n s) ≤ length s
+length_take_le zero s = omega arith
+length_take_le (suc n) [] = omega arith
+length_take_le (suc n) (c ∷ cs) = let h = length_take_le n cs in omega (arith, h)
+
+pub cut_fits : (line text rest : List ℕ) (n k : ℕ) → text ≡ take n line → rest ≡ drop k text → k ≤ length text → length line < 2 ^ 63 → k + length rest < 2 ^ 63
+cut_fits line text rest n k p q le lt = omega (arith, ap length p, ap length q, length-drop k text, length_take_le n line)
+
+-- ---- the lines of a text
+
+pub lines_done : (done all : List Line) (n at : ℕ) (s : List ℕ) → length s ≤ at → done ++ numbered n (lines (drop at s)) ≡ all → done ≡ all
+unfolding lines
+lines_done done all n at s le e = sym (append-nil done) ∙ ap (λ xs. done ++ numbered n (lines xs)) (sym (drop_of_length-le s le)) ∙ e

@@ -8,8 +8,7 @@ use Rattle.front_yaml.specs.Bytes.{starts, is_empty, white_len, repeated}
 use Rattle.front_yaml.specs.TextLines.{Line, stream, indent, inside, is_blank, carries, has_tab, span, by_lines}
 use Rattle.front_yaml.specs.Quotes.{is_quote, quote_len}
 use Rattle.front_yaml.specs.PlainScalars.{starts_plain}
-use Rattle.front_yaml.specs.Extents.{opens, extent}
-use Rattle.front_yaml.specs.declared.extents.Before.TheVariants.{Fresh}
+use Rattle.front_yaml.specs.Extents.{opens, is_closed}
 use Rattle.front_yaml.specs.Flow.{settled}
 use Rattle.front_yaml.specs.BlockScalars.{block_scalar}
 use Rattle.front_yaml.specs.Keys.{is_dash, key, starts_block}
@@ -140,7 +139,7 @@ no_key (c ∷ cs) all =
     elim (is_quote c) [
       | true ↦ elim (quote_len c (drop 1 all)) [ None ↦ kind.Quote | Some k ↦ kind.NoKey ]
       | false ↦ elim (opens c) [
-        | true ↦ elim (extent Fresh false false 0 0 all) [ None ↦ kind.Flow | Some k ↦ kind.NoKey ]
+        | true ↦ elim (is_closed all) [ false ↦ kind.Flow | true ↦ kind.NoKey ]
         | false ↦ if starts_plain false (c ∷ cs) then kind.NoKey else kind.Outside
       ]
     ]

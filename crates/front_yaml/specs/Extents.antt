@@ -1,8 +1,8 @@
 -- Where a flow value ends: at the bracket that closes all, whatever stands inside.
-use Rattle.std.specs.Prelude.{ℕ, zero, suc, ◌+◌, ◌-◌, ◌==◌, Bool, true, false, ◌&&◌, ◌||◌, not, List, [], ◌∷◌, nat_le, if◌then◌else◌, Option, Some, None}
+use Rattle.std.specs.Prelude.{ℕ, zero, suc, ◌+◌, ◌-◌, ◌==◌, Bool, true, false, ◌&&◌, ◌||◌, not, List, [], ◌∷◌, nat_le, Some, None}
 use Rattle.front_yaml.specs.declared.extents.Before.{Before}
 use Rattle.front_yaml.specs.declared.extents.Before.TheVariants.{Fresh, Plainly, Ended}
-use Rattle.front_yaml.specs.Bytes.{later, is_gap}
+use Rattle.front_yaml.specs.Bytes.{is_gap}
 use Rattle.front_yaml.specs.PlainScalars.{separates}
 use Rattle.front_yaml.specs.Quotes.{is_quote, quote_len}
 
@@ -21,25 +21,33 @@ abbrev pub is_fresh : Before → Bool
 is_fresh Fresh = true
 is_fresh b = false
 
--- the bytes up to the bracket that closes all, where one does
-abbrev pub extent : Before → Bool → Bool → ℕ → ℕ → List ℕ → Option ℕ
-extent at gap comment skip d [] = None
-extent at gap comment (suc k) d (c ∷ cs) = later (extent at gap comment k d cs)
-extent at gap true zero d (c ∷ cs) = later (extent at true (not (c == 10)) zero d cs)
-extent at gap false zero d (c ∷ cs) =
+-- a comma, or a `:` that ends a key
+abbrev pub is_separator : Before → ℕ → List ℕ → Bool
+is_separator before c cs = (c == 44) || (c == 58) && (may_end_key before || separates true cs)
+
+-- the bracket that closes all stands in the text; `gap` where white space stands before, and `skip` bytes still belong to a quote
+abbrev pub has_end : Before → (gap comment : Bool) → (skip : ℕ) → (depth : ℕ) → List ℕ → Bool
+has_end before gap comment skip d [] = false
+has_end before gap comment (suc k) d (c ∷ cs) = has_end before gap comment k d cs
+has_end before gap true zero d (c ∷ cs) = has_end before true (not (c == 10)) zero d cs
+has_end before gap false zero d (c ∷ cs) =
     elim (gap && (c == 35)) [
-      | true ↦ later (extent at true true zero d cs)
-      | false ↦ elim (is_quote c && is_fresh at) [
-        | true ↦ elim (quote_len c cs) [ None ↦ None | Some k ↦ later (extent Ended false false (k + 1) d cs) ]
+      | true ↦ has_end before true true zero d cs
+      | false ↦ elim (is_quote c && is_fresh before) [
+        | true ↦ elim (quote_len c cs) [ None ↦ false | Some k ↦ has_end Ended false false (k + 1) d cs ]
         | false ↦ elim (opens c) [
-          | true ↦ later (extent Fresh false false zero (suc d) cs)
+          | true ↦ has_end Fresh false false zero (suc d) cs
           | false ↦ elim (closes c) [
-            | true ↦ elim (nat_le d 1) [ true ↦ Some 1 | false ↦ later (extent Ended false false zero (d - 1) cs) ]
-            | false ↦ elim ((c == 44) || (c == 58) && (may_end_key at || separates true cs)) [
-              | true ↦ later (extent Fresh false false zero d cs)
-              | false ↦ elim (is_gap c) [ true ↦ later (extent at true false zero d cs) | false ↦ later (extent Plainly false false zero d cs) ]
+            | true ↦ elim (nat_le d 1) [ true ↦ true | false ↦ has_end Ended false false zero (d - 1) cs ]
+            | false ↦ elim (is_separator before c cs) [
+              | true ↦ has_end Fresh false false zero d cs
+              | false ↦ elim (is_gap c) [ true ↦ has_end before true false zero d cs | false ↦ has_end Plainly false false zero d cs ]
             ]
           ]
         ]
       ]
     ]
+
+-- a flow value at the front is closed
+abbrev pub is_closed : List ℕ → Bool
+is_closed s = has_end Fresh false false 0 0 s

@@ -1,17 +1,16 @@
 -- Flow lists and hashes: YAML 1.2.2, section 7.4.
-use Rattle.std.specs.Prelude.{ℕ, zero, suc, ◌+◌, ◌==◌, Bool, true, false, ◌||◌, List, [], ◌∷◌, length, drop, if◌then◌else◌, Option, Some, None, Ok, Err, codes}
+use Rattle.std.specs.Prelude.{ℕ, zero, suc, ◌+◌, ◌==◌, Bool, true, false, ◌||◌, List, [], ◌∷◌, length, drop, if◌then◌else◌, Ok, Err, codes}
 use Rattle.std.specs.Str.{bytes_eq}
 use Rattle.site_base.specs.declared.faults.YamlKind.TheVariants as kind
 use Rattle.site_base.specs.Plain.{Plain, nil, text, list, hash, Items, no_items, item, Pairs, no_pairs, pair, set}
 use Rattle.site_base.specs.Recursion.{down}
-use Rattle.front_yaml.specs.declared.extents.Before.TheVariants.{Fresh}
 use Rattle.front_yaml.specs.Reading.{Fault, Reading, ◌>>=◌, further}
 use Rattle.front_yaml.specs.Bytes.{starts, is_empty}
 use Rattle.front_yaml.specs.Folding.{fold}
 use Rattle.front_yaml.specs.Quotes.{is_quote, quoted}
 use Rattle.front_yaml.specs.PlainScalars.{is_bracket, starts_plain, plain_at, plain}
 use Rattle.front_yaml.specs.Gaps.{skip}
-use Rattle.front_yaml.specs.Extents.{opens, extent}
+use Rattle.front_yaml.specs.Extents.{opens, is_closed}
 
 abbrev pub Node : Type 0
 Node = List ℕ → Reading (Plain × ℕ)
@@ -118,4 +117,4 @@ collection (suc d) s =
 
 -- a flow value that has its end
 abbrev pub flow : ℕ → Node
-flow d s = elim (extent Fresh false false 0 0 s) [ None ↦ Err (0, kind.Flow) | Some n ↦ collection d s ]
+flow d s = elim (is_closed s) [ false ↦ Err (0, kind.Flow) | true ↦ collection d s ]

@@ -10,6 +10,9 @@ use Rattle.site_base.specs.declared.faults.YamlKind.{YamlKind}
 use Rattle.front_yaml.specs.declared.faults.PlaceFault.{PlaceFault}
 use Rattle.front_yaml.specs.declared.faults.PlaceError.{PlaceError}
 use Rattle.front_yaml.specs.declared.faults.PlaceError.TheVariants as place_error
+use Rattle.front_yaml.specs.declared.faults.YamlFault.{YamlFault}
+use Rattle.front_yaml.specs.declared.faults.YamlError.{YamlError}
+use Rattle.front_yaml.specs.declared.faults.YamlError.TheVariants as yaml_error
 
 -- the definition's first fault, unless memory ran out
 abbrev pub FailsAt : {A : Type 0} → PlaceError → Reading A → Type 0
@@ -46,6 +49,27 @@ abbrev pub Fits : {A : Type 0} → ℕ → Result (A × ℕ) PlaceError → Type
 Fits n (Ok x) = x.1 ≤ n
 Fits n (Err place_error.Memory) = Unit {0}
 Fits n (Err (place_error.Fault f)) = f.place ≤ n
+
+-- the same of a reading by lines
+abbrev pub FailsLines : {A : Type 0} → YamlError → Reading A → Type 0
+FailsLines yaml_error.Memory r = Unit {0}
+FailsLines (yaml_error.Fault f) r = r ≡ Err (f.line, f.kind)
+
+abbrev pub ReadsLines : {A : Type 0} → Result A YamlError → Reading A → Type 0
+ReadsLines (Ok x) r = r ≡ Ok x
+ReadsLines (Err e) r = FailsLines e r
+
+abbrev pub Gives : Result Value YamlError → Reading Plain → Type 0
+Gives (Ok v) r = r ≡ Ok (plain v)
+Gives (Err e) r = FailsLines e r
+
+-- the same of a key with its value
+abbrev pub GivesPair : Result (List ℕ × Value) YamlError → Reading (List ℕ × Plain) → Type 0
+GivesPair (Ok x) r = r ≡ Ok (x.0, plain x.1)
+GivesPair (Err e) r = FailsLines e r
+
+abbrev pub as_line_pair : YamlFault → ℕ × YamlKind
+as_line_pair f = (f.line, f.kind)
 
 -- a byte that stands for itself
 abbrev pub is_solid : Bool → ℕ → Bool

@@ -14,5 +14,6 @@ pub mod PlainScalars
 pub mod Quotes
 pub mod Reading
 pub mod Scalars
+pub mod Scanning
 pub mod TextLines
 pub mod Yaml

@@ -2,6 +2,7 @@
 ghost use Rattle.std.specs.Prelude.{◌≡◌, ◌⊎◌, option_map, IfSome};
 ghost use Rattle.front_yaml.specs.Folding.{as_fault, earlier};
 ghost use Rattle.front_yaml.specs.Given.{as_pair};
+ghost use Rattle.front_yaml.specs.declared.faults.YamlError.TheVariants.{Fault};
 
 use site_base::{Memory, YamlKind};
 
@@ -19,6 +20,14 @@ pub enum YamlError {
     Fault(YamlFault),
     /// Memory was wanting.
     Memory,
+}
+
+impl YamlError {
+    pub(crate) fn at(line: u64, kind: YamlKind) -> YamlError
+        ensures { result ≡ Fault (record { line = line; kind = kind }) }
+    {
+        YamlError::Fault(YamlFault { line, kind })
+    }
 }
 
 impl From<Memory> for YamlError {

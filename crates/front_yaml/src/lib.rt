@@ -1,6 +1,7 @@
 //! Front matter, and the YAML subset that it and data files are written in.
 #![tactic(auto)]
 
+mod block_scalars;
 mod escapes;
 mod extents;
 mod faults;
