@@ -1,4 +1,5 @@
 pub mod Cuts
+pub mod ExtentLaws
 pub mod FoldLaws
 pub mod Growing
 pub mod Halving

@@ -1,10 +1,11 @@
 -- The indent of a line and what stands after it.
-use Rattle.std.proofs.Common.{◌≡◌, ℕ, zero, suc, ◌+◌, ◌^◌, ◌<◌, ◌≤◌, Bool, true, false, ◌||◌, cond, List, [], ◌∷◌, ◌++◌, length, length-drop, take, drop, refl, ap, sym, append-nil, drop_of_length-le, ◌∙◌, arith}
+use Rattle.std.proofs.Common.{◌≡◌, ℕ, zero, suc, ◌+◌, ◌-◌, ◌^◌, ◌<◌, ◌≤◌, Bool, true, false, ◌||◌, cond, List, [], ◌∷◌, ◌++◌, length, length-drop, take, drop, refl, ap, sym, append_assoc, append-nil, drop_of_length-le, ◌∙◌, arith}
 use Rattle.std.specs.Prelude.{◌==◌}
 use Rattle.std.proofs.lemmas.Bool.Decides.{nat_tests}
 use Rattle.site_base.specs.Lines.{lines}
 use Rattle.front_yaml.specs.Bytes.{starts, repeated, is_white, white_len}
 use Rattle.front_yaml.specs.TextLines.{Line, spaces, numbered}
+use Rattle.front_yaml.specs.BlockScalars.{starts_white}
 
 pub spaces-repeated : (n : ℕ) (r : List ℕ) → starts 32 r ≡ false → spaces (repeated n 32 ++ r) ≡ n
 spaces-repeated zero [] e = refl
@@ -82,3 +83,37 @@ cut_fits line text rest n k p q le lt = omega (arith, ap length p, ap length q, 
 pub lines_done : (done all : List Line) (n at : ℕ) (s : List ℕ) → length s ≤ at → done ++ numbered n (lines (drop at s)) ≡ all → done ≡ all
 unfolding lines
 lines_done done all n at s le e = sym (append-nil done) ∙ ap (λ xs. done ++ numbered n (lines xs)) (sym (drop_of_length-le s le)) ∙ e
+
+-- ---- a line from a column on
+
+space-count : (t : Bool) (c : ℕ) (cs : List ℕ) → (c == 32) ≡ t → spaces (c ∷ cs) ≡ cond t (suc (spaces cs)) 0
+space-count t c cs e = rw e refl
+
+white-step : (t : Bool) (c : ℕ) (cs : List ℕ) (k : ℕ) → (c == 32) ≡ t → k < spaces (c ∷ cs) → ((j : ℕ) → j < spaces cs → starts_white (drop j cs) ≡ true) → starts_white (drop k (c ∷ cs)) ≡ true
+white-step true c cs zero e lt h = rw e refl
+white-step true c cs (suc k) e lt h = h k (let n = space-count true c cs e in omega (arith, n))
+white-step false c cs k e lt h = let n = space-count false c cs e in absurd (omega (arith, n))
+
+-- white space stands before the end of the leading spaces
+pub white_before : (s : List ℕ) (k : ℕ) → k < spaces s → starts_white (drop k s) ≡ true
+white_before [] k lt = absurd (omega arith)
+white_before (c ∷ cs) k lt = white-step (c == 32) c cs k refl lt (white_before cs)
+
+left-step : (t : Bool) (c : ℕ) (cs : List ℕ) (k : ℕ) → (c == 32) ≡ t → k < spaces (c ∷ cs)
+    → ((j : ℕ) → j < spaces cs → repeated (spaces cs - j) 32 ++ drop (spaces cs) cs ≡ drop j cs) → repeated (spaces (c ∷ cs) - k) 32 ++ drop (spaces (c ∷ cs)) (c ∷ cs) ≡ drop k (c ∷ cs)
+left-step true c cs zero e lt h = let z : spaces (c ∷ cs) - 0 ≡ spaces (c ∷ cs) = omega arith in ap (λ n. repeated n 32 ++ drop (spaces (c ∷ cs)) (c ∷ cs)) z ∙ spaces_again (c ∷ cs)
+left-step true c cs (suc k) e lt h =
+    let n = space-count true c cs e in
+    let m : spaces (c ∷ cs) - suc k ≡ spaces cs - k = omega (arith, n) in
+    ap (λ i. repeated i 32 ++ drop (spaces (c ∷ cs)) (c ∷ cs)) m ∙ ap (λ i. repeated (spaces cs - k) 32 ++ drop i (c ∷ cs)) n ∙ h k (omega (arith, n))
+left-step false c cs k e lt h = let n = space-count false c cs e in absurd (omega (arith, n))
+
+-- the spaces that are left, and what follows them
+pub spaces_left : (s : List ℕ) (k : ℕ) → k < spaces s → repeated (spaces s - k) 32 ++ drop (spaces s) s ≡ drop k s
+spaces_left [] k lt = absurd (omega arith)
+spaces_left (c ∷ cs) k lt = left-step (c == 32) c cs k refl lt (spaces_left cs)
+
+pub line_added : (old mid new s rest : List ℕ) (n k : ℕ) → mid ≡ old ++ repeated (n - k) 32 → new ≡ mid ++ rest → n ≡ spaces s → rest ≡ drop (spaces s) s → k < n → new ≡ old ++ drop k s
+line_added old mid new s rest n k p q r o lt =
+    let lt' : k < spaces s = omega (arith, r) in
+    rw (q, p, r, o, append_assoc) (ap (λ xs. old ++ xs) (spaces_left s k lt'))

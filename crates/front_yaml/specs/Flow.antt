@@ -107,7 +107,8 @@ abbrev pub settled : Pairs → Pairs → Pairs
 settled done no_pairs = done
 settled done (pair k v ps) = settled (set k v done) ps
 
-abbrev pub collection : ℕ → Node
+-- a list or a hash in which d - 1 more may nest
+unfoldable pub collection : ℕ → Node
 collection zero s = Err (0, kind.Depth)
 collection (suc d) s =
     elim (starts 91 s) [

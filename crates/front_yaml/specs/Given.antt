@@ -5,6 +5,11 @@ use Rattle.site_base.specs.View.{plain}
 use Rattle.site_base.specs.declared.value.Value.{Value}
 use Rattle.front_yaml.specs.Reading.{Reading}
 use Rattle.front_yaml.specs.Bytes.{is_gap, white_len}
+use Rattle.front_yaml.specs.Flow.{Part, shut, last, more}
+use Rattle.front_yaml.specs.declared.flow_values.ItemPart.{ItemPart}
+use Rattle.front_yaml.specs.declared.flow_values.ItemPart.TheVariants as item_part
+use Rattle.front_yaml.specs.declared.flow_values.PairPart.{PairPart}
+use Rattle.front_yaml.specs.declared.flow_values.PairPart.TheVariants as pair_part
 use Rattle.front_yaml.specs.Folding.{within, folded, ends_line}
 use Rattle.site_base.specs.declared.faults.YamlKind.{YamlKind}
 use Rattle.front_yaml.specs.declared.faults.PlaceFault.{PlaceFault}
@@ -38,11 +43,65 @@ abbrev pub ReadsSized : Result (Value × ℕ) PlaceError → Reading (Plain × �
 ReadsSized (Ok x) r = r ≡ Ok (plain x.0, x.1)
 ReadsSized (Err e) r = FailsAt e r
 
+-- the same of a leaf with its bytes and the kind of what may not follow it
+abbrev pub ReadsLeaf : Result (Value × ℕ × YamlKind) PlaceError → Reading (Plain × (ℕ × YamlKind)) → Type 0
+ReadsLeaf (Ok x) r = r ≡ Ok (plain x.0, (x.1, x.2))
+ReadsLeaf (Err e) r = FailsAt e r
+
+abbrev pub LeafFits : ℕ → Result (Value × ℕ × YamlKind) PlaceError → Type 0
+LeafFits n (Ok x) = x.1 ≤ n
+LeafFits n (Err place_error.Memory) = Unit {0}
+LeafFits n (Err (place_error.Fault f)) = f.place ≤ n
+
+-- the same of an entry of a flow hash, with its bytes
+abbrev pub ReadsEntry : Result (List ℕ × Value × ℕ) PlaceError → Reading ((List ℕ × Plain) × ℕ) → Type 0
+ReadsEntry (Ok x) r = r ≡ Ok ((x.0, plain x.1), x.2)
+ReadsEntry (Err e) r = FailsAt e r
+
+abbrev pub EntryFits : ℕ → Result (List ℕ × Value × ℕ) PlaceError → Type 0
+EntryFits n (Ok x) = x.2 ≤ n
+EntryFits n (Err place_error.Memory) = Unit {0}
+EntryFits n (Err (place_error.Fault f)) = f.place ≤ n
+
+-- the same of a part of a flow list
+abbrev pub ReadsItem : Result ItemPart PlaceError → Reading (Part Plain) → Type 0
+ReadsItem (Ok (item_part.Shut n)) r = r ≡ Ok (shut n)
+ReadsItem (Ok (item_part.Last v n)) r = r ≡ Ok (last (plain v) n)
+ReadsItem (Ok (item_part.More v n)) r = r ≡ Ok (more (plain v) n)
+ReadsItem (Err e) r = FailsAt e r
+
+abbrev pub ItemFits : ℕ → Result ItemPart PlaceError → Type 0
+ItemFits n (Ok (item_part.Shut k)) = k < n
+ItemFits n (Ok (item_part.Last v k)) = k < n
+ItemFits n (Ok (item_part.More v k)) = k < n
+ItemFits n (Err place_error.Memory) = Unit {0}
+ItemFits n (Err (place_error.Fault f)) = f.place ≤ n
+
+-- the same of a part of a flow hash
+abbrev pub ReadsPair : Result PairPart PlaceError → Reading (Part (List ℕ × Plain)) → Type 0
+ReadsPair (Ok (pair_part.Shut n)) r = r ≡ Ok (shut n)
+ReadsPair (Ok (pair_part.Last k v n)) r = r ≡ Ok (last (k, plain v) n)
+ReadsPair (Ok (pair_part.More k v n)) r = r ≡ Ok (more (k, plain v) n)
+ReadsPair (Err e) r = FailsAt e r
+
+abbrev pub PairFits : ℕ → Result PairPart PlaceError → Type 0
+PairFits n (Ok (pair_part.Shut k)) = k < n
+PairFits n (Ok (pair_part.Last name v k)) = k < n
+PairFits n (Ok (pair_part.More name v k)) = k < n
+PairFits n (Err place_error.Memory) = Unit {0}
+PairFits n (Err (place_error.Fault f)) = f.place ≤ n
+
 -- a fault stands within n bytes
 abbrev pub FaultFits : {A : Type 0} → ℕ → Result A PlaceError → Type 0
 FaultFits n (Ok x) = Unit {0}
 FaultFits n (Err place_error.Memory) = Unit {0}
 FaultFits n (Err (place_error.Fault f)) = f.place ≤ n
+
+-- a separator stands within n bytes, some bytes behind a place
+abbrev pub SeparatorFits : ℕ → ℕ → Result (Bool × ℕ) PlaceError → Type 0
+SeparatorFits at n (Ok x) = at + x.1 < n
+SeparatorFits at n (Err place_error.Memory) = Unit {0}
+SeparatorFits at n (Err (place_error.Fault f)) = f.place ≤ n
 
 -- what was read, or the place of a fault, is within n bytes
 abbrev pub Fits : {A : Type 0} → ℕ → Result (A × ℕ) PlaceError → Type 0

@@ -25,8 +25,8 @@ leaf_value d (c ∷ cs) =
     ]
 
 -- nothing may follow a value
-abbrev pub nothing_after : YamlKind → List ℕ → Reading Plain → Reading Plain
-nothing_after k s r = skip false s >>= λ n. elim (is_empty (drop n s)) [ true ↦ r | false ↦ Err (n, if line_ends (take n s) == 0 then k else kind.Indent) ]
+abbrev pub nothing_after : YamlKind → List ℕ → Reading (Unit {0})
+nothing_after k s = skip false s >>= λ n. elim (is_empty (drop n s)) [ true ↦ Ok tt | false ↦ Err (n, if line_ends (take n s) == 0 then k else kind.Indent) ]
 
 abbrev pub leaf : ℕ → List ℕ → Reading Plain
-leaf d s = leaf_value d s >>= λ v. further v.1.0 (nothing_after v.1.1 (drop v.1.0 s) (Ok v.0))
+leaf d s = leaf_value d s >>= λ v. further v.1.0 (nothing_after v.1.1 (drop v.1.0 s)) >>= λ _. Ok v.0

@@ -82,6 +82,7 @@ fn short_line(indent: usize, lines: &[TextLine]) -> Option<u64>
 }
 
 // Whether a line starts with white space, from a column on.
+#[tactic(auto, using(crate::proofs::LineLaws::white_before))]
 fn starts_white(column: usize, line: &TextLine) -> bool
     ensures { result ≡ starts_white (drop column line.now.text) }
 {
@@ -110,10 +111,10 @@ pub(crate) fn append_line(out: &mut Vec<u8>, column: usize, line: &TextLine) -> 
 {
     if column < line.indent() {
         append_repeated(out, line.indent() - column, b' ')?;
-        append(out, line.inside())
-    } else {
-        append(out, rest_from(column, line))
+        append(out, line.inside())?;
+        return Ok(());
     }
+    append(out, rest_from(column, line))
 }
 
 /// How the lines of a block scalar are joined.

@@ -1,8 +1,9 @@
 // Why a text has no value.
-ghost use Rattle.std.specs.Prelude.{◌≡◌, ◌⊎◌, option_map, IfSome};
+ghost use Rattle.std.specs.Prelude.{◌≡◌, ◌⊎◌, ◌<◌, ◌+◌, ◌^◌, option_map, IfSome};
 ghost use Rattle.front_yaml.specs.Folding.{as_fault, earlier};
 ghost use Rattle.front_yaml.specs.Given.{as_pair};
 ghost use Rattle.front_yaml.specs.declared.faults.YamlError.TheVariants.{Fault};
+ghost use Rattle.front_yaml.specs.declared.faults.PlaceError.TheVariants as place_error;
 
 use site_base::{Memory, YamlKind};
 
@@ -60,6 +61,17 @@ impl PlaceFault {
         }
     }
 
+    /// The error of this fault, told from some bytes before.
+    pub(crate) fn further(self, by: usize) -> PlaceError
+        requires { by + self.place < 2 ^ 64 }
+        ensures { result ≡ place_error.Fault (record { place = by + self.place; kind = self.kind }) }
+    {
+        PlaceError::Fault(PlaceFault {
+            place: by + self.place,
+            kind: self.kind,
+        })
+    }
+
     /// The earlier of two faults, and of two at one place the first.
     pub(crate) fn earlier(one: Option<PlaceFault>, other: Option<PlaceFault>) -> Option<PlaceFault>
         ensures value { option_map as_pair result ≡ earlier (option_map as_pair one) (option_map as_pair other) }
@@ -78,6 +90,14 @@ impl PlaceFault {
 pub(crate) enum PlaceError {
     Fault(PlaceFault),
     Memory,
+}
+
+impl PlaceError {
+    pub(crate) fn at(place: usize, kind: YamlKind) -> PlaceError
+        ensures { result ≡ place_error.Fault (record { place = place; kind = kind }) }
+    {
+        PlaceError::Fault(PlaceFault { place, kind })
+    }
 }
 
 impl From<Memory> for PlaceError {

@@ -5,6 +5,7 @@ mod block_scalars;
 mod escapes;
 mod extents;
 mod faults;
+mod flow_values;
 mod folding;
 mod front_matter;
 mod gaps;

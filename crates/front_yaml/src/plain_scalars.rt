@@ -125,8 +125,8 @@ pub(crate) fn starts_plain(flow: bool, text: &[u8]) -> bool
     }
 }
 
-// The first fault within a plain scalar.
-fn plain_fault(flow: bool, raw: &[u8]) -> Option<PlaceFault>
+/// The first fault within a plain scalar.
+pub(crate) fn plain_fault(flow: bool, raw: &[u8]) -> Option<PlaceFault>
     ensures value { option_map as_pair result ≡ plain_fault flow raw.now }
     ensures within { IfSome result (λ fault. fault.place ≤ length raw.now) }
 {
