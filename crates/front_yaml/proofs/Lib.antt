@@ -1,5 +1,8 @@
+pub mod BlockCases
 pub mod Cuts
+pub mod Entries
 pub mod ExtentLaws
+pub mod FlowLaws
 pub mod FoldLaws
 pub mod Growing
 pub mod Halving

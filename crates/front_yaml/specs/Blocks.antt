@@ -33,7 +33,7 @@ left_fault f (l ∷ ls) = if carries l then Some (l.number, left_kind f l) else 
 abbrev pub none_left : ℕ → List Line → Reading Plain → Reading Plain
 none_left f ls r = elim (left_fault f ls) [ Some x ↦ Err x | None ↦ r ]
 
-abbrev pub taken_by : ℕ → List ℕ → Line → Bool
+abbrev pub taken_by : ℕ → List ℕ → (Line → Bool)
 taken_by f s = if starts 39 s || starts 34 s then reaches f else belongs f
 
 -- the scalar or flow value s at the end of the line l, whose other lines have indent f
@@ -132,12 +132,15 @@ abbrev pub sequence : ℕ → Block → ℕ → List Entry → Reading Items
 sequence d inner n [] = Ok no_items
 sequence d inner n (e ∷ es) = at_indent n e.head (item_value d inner n e) >>= λ v. sequence d inner n es >>= λ vs. Ok (item v vs)
 
+abbrev pub no_quoted_key : ℕ → List ℕ → YamlKind
+no_quoted_key q all = elim (quote_len q (drop 1 all)) [ None ↦ kind.Quote | Some k ↦ kind.NoKey ]
+
 -- why a line of a mapping has no key
 abbrev pub no_key : List ℕ → List ℕ → YamlKind
 no_key [] all = kind.NoKey
 no_key (c ∷ cs) all =
     elim (is_quote c) [
-      | true ↦ elim (quote_len c (drop 1 all)) [ None ↦ kind.Quote | Some k ↦ kind.NoKey ]
+      | true ↦ no_quoted_key c all
       | false ↦ elim (opens c) [
         | true ↦ elim (is_closed all) [ false ↦ kind.Flow | true ↦ kind.NoKey ]
         | false ↦ if starts_plain false (c ∷ cs) then kind.NoKey else kind.Outside

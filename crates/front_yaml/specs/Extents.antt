@@ -9,6 +9,10 @@ use Rattle.front_yaml.specs.Quotes.{is_quote, quote_len}
 abbrev pub opens : ℕ → Bool
 opens c = (c == 91) || (c == 123)
 
+abbrev pub begins_value : List ℕ → Bool
+begins_value [] = false
+begins_value (c ∷ cs) = opens c
+
 abbrev pub closes : ℕ → Bool
 closes c = (c == 93) || (c == 125)
 

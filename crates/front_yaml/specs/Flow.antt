@@ -10,7 +10,7 @@ use Rattle.front_yaml.specs.Folding.{fold}
 use Rattle.front_yaml.specs.Quotes.{is_quote, quoted}
 use Rattle.front_yaml.specs.PlainScalars.{is_bracket, starts_plain, plain_at, plain}
 use Rattle.front_yaml.specs.Gaps.{skip}
-use Rattle.front_yaml.specs.Extents.{opens, is_closed}
+use Rattle.front_yaml.specs.Extents.{begins_value, is_closed}
 
 abbrev pub Node : Type 0
 Node = List ℕ → Reading (Plain × ℕ)
@@ -22,16 +22,18 @@ first_byte (c ∷ cs) = c
 abbrev pub start_fault : List ℕ → Fault
 start_fault s = (0, if is_empty s || is_bracket (first_byte s) || (first_byte s == 58) then kind.Flow else kind.Outside)
 
-abbrev pub node : Node → Node
-node collection [] = Err (start_fault [])
-node collection (c ∷ cs) =
-    elim (opens c) [
-      | true ↦ collection (c ∷ cs)
-      | false ↦ elim (is_quote c) [
-        | true ↦ quoted (c ∷ cs) >>= λ q. Ok (text q.0, q.1)
-        | false ↦ elim (starts_plain true (c ∷ cs)) [ true ↦ plain true (c ∷ cs) | false ↦ Err (start_fault (c ∷ cs)) ]
-      ]
+-- the scalar at the front
+abbrev pub scalar : Node
+scalar [] = Err (start_fault [])
+scalar (c ∷ cs) =
+    elim (is_quote c) [
+      | true ↦ quoted (c ∷ cs) >>= λ q. Ok (text q.0, q.1)
+      | false ↦ elim (starts_plain true (c ∷ cs)) [ true ↦ plain true (c ∷ cs) | false ↦ Err (start_fault (c ∷ cs)) ]
     ]
+
+-- the list, hash or scalar at the front
+abbrev pub node : Node → Node
+node collection s = elim (begins_value s) [ true ↦ collection s | false ↦ scalar s ]
 
 -- the separator behind a value, or the closing bracket: whether it closes, and the bytes before it, which carry nothing
 abbrev pub separator : ℕ → List ℕ → Reading (Bool × ℕ)
@@ -68,6 +70,11 @@ part close entry s = skip true s >>= λ n. elim (starts close (drop n s)) [
   | false ↦ further n (entry (drop n s)) >>= λ x. further (n + x.1) (separator close (drop (n + x.1) s)) >>= λ e. Ok (part_of x.0 (n + x.1) e)
 ]
 
+-- each key once, at its first place, with its last value
+abbrev pub settled : Pairs → Pairs → Pairs
+settled done no_pairs = done
+settled done (pair k v ps) = settled (set k v done) ps
+
 module _ (child : Node) where
   abbrev pub items_after : (ℕ → Reading (Items × ℕ)) → Part Plain → Reading (Items × ℕ)
   items_after next (shut n) = Ok (no_items, n + 1)
@@ -102,19 +109,19 @@ module _ (child : Node) where
   unfoldable pub pairs : List ℕ → Reading (Pairs × ℕ)
   pairs s = down length (Err (0, kind.Flow)) pairs_step s
 
--- each key once, at its first place, with its last value
-abbrev pub settled : Pairs → Pairs → Pairs
-settled done no_pairs = done
-settled done (pair k v ps) = settled (set k v done) ps
+  abbrev pub hash_pairs : List ℕ → Reading (Pairs × ℕ)
+  hash_pairs s = pairs s >>= λ r. Ok (settled no_pairs r.0, r.1)
 
--- a list or a hash in which d - 1 more may nest
+  abbrev pub list_value : Node
+  list_value s = further 1 (items (drop 1 s)) >>= λ r. Ok (list r.0, r.1 + 1)
+
+  abbrev pub hash_value : Node
+  hash_value s = further 1 (hash_pairs (drop 1 s)) >>= λ r. Ok (hash r.0, r.1 + 1)
+
+-- a list or a hash, where at most d may nest
 unfoldable pub collection : ℕ → Node
 collection zero s = Err (0, kind.Depth)
-collection (suc d) s =
-    elim (starts 91 s) [
-      | true ↦ further 1 (items (node (collection d)) (drop 1 s)) >>= λ r. Ok (list r.0, r.1 + 1)
-      | false ↦ further 1 (pairs (node (collection d)) (drop 1 s)) >>= λ r. Ok (hash (settled no_pairs r.0), r.1 + 1)
-    ]
+collection (suc d) s = elim (starts 91 s) [ true ↦ list_value (node (collection d)) s | false ↦ hash_value (node (collection d)) s ]
 
 -- a flow value that has its end
 abbrev pub flow : ℕ → Node

@@ -9,20 +9,21 @@ use Rattle.front_yaml.specs.TextLines.{line_ends}
 use Rattle.front_yaml.specs.Quotes.{is_quote, quoted}
 use Rattle.front_yaml.specs.PlainScalars.{starts_plain, plain}
 use Rattle.front_yaml.specs.Gaps.{skip}
-use Rattle.front_yaml.specs.Extents.{opens}
+use Rattle.front_yaml.specs.Extents.{begins_value}
 use Rattle.front_yaml.specs.Flow.{flow}
 
--- the scalar or flow value at the front of a text, its bytes, and what text after it would be
-abbrev pub leaf_value : ℕ → List ℕ → Reading (Plain × (ℕ × YamlKind))
-leaf_value d [] = Err (0, kind.Outside)
-leaf_value d (c ∷ cs) =
-    elim (opens c) [
-      | true ↦ flow d (c ∷ cs) >>= λ v. Ok (v.0, (v.1, kind.Flow))
-      | false ↦ elim (is_quote c) [
-        | true ↦ quoted (c ∷ cs) >>= λ q. Ok (text q.0, (q.1, kind.Quote))
-        | false ↦ elim (starts_plain false (c ∷ cs)) [ true ↦ plain false (c ∷ cs) >>= λ v. Ok (v.0, (v.1, kind.Indent)) | false ↦ Err (0, kind.Outside) ]
-      ]
+-- the scalar at the front, its bytes, and what text after it would be
+abbrev pub scalar_leaf : List ℕ → Reading (Plain × (ℕ × YamlKind))
+scalar_leaf [] = Err (0, kind.Outside)
+scalar_leaf (c ∷ cs) =
+    elim (is_quote c) [
+      | true ↦ quoted (c ∷ cs) >>= λ q. Ok (text q.0, (q.1, kind.Quote))
+      | false ↦ elim (starts_plain false (c ∷ cs)) [ true ↦ plain false (c ∷ cs) >>= λ v. Ok (v.0, (v.1, kind.Indent)) | false ↦ Err (0, kind.Outside) ]
     ]
+
+-- the same of a scalar or flow value
+abbrev pub leaf_value : ℕ → List ℕ → Reading (Plain × (ℕ × YamlKind))
+leaf_value d s = elim (begins_value s) [ true ↦ flow d s >>= λ v. Ok (v.0, (v.1, kind.Flow)) | false ↦ scalar_leaf s ]
 
 -- nothing may follow a value
 abbrev pub nothing_after : YamlKind → List ℕ → Reading (Unit {0})

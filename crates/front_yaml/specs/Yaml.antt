@@ -1,7 +1,7 @@
 -- The value of a text: YAML 1.2.2, sections 5.2 and 9.1 for what stands around it.
 use Rattle.std.specs.Prelude.{ℕ, ◌==◌, Bool, false, ◌&&◌, ◌||◌, not, List, [], ◌∷◌, drop, if◌then◌else◌, Ok, Err}
 use Rattle.site_base.specs.declared.faults.YamlKind.TheVariants as kind
-use Rattle.site_base.specs.Plain.{Plain}
+use Rattle.site_base.specs.Plain.{Plain, nil, hash, Pairs, no_pairs}
 use Rattle.front_yaml.specs.Reading.{Reading, ◌>>=◌}
 use Rattle.front_yaml.specs.Bytes.{starts, is_empty, white_len}
 use Rattle.front_yaml.specs.TextLines.{Line, text_lines, span}
@@ -41,3 +41,12 @@ lines_value ls = let part = span goes_on ls in below (block 64) 0 part.0 >>= λ 
 -- the value of a text
 abbrev pub yaml : List ℕ → Reading Plain
 yaml s = lines_value (file_lines s)
+
+-- the pairs of a value that has to be a mapping, or nothing: of front matter, and of the configuration
+abbrev pub pairs_of : Plain → Reading Pairs
+pairs_of nil = Ok no_pairs
+pairs_of (hash ps) = Ok ps
+pairs_of v = Err (1, kind.NotMapping)
+
+abbrev pub yaml_pairs : List ℕ → Reading Pairs
+yaml_pairs s = yaml s >>= pairs_of

@@ -1,6 +1,6 @@
 // Where quotes and flow values end.
 ghost use Rattle.std.specs.Prelude.{◌≡◌, ◌<◌, ◌≤◌, ◌+◌, ◌&&◌, ◌||◌, ◌==◌, ◌^◌, false, true, length, IfSome};
-ghost use Rattle.front_yaml.specs.Extents.{opens, closes, may_end_key, is_fresh, is_separator, is_closed};
+ghost use Rattle.front_yaml.specs.Extents.{opens, begins_value, closes, may_end_key, is_fresh, is_separator, is_closed};
 ghost use Rattle.front_yaml.specs.Scanning.{Stepped, IsNear};
 ghost use Rattle.front_yaml.specs.Quotes.{single_len, double_len, quote_len, is_quote};
 
@@ -85,6 +85,16 @@ pub(crate) fn opens(c: u8) -> bool
     ensures { result ≡ opens c }
 {
     c == b'[' || c == b'{'
+}
+
+/// Whether a flow value begins at the front.
+pub(crate) fn begins_value(text: &[u8]) -> bool
+    ensures { result ≡ begins_value text.now }
+{
+    match text {
+        [c, ..] => opens(*c),
+        [] => false,
+    }
 }
 
 fn closes(c: u8) -> bool

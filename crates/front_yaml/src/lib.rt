@@ -2,6 +2,7 @@
 #![tactic(auto)]
 
 mod block_scalars;
+mod blocks;
 mod escapes;
 mod extents;
 mod faults;
@@ -11,6 +12,7 @@ mod front_matter;
 mod gaps;
 mod growth;
 mod keys;
+mod leaves;
 mod lines;
 mod plain_scalars;
 mod quotes;

@@ -1,7 +1,8 @@
 // The lines of a text.
 ghost use Rattle.std.specs.Prelude.{◌≡◌, ◌<◌, ◌≤◌, ◌+◌, ◌^◌, drop, take, false, length, IfOk};
 ghost use Rattle.site_base.specs.Fronts.{front_len};
-ghost use Rattle.front_yaml.specs.Bytes.{starts};
+ghost use Rattle.front_yaml.specs.Bytes.{starts, is_empty, white_len};
+ghost use Rattle.front_yaml.specs.Yaml.{is_three, is_marker, is_start};
 ghost use Rattle.front_yaml.specs.TextLines.{is_inside, without_end, spaces, indent, inside, is_blank, has_tab, carries, line_of, text_lines};
 ghost use Rattle.front_yaml.specs.Blocks.{from_place};
 
@@ -94,12 +95,54 @@ impl<'a> TextLine<'a> {
         starts(self.inside(), b'\t')
     }
 
+    /// Whether the line begins with `---` or `...`, and white space or nothing behind it.
+    pub(crate) fn is_marker(&self) -> bool
+        ensures { result ≡ is_marker self.now }
+    {
+        let text = self.inside();
+        self.indent() == 0 && (is_three(b'-', text) || is_three(b'.', text))
+    }
+
+    /// Whether the line is `---` alone.
+    pub(crate) fn is_start(&self) -> bool
+        ensures { result ≡ is_start self.now }
+    {
+        let text = self.inside();
+        self.indent() == 0 && is_three(b'-', text) && is_white_from(3, text)
+    }
+
     /// Whether the line is neither blank nor a comment.
     pub(crate) fn carries(&self) -> bool
         ensures { result ≡ carries self.now }
     {
         !(self.is_blank() || starts(self.inside(), b'#'))
     }
+}
+
+// Three times the byte, and white space or nothing after.
+fn is_three(byte: u8, text: &[u8]) -> bool
+    ensures { result ≡ is_three byte text.now }
+{
+    match text {
+        [x, y, z, rest @ ..] => {
+            *x == byte
+                && *y == byte
+                && *z == byte
+                && (is_empty(rest) || starts(rest, b' ') || starts(rest, b'\t'))
+        }
+        _ => false,
+    }
+}
+
+// Whether white space alone stands behind some bytes.
+fn is_white_from(at: usize, text: &[u8]) -> bool
+    ensures { result ≡ is_empty (drop (white_len (drop at text.now)) (drop at text.now)) }
+{
+    if text.len() < at {
+        return true;
+    }
+    let rest = tail(text, at);
+    is_empty(tail(rest, white_len(rest)))
 }
 
 // How many bytes stand before the line end.
