@@ -6,6 +6,7 @@ use Rattle.site_base.specs.Lines.{lines}
 use Rattle.front_yaml.specs.Bytes.{starts, repeated, is_white, white_len}
 use Rattle.front_yaml.specs.TextLines.{Line, spaces, numbered}
 use Rattle.front_yaml.specs.BlockScalars.{starts_white}
+use Rattle.front_yaml.specs.Yaml.{is_three, is_start_text}
 
 pub spaces-repeated : (n : ℕ) (r : List ℕ) → starts 32 r ≡ false → spaces (repeated n 32 ++ r) ≡ n
 spaces-repeated zero [] e = refl
@@ -117,3 +118,22 @@ pub line_added : (old mid new s rest : List ℕ) (n k : ℕ) → mid ≡ old ++ 
 line_added old mid new s rest n k p q r o lt =
     let lt' : k < spaces s = omega (arith, r) in
     rw (q, p, r, o, append_assoc) (ap (λ xs. old ++ xs) (spaces_left s k lt'))
+
+-- ---- markers
+
+three-not : (c : ℕ) (cs : List ℕ) → (c == 45) ≡ false → is_three 45 (c ∷ cs) ≡ false
+three-not c [] e = refl
+three-not c (x ∷ []) e = refl
+three-not c (x ∷ y ∷ cs) e = rw e refl
+
+dash-no-space : (c : ℕ) → (c == 32) ≡ true → (c == 45) ≡ false
+dash-no-space c e = grind (arith, nat_tests)
+
+no-start-step : (t : Bool) (c : ℕ) (cs : List ℕ) → (c == 32) ≡ t → (spaces (c ∷ cs) ≡ 0 → ⊥) → is_start_text (c ∷ cs) ≡ false
+no-start-step true c cs e ne = rw (three-not c cs (dash-no-space c e)) refl
+no-start-step false c cs e ne = absurd (ne (space-count false c cs e))
+
+-- no text behind spaces is `---`
+pub no_start : (s : List ℕ) → (spaces s ≡ 0 → ⊥) → is_start_text s ≡ false
+no_start [] ne = refl
+no_start (c ∷ cs) ne = no-start-step (c == 32) c cs refl ne

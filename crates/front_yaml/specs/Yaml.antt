@@ -16,8 +16,12 @@ is_three b s = false
 abbrev pub is_marker : Line → Bool
 is_marker l = is_three 45 l.text || is_three 46 l.text
 
+-- `---` alone
+abbrev pub is_start_text : List ℕ → Bool
+is_start_text s = is_three 45 s && is_empty (drop (white_len (drop 3 s)) (drop 3 s))
+
 abbrev pub is_start : Line → Bool
-is_start l = is_three 45 l.text && is_empty (drop (white_len (drop 3 l.text)) (drop 3 l.text))
+is_start l = is_start_text l.text
 
 abbrev pub without_start : List Line → List Line
 without_start [] = []

@@ -61,13 +61,15 @@ fn left_kind(floor: usize, line: &TextLine) -> YamlKind
 
 // ---- runs of lines
 
-fn first_lines<'l, 'a>(lines: &'l [TextLine<'a>], n: usize) -> &'l [TextLine<'a>]
+/// What stands before a line.
+pub(crate) fn first_lines<'l, 'a>(lines: &'l [TextLine<'a>], n: usize) -> &'l [TextLine<'a>]
     requires { n ≤ length lines.now }
     ensures { result.now ≡ take n lines.now }
 {
     &lines[..n]
 }
 
+// What stands from a line on.
 fn lines_after<'l, 'a>(lines: &'l [TextLine<'a>], n: usize) -> &'l [TextLine<'a>]
     requires { n ≤ length lines.now }
     ensures { result.now ≡ drop n lines.now }
@@ -515,8 +517,9 @@ fn entry_value<'l, 'a>(
     }
 }
 
+/// The value of the lines below an entry, or of a whole text; the lines have this indent at least.
 #[cycle(block)]
-fn below<'l, 'a>(
+pub(crate) fn below<'l, 'a>(
     alloc: Global,
     depth: u32,
     floor: usize,

@@ -16,9 +16,11 @@ mod leaves;
 mod lines;
 mod plain_scalars;
 mod quotes;
+mod reading;
 mod scalars;
 mod scans;
 mod text_lines;
 
 pub use faults::{YamlError, YamlFault};
 pub use front_matter::{Front, split_front};
+pub use reading::{read_mapping, read_yaml};

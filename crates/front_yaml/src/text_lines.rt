@@ -2,7 +2,7 @@
 ghost use Rattle.std.specs.Prelude.{◌≡◌, ◌<◌, ◌≤◌, ◌+◌, ◌^◌, drop, take, false, length, IfOk};
 ghost use Rattle.site_base.specs.Fronts.{front_len};
 ghost use Rattle.front_yaml.specs.Bytes.{starts, is_empty, white_len};
-ghost use Rattle.front_yaml.specs.Yaml.{is_three, is_marker, is_start};
+ghost use Rattle.front_yaml.specs.Yaml.{is_three, is_marker, is_start_text, is_start};
 ghost use Rattle.front_yaml.specs.TextLines.{is_inside, without_end, spaces, indent, inside, is_blank, has_tab, carries, line_of, text_lines};
 ghost use Rattle.front_yaml.specs.Blocks.{from_place};
 
@@ -107,8 +107,10 @@ impl<'a> TextLine<'a> {
     pub(crate) fn is_start(&self) -> bool
         ensures { result ≡ is_start self.now }
     {
-        let text = self.inside();
-        self.indent() == 0 && is_three(b'-', text) && is_white_from(3, text)
+        if self.indent() != 0 {
+            return false;
+        }
+        is_start_text(self.inside())
     }
 
     /// Whether the line is neither blank nor a comment.
@@ -132,6 +134,12 @@ fn is_three(byte: u8, text: &[u8]) -> bool
         }
         _ => false,
     }
+}
+
+fn is_start_text(text: &[u8]) -> bool
+    ensures { result ≡ is_start_text text.now }
+{
+    is_three(b'-', text) && is_white_from(3, text)
 }
 
 // Whether white space alone stands behind some bytes.
