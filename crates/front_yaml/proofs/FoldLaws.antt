@@ -215,10 +215,10 @@ break_taken e (c ∷ cs) old new n lt p q r =
 pub white_taken : (e : Bool) (s old new : List ℕ) (n : ℕ) → 0 < length s → is_white (get_or s 0 0) ≡ true → n ≡ white_len s → new ≡ old ++ kept_white s → Folds e old new s n
 white_taken e [] old new n lt p q r = absurd (omega arith)
 white_taken e (c ∷ cs) old new n lt p q r = record {
-    some = omega (arith, first-one is_white c cs p);
-    inside = omega (arith, front_fits is_white (c ∷ cs));
-    same = rw (q, r, append_assoc) (ap (λ xs. old ++ xs) (past_white e (c ∷ cs)));
-  }
+  some = omega (arith, first-one is_white c cs p);
+  inside = omega (arith, front_fits is_white (c ∷ cs));
+  same = rw (q, r, append_assoc) (ap (λ xs. old ++ xs) (past_white e (c ∷ cs)));
+}
 
 other : (a b : ℕ) → (a ≡ b → ⊥) → (a == b) ≡ false
 other a b ne = grind (arith, nat_tests)
@@ -230,10 +230,10 @@ pub solid_taken : (e : Bool) (s old new : List ℕ) (n : ℕ) → 0 < length s �
     → n ≡ front_len (is_solid e) s → new ≡ old ++ take (front_len (is_solid e) s) s → Folds e old new s n
 solid_taken e [] old new n lt p q o h r = absurd (omega arith)
 solid_taken e (c ∷ cs) old new n lt p q o h r = record {
-    some = omega (arith, first-one (is_solid e) c cs (is-solid (is_white c) (c == 10) (e && (c == 92)) p (other c 10 q) o));
-    inside = omega (arith, front_fits (is_solid e) (c ∷ cs));
-    same = rw (h, r, append_assoc) (ap (λ xs. old ++ xs) (past_solid e (c ∷ cs)));
-  }
+  some = omega (arith, first-one (is_solid e) c cs (is-solid (is_white c) (c == 10) (e && (c == 92)) p (other c 10 q) o));
+  inside = omega (arith, front_fits (is_solid e) (c ∷ cs));
+  same = rw (h, r, append_assoc) (ap (λ xs. old ++ xs) (past_solid e (c ∷ cs)));
+}
 
 pub escape_taken : (s old new : List ℕ) (c len n : ℕ) → escape s ≡ Some (c, len) → len ≤ length s → n ≡ 1 + len → new ≡ old ++ encode_utf8 c → Folds true old new (92 ∷ s) n
 escape_taken s old new c len n p fits q r =

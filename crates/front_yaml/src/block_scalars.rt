@@ -102,7 +102,11 @@ fn rest_from<'a>(column: usize, line: &TextLine<'a>) -> &'a [u8]
 {
     let rest = line.inside();
     let skip = column - line.indent();
-    if skip < rest.len() { tail(rest, skip) } else { tail(rest, rest.len()) }
+    if skip < rest.len() {
+        tail(rest, skip)
+    } else {
+        tail(rest, rest.len())
+    }
 }
 
 /// Adds a line from a column on.
@@ -151,7 +155,12 @@ fn append_joint(
 }
 
 // Adds what stands at the end, after blank lines.
-fn append_end(out: &mut Vec<u8>, chomp: Chomp, before: Option<bool>, blank: usize) -> Result<(), Memory>
+fn append_end(
+    out: &mut Vec<u8>,
+    chomp: Chomp,
+    before: Option<bool>,
+    blank: usize,
+) -> Result<(), Memory>
     requires { blank < 2 ^ 63 }
     ensures { OnOk result (out.new.items ≡ out.old.items ++ lines_end chomp before blank) }
 {

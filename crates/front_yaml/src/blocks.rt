@@ -12,7 +12,7 @@ use crate::block_scalars::{append_line, block_scalar};
 use crate::extents::{is_closed, is_quote, opens, quote_len};
 use crate::faults::{PlaceError, PlaceFault, YamlError, YamlFault};
 use crate::folding::line_ends;
-use crate::growth::append;
+use crate::growth::{append, put};
 use crate::keys::{key, starts_block};
 use crate::leaves::leaf;
 use crate::plain_scalars::starts_plain;
@@ -32,7 +32,9 @@ fn is_item(indent: usize, line: &TextLine) -> bool
 fn is_pair(indent: usize, line: &TextLine) -> bool
     ensures { result ≡ is_pair indent line.now }
 {
-    line.carries() && line.indent() <= indent && !(line.indent() == indent && is_dash(line.inside()))
+    line.carries()
+        && line.indent() <= indent
+        && !(line.indent() == indent && is_dash(line.inside()))
 }
 
 fn reaches(floor: usize, line: &TextLine) -> bool
@@ -257,7 +259,11 @@ fn no_key(text: &[u8], all: &[u8]) -> YamlKind
             if is_quote(*c) {
                 no_quoted_key(*c, all)
             } else if opens(*c) {
-                if is_closed(all) { YamlKind::NoKey } else { YamlKind::Flow }
+                if is_closed(all) {
+                    YamlKind::NoKey
+                } else {
+                    YamlKind::Flow
+                }
             } else if starts_plain(false, text) {
                 YamlKind::NoKey
             } else {
@@ -375,7 +381,7 @@ fn mapping<'l, 'a>(
             Ok(pair) => pair,
             Err(error) => return Err(error),
         };
-        pairs.set(name, value)?;
+        put(&mut pairs, name, value)?;
         if more >= rest.len() {
             return Ok(pairs);
         }

@@ -78,7 +78,11 @@ impl PlaceFault {
         ensures among { IfSome result (λ fault. (one ≡ Some fault) ⊎ (other ≡ Some fault)) }
     {
         match (one, other) {
-            (Some(first), Some(second)) => Some(if first.place <= second.place { first } else { second }),
+            (Some(first), Some(second)) => Some(if first.place <= second.place {
+                first
+            } else {
+                second
+            }),
             (Some(fault), None) | (None, Some(fault)) => Some(fault),
             (None, None) => None,
         }

@@ -1,6 +1,5 @@
 // Flow lists and hashes.
 ghost use Rattle.std.specs.Prelude.{◌≡◌, ◌≤◌, ◌+◌, false, true, length, drop, IfOk};
-
 ghost use Rattle.front_yaml.specs.Reading.{further};
 ghost use Rattle.front_yaml.specs.Extents.{begins_value};
 ghost use Rattle.front_yaml.specs.Flow.{start_fault, key_text, key, separator, scalar, node, part, items, pair_value, entry, hash_pairs, list_value, hash_value, collection, flow};
@@ -8,12 +7,11 @@ ghost use Rattle.front_yaml.specs.Given.{ReadsAt, ReadsSized, ReadsEntry, ReadsI
 ghost use Rattle.front_yaml.specs.Gaps.{skip};
 ghost use Rattle.front_yaml.specs.declared.faults.PlaceError.TheVariants.{Fault};
 
-
 use crate::extents::{begins_value, is_closed, is_quote};
 use crate::faults::PlaceError;
 use crate::folding::folded;
 use crate::gaps::skip;
-use crate::growth::text_of;
+use crate::growth::{put, text_of};
 use crate::plain_scalars::{is_bracket, plain, plain_fault, plain_raw, starts_plain};
 use crate::quotes::quoted;
 use crate::scalars::equals;
@@ -272,11 +270,11 @@ fn pairs(alloc: Global, depth: u32, text: &[u8]) -> Result<(Hash, usize), PlaceE
         match pair_part(alloc, depth, tail(text, n)) {
             Ok(PairPart::Shut(len)) => return Ok((pairs, n + len + 1)),
             Ok(PairPart::Last(name, value, len)) => {
-                pairs.set(name, value)?;
+                put(&mut pairs, name, value)?;
                 return Ok((pairs, n + len + 1));
             }
             Ok(PairPart::More(name, value, len)) => {
-                pairs.set(name, value)?;
+                put(&mut pairs, name, value)?;
                 n += len + 1;
             }
             Err(PlaceError::Fault(fault)) => return Err(fault.further(n)),

@@ -1,8 +1,10 @@
 // Texts that grow.
 ghost use Rattle.std.specs.Prelude.{◌≡◌, ◌++◌, ◌∷◌, [], OnOk, IfOk};
+ghost use Rattle.site_base.specs.Plain.{set};
+ghost use Rattle.site_base.specs.View.{plain};
 ghost use Rattle.front_yaml.specs.Bytes.{repeated};
 
-use site_base::{Memory, Text};
+use site_base::{Hash, Memory, Text, Value};
 use std::alloc::Global;
 
 /// Adds bytes at the end.
@@ -24,6 +26,13 @@ pub(crate) fn append_repeated(out: &mut Vec<u8>, times: usize, byte: u8) -> Resu
         out.push(byte)?;
     }
     Ok(())
+}
+
+/// Gives a key this value, in place of one that it has.
+pub(crate) fn put(pairs: &mut Hash, key: Text, value: Value) -> Result<(), Memory>
+    ensures { OnOk result (pairs.new ≡ set key (plain value) pairs.old) }
+{
+    pairs.set(key, value)
 }
 
 /// The text of bytes, which are UTF-8 as they were cut out of one at ASCII bytes.

@@ -40,7 +40,11 @@ fn scalar_leaf(alloc: Global, text: &[u8]) -> Result<(Value, usize, YamlKind), P
 }
 
 // The scalar or flow value at the front, its bytes, and what text after it would be.
-fn leaf_value(alloc: Global, depth: u32, text: &[u8]) -> Result<(Value, usize, YamlKind), PlaceError>
+fn leaf_value(
+    alloc: Global,
+    depth: u32,
+    text: &[u8],
+) -> Result<(Value, usize, YamlKind), PlaceError>
     ensures value { ReadsLeaf result (leaf_value depth text.now) }
     ensures within { LeafFits (length text.now) result }
 {

@@ -24,3 +24,6 @@ mod text_lines;
 pub use faults::{YamlError, YamlFault};
 pub use front_matter::{Front, split_front};
 pub use reading::{read_mapping, read_yaml};
+
+#[cfg(test)]
+mod tests;

@@ -21,13 +21,7 @@ fn without_start<'l, 'a>(lines: &'l [TextLine<'a>]) -> &'l [TextLine<'a>]
     ensures { result.now ≡ without_start lines.now }
 {
     match lines {
-        [first, rest @ ..] => {
-            if first.is_start() {
-                rest
-            } else {
-                lines
-            }
-        }
+        [first, rest @ ..] => { if first.is_start() { rest } else { lines } }
         [] => lines,
     }
 }

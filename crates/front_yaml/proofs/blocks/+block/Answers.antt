@@ -70,8 +70,8 @@ mapping-returns-then-more-rest t c =
     let rest = c.loop-pair.rest.now in
     let h = subst (λ xs. first_pair d (block d) n (is_pair n) c.loop-pair.first.now xs ≡ Ok (c.in-Ok.pair.0, plain c.in-Ok.pair.1)) c.first_lines.ensures c.in-Ok.ensures in
     let told = pair_more d (block d) n (is_pair n) c.loop-pair.first.now rest k c.loop-pair.pairs (c.in-Ok.pair.0) (plain c.in-Ok.pair.1) _ c.idle_pairs-more.ensures.value c.loop-pair.invariant.told h in
-    let new = subst (λ x. with_pairs x (pairs_from d (block d) n (is_pair n) (drop k rest)) ≡ mapping_pairs c.args.depth (block c.args.depth) n c.args.head.now c.args.body.now) (sym c.in_ok-set.ensures.ok) told in
-    subst (λ m. mapping_pairs c.args.depth (block c.args.depth) m c.args.head.now c.args.body.now ≡ Ok c.set.new.self) c.indent-indent.ensures.value (pairs_end d (block d) n (is_pair n) (drop k rest) c.set.new.self _ (drop_all k rest c.if-more-rest.true) new)
+    let new = subst (λ x. with_pairs x (pairs_from d (block d) n (is_pair n) (drop k rest)) ≡ mapping_pairs c.args.depth (block c.args.depth) n c.args.head.now c.args.body.now) (sym c.in_ok-put.ensures) told in
+    subst (λ m. mapping_pairs c.args.depth (block c.args.depth) m c.args.head.now c.args.body.now ≡ Ok c.put.new.pairs) c.indent-indent.ensures.value (pairs_end d (block d) n (is_pair n) (drop k rest) c.put.new.pairs _ (drop_all k rest c.if-more-rest.true) new)
 
 pub mapping-loop-pair-preserved : goal.mapping-loop-pair-preserved
 mapping-loop-pair-preserved t c =
@@ -81,12 +81,12 @@ mapping-loop-pair-preserved t c =
     let rest = c.loop-pair.rest.now in
     let h = subst (λ xs. first_pair d (block d) n (is_pair n) c.loop-pair.first.now xs ≡ Ok (c.in-Ok.pair.0, plain c.in-Ok.pair.1)) c.first_lines.ensures c.in-Ok.ensures in
     let told = pair_more d (block d) n (is_pair n) c.loop-pair.first.now rest k c.loop-pair.pairs (c.in-Ok.pair.0) (plain c.in-Ok.pair.1) _ c.idle_pairs-more.ensures.value c.loop-pair.invariant.told h in
-    let new = subst (λ x. with_pairs x (pairs_from d (block d) n (is_pair n) (drop k rest)) ≡ mapping_pairs c.args.depth (block c.args.depth) n c.args.head.now c.args.body.now) (sym c.in_ok-set.ensures.ok) told in
+    let new = subst (λ x. with_pairs x (pairs_from d (block d) n (is_pair n) (drop k rest)) ≡ mapping_pairs c.args.depth (block c.args.depth) n c.args.head.now c.args.body.now) (sym c.in_ok-put.ensures) told in
     let place : drop k rest ≡ c.index-rest-more.result ∷ c.lines_after-rest.result.now =
     drop_more rest k c.index-rest-more.result c.if-more-rest.false ∙ ap (λ x. x ∷ drop (k + 1) rest) (sym c.index-rest-more.is) ∙ ap (λ xs. c.index-rest-more.result ∷ xs) (sym c.lines_after-rest.ensures) in
     record {
       indent = c.indent-indent.ensures.value;
-      told = subst (λ xs. with_pairs c.set.new.self (pairs_from d (block d) n (is_pair n) xs) ≡ mapping_pairs c.args.depth (block c.args.depth) n c.args.head.now c.args.body.now) place new;
+      told = subst (λ xs. with_pairs c.put.new.pairs (pairs_from d (block d) n (is_pair n) xs) ≡ mapping_pairs c.args.depth (block c.args.depth) n c.args.head.now c.args.body.now) place new;
     }
 
 pub sequence-returns-in-Err : goal.sequence-returns-in-Err

@@ -9,5 +9,5 @@ pub returns : goal.returns
 returns c =
     let gap : c.blank_len-gap.result ≡ front_len is_gap c.tail-rest.result.now = c.blank_len-gap.ensures.value in
     line_end_taken _ _ _ _ c.requires (not_empty _ (sym c.is_empty.ensures ∙ c.if-is_empty.false))
-      (ap (λ g. 2 + g) (gap ∙ ap (front_len is_gap) c.tail-rest.ensures))
-      (c.in_ok-append_repeated.ensures ∙ ap (λ k. c.args.out.now.items ++ repeated k 10) (gap_count c.args.text.now _ _ _ _ c.tail-rest.ensures gap c.front.ensures c.line_ends.ensures.value))
+    (ap (λ g. 2 + g) (gap ∙ ap (front_len is_gap) c.tail-rest.ensures))
+    (c.in_ok-append_repeated.ensures ∙ ap (λ k. c.args.out.now.items ++ repeated k 10) (gap_count c.args.text.now _ _ _ _ c.tail-rest.ensures gap c.front.ensures c.line_ends.ensures.value))

@@ -19,7 +19,7 @@ returns-then-count-lines c =
     let h = subst (λ ls. below (block 64) 0 ls ≡ Ok (plain c.in-Ok.value)) c.first_lines.ensures c.in-Ok.ensures in
     let told = c.at.ensures ∙ ap (λ n. yaml_error.Fault (record { line = n; kind = kind.Outside })) c.number.ensures.value in
     subst (λ (x : YamlError). FailsLines x (lines_value c.args.lines.now)) (sym told)
-      (value_cut c.args.lines.now c.going_on-count.result c.index-lines-count.result (plain c.in-Ok.value) c.going_on-count.ensures.value c.if-count-lines.true c.index-lines-count.is h)
+    (value_cut c.args.lines.now c.going_on-count.result c.index-lines-count.result (plain c.in-Ok.value) c.going_on-count.ensures.value c.if-count-lines.true c.index-lines-count.is h)
 
 pub returns : goal.returns
 returns c =

@@ -7,10 +7,11 @@ use Rattle.front_yaml.proofs.text_lines.TextLine.of.Goals as goal
 pub invariant_of-result : goal.invariant_of-result
 invariant_of-result c =
     let n = c.space_len-indent.ensures.value in
-    let r = c.tail.ensures ∙ ap (λ k. drop k c.front-text.result.now) n in
-    (ap (starts 32) r ∙ after_spaces c.front-text.result.now,
-     cut_fits c.args.line.now _ _ c.inside_len.result c.space_len-indent.result c.front-text.ensures c.tail.ensures c.space_len-indent.ensures.within (omega arith),
-     c.requires)
+    let r = c.tail.ensures ∙ ap (λ k. drop k c.front-text.result.now) n in (
+      ap (starts 32) r ∙ after_spaces c.front-text.result.now,
+      cut_fits c.args.line.now _ _ c.inside_len.result c.space_len-indent.result c.front-text.ensures c.tail.ensures c.space_len-indent.ensures.within (omega arith),
+      c.requires,
+    )
 
 pub returns : goal.returns
 returns c =
