@@ -36,7 +36,7 @@ pub fn split_front(bytes: &[u8]) -> Front
     }
 }
 
-fn mark_len(bytes: &[u8]) -> usize
+pub(crate) fn mark_len(bytes: &[u8]) -> usize
     ensures value { result ≡ mark_len bytes.now }
     ensures within { result ≤ length bytes.now }
 {

@@ -1,0 +1,10 @@
+use Rattle.std.proofs.Common.{length, ◌-◌, ◌≡◌, ◌+◌, ◌≤◌, drop}
+use Rattle.front_yaml.specs.TextLines.{run}
+use Rattle.front_yaml.specs.Blocks.{reaches}
+use Rattle.front_yaml.proofs.blocks.reaching.Given as goal
+
+abbrev pub invariant-loop-n : goal.invariant-loop-n
+invariant-loop-n l = record { within : l.n ≤ length l.lines; counted : l.n + run (reaches l.floor) (drop l.n l.lines) ≡ run (reaches l.floor) l.lines }
+
+abbrev pub decreases-loop-n : goal.decreases-loop-n
+decreases-loop-n l = length l.lines - l.n

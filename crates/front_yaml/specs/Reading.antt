@@ -1,0 +1,22 @@
+-- What the reading of a text gives: a value, or the first fault in the order of the text.
+use Rattle.std.specs.Prelude.{ℕ, ◌+◌, Result, Ok, Err}
+use Rattle.site_base.specs.declared.faults.YamlKind.{YamlKind}
+
+-- where (the place of a byte in a text, or the number of a line), and what is wrong there
+abbrev pub Fault : Type 0
+Fault = ℕ × YamlKind
+
+-- a value, or the first fault
+abbrev pub Reading : Type 0 → Type 0
+Reading A = Result A Fault
+
+-- a reading, and if it has a value another one of what follows
+infixl 10 ◌>>=◌
+abbrev pub ◌>>=◌ : {A B : Type 0} → Reading A → (A → Reading B) → Reading B
+(Ok x) >>= f = f x
+(Err e) >>= f = Err e
+
+-- the same reading of a text in which k bytes stand before
+abbrev pub further : {A : Type 0} → ℕ → Reading A → Reading A
+further k (Ok x) = Ok x
+further k (Err f) = Err (k + f.0, f.1)
