@@ -5,3 +5,4 @@ pub mod OperandLaws
 pub mod PlacesLaws
 pub mod TokenLaws
 pub mod TokenLoop
+pub mod Wholes

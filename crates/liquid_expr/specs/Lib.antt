@@ -1,5 +1,6 @@
 pub mod Ahead
 pub mod Fits
 pub mod Gives
+pub mod Readings
 pub mod Steps
 pub mod Token
