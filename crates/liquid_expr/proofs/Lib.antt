@@ -6,3 +6,5 @@ pub mod PlacesLaws
 pub mod TokenLaws
 pub mod TokenLoop
 pub mod Wholes
+pub mod SpanLaws
+pub mod NameLaws

@@ -1,7 +1,8 @@
 // What the next tokens are.
-ghost use Rattle.std.specs.Prelude.{◌≡◌, ◌+◌, ◌≤◌, drop, length, IfOk};
+ghost use Rattle.std.specs.Prelude.{◌≡◌, ◌+◌, ◌≤◌, drop, length, codes, IfOk};
 ghost use Rattle.liquid_grammar.specs.Expressions.{word_literal, is_joining, word_start, start_of, follow_of, closes_bracket, closes_range, goes_to, is_comma, is_bar, is_colon, word_at};
 ghost use Rattle.liquid_grammar.specs.Conditions.{is_assign, comparison, joint_of, joint};
+ghost use Rattle.liquid_grammar.specs.Tags.{is_reserved, name_at, is_word};
 ghost use Rattle.liquid_expr.specs.Ahead.{tokens_of, text_of, start_is, follow_is};
 
 use crate::token::Token;
@@ -198,5 +199,42 @@ fn joint_of(name: &str) -> Option<Joint>
         Some(Joint::Or)
     } else {
         None
+    }
+}
+
+// Whether a word names no variable.
+fn is_reserved(name: &str) -> bool
+    ensures { result ≡ is_reserved name.now }
+{
+    word_literal(name).is_some() || is_joining(name)
+}
+
+/// The name of a variable at the front.
+pub(crate) fn name_at<'a>(tokens: &[Token<'a>]) -> Option<&'a str>
+    ensures { text_of result ≡ name_at (tokens_of tokens.now) }
+{
+    match word_at(tokens) {
+        Some(name) => { if is_reserved(name) { None } else { Some(name) } }
+        None => None,
+    }
+}
+
+/// Whether `or` stands at the front.
+pub(crate) fn is_or(tokens: &[Token]) -> bool
+    ensures { result ≡ is_word (codes "or") (tokens_of tokens.now) }
+{
+    match word_at(tokens) {
+        Some(name) => name == "or",
+        None => false,
+    }
+}
+
+/// Whether `in` stands at the front.
+pub(crate) fn is_in(tokens: &[Token]) -> bool
+    ensures { result ≡ is_word (codes "in") (tokens_of tokens.now) }
+{
+    match word_at(tokens) {
+        Some(name) => name == "in",
+        None => false,
     }
 }

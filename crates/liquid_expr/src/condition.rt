@@ -28,6 +28,8 @@ fn compared(alloc: Global, first: Operand, tokens: &[Token]) -> Result<(Test, us
 }
 
 impl FromTokens for Test {
+    type Value = Test;
+
     ghost reading = { test_at };
 
     #[tactic(auto, unfolding(liquid_grammar::specs::Conditions::test_at))]
@@ -59,6 +61,8 @@ impl Repeats for Tests {
 }
 
 impl FromTokens for Condition {
+    type Value = Condition;
+
     ghost reading = { condition };
 
     #[tactic(auto, unfolding(liquid_grammar::specs::Conditions::condition))]
@@ -94,6 +98,8 @@ impl Repeats for Parameters {
 }
 
 impl FromTokens for Params {
+    type Value = Params;
+
     ghost reading = { many next_parameter };
 
     fn read(alloc: Global, tokens: &[Token]) -> Result<(Params, usize), Stop> {

@@ -17,6 +17,8 @@ use std::alloc::Global;
 const MOST_BRACKETS: u32 = 100;
 
 impl FromTokens for Operand {
+    type Value = Operand;
+
     ghost reading = { operand };
 
     fn read(alloc: Global, tokens: &[Token]) -> Result<(Operand, usize), Stop> {
@@ -45,8 +47,8 @@ impl Repeats for Arguments {
     ghost ends = { refl };
 }
 
-// Puts a value in front of others.
-fn in_front<T: Drop>(first: T, others: Several<T>) -> Result<Several<T>, Stop>
+/// Puts a value in front of others.
+pub(crate) fn in_front<T: Drop>(first: T, others: Several<T>) -> Result<Several<T>, Stop>
     ensures { MatchResult result (λ all. all ≡ first ∷ others) (λ error. error ≡ Stop.Memory) }
 {
     let mut list = others.into_vec();
@@ -101,6 +103,8 @@ impl Repeats for Filters {
 }
 
 impl FromTokens for Expr {
+    type Value = Expr;
+
     ghost reading = { expression };
 
     #[tactic(auto, unfolding(liquid_grammar::specs::Expressions::expression))]

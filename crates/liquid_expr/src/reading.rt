@@ -15,11 +15,13 @@ use liquid_grammar::Several;
 use std::alloc::Global;
 
 /// What can be read at the front of tokens.
-pub(crate) trait FromTokens: Sized + Drop {
-    ghost reading: { List grammar.Token → Reading Self };
+pub(crate) trait FromTokens {
+    type Value: Drop;
+
+    ghost reading: { List grammar.Token → Reading Self.Value };
 
     /// Reads what stands at the front, and says how many tokens it has.
-    fn read(alloc: Global, tokens: &[Token]) -> Result<(Self, usize), Stop>
+    fn read(alloc: Global, tokens: &[Token]) -> Result<(Self::Value, usize), Stop>
         ensures value { IsRead result (reading (tokens_of tokens.now)) }
         ensures within { IfOk result (λ found. found.1 ≤ length tokens.now) };
 }
@@ -62,7 +64,10 @@ fn has_large(tokens: &[Token]) -> bool
 }
 
 /// Reads a whole text.
-pub(crate) fn read_whole<T: FromTokens>(alloc: Global, text: &str) -> Result<T, ReadExprError>
+pub(crate) fn read_whole<T: FromTokens>(
+    alloc: Global,
+    text: &str,
+) -> Result<T::Value, ReadExprError>
     ensures { GivesRead result (reads T.reading text.now) }
 {
     let list = match tokens(alloc, text)? {

@@ -55,3 +55,11 @@ impl From<Memory> for ReadExprError {
         ReadExprError::Memory
     }
 }
+
+impl<T: Drop> From<AllocFailed<T>> for ReadExprError {
+    ghost from_gives = { λ _ error. error ≡ read_error.Memory };
+
+    fn from(_: AllocFailed<T>) -> ReadExprError {
+        ReadExprError::Memory
+    }
+}

@@ -1,5 +1,10 @@
-use crate::{ReadExprError, read_condition, read_expr, read_params};
-use liquid_grammar::{Comparison, Joint, Literal, Step, Test};
+use crate::{
+    ReadExprError, read_assign, read_condition, read_cycle, read_expr, read_include, read_language,
+    read_loop, read_name, read_nothing, read_params, read_path, read_values,
+};
+use liquid_grammar::{
+    Comparison, Joint, Literal, LoopKey, LoopKind, LoopPart, NamePart, Step, Test,
+};
 use std::alloc::Global;
 use std::test::*;
 
@@ -120,5 +125,44 @@ fn counts_open_brackets(rt: HostRuntime) -> Result<(), Fail> {
             "at {depth}"
         );
     }
+    Ok(())
+}
+
+#[test]
+fn reads_what_stands_in_tags(rt: HostRuntime) -> Result<(), Fail> {
+    assert!(rt; read_nothing(rt.alloc(), " ").is_ok());
+    let name = read_name(rt.alloc(), " a-b ").ok().ok_or("a name")?;
+    assert!(rt; name.as_str() == "a-b");
+    let assign = read_assign(rt.alloc(), "a = b | f").ok().ok_or("assign")?;
+    assert!(rt; assign.name.as_str() == "a" && assign.value.filters.as_slice().len() == 1);
+    let values = read_values(rt.alloc(), "1, 2 or 3").ok().ok_or("values")?;
+    assert!(rt; values.as_slice().len() == 3);
+    let cycle = read_cycle(rt.alloc(), "g: 1, 2").ok().ok_or("a cycle")?;
+    assert!(rt; cycle.group.is_some() && cycle.values.as_slice().len() == 2);
+    let found = read_loop(rt.alloc(), LoopKind::For, "x in y limit:2 reversed")
+        .ok()
+        .ok_or("a loop")?;
+    assert!(rt;
+        matches!(
+            found.parts.as_slice(),
+            [LoopPart::Number(LoopKey::Limit, _), LoopPart::Reversed]
+        )
+    );
+    let include = read_include(rt.alloc(), " a{{ b }}.html x=1 ")
+        .ok()
+        .ok_or("an include")?;
+    assert!(rt;
+        matches!(
+            include.file.as_slice(),
+            [NamePart::Text(_), NamePart::Output(_), NamePart::Text(_)]
+        )
+    );
+    assert!(rt; include.params.as_slice().len() == 1);
+    let path = read_path(rt.alloc(), " my page.md ").ok().ok_or("a path")?;
+    assert!(rt; path.as_slice().len() == 1);
+    let language = read_language(rt.alloc(), " c++ linenos")
+        .ok()
+        .ok_or("a language")?;
+    assert!(rt; language.as_str() == "c++");
     Ok(())
 }

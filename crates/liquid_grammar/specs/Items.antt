@@ -9,6 +9,7 @@ use Rattle.liquid_grammar.specs.declared.piece.PieceKind.TheVariants as kind
 use Rattle.liquid_grammar.specs.declared.piece.Piece.{Piece}
 use Rattle.liquid_grammar.specs.declared.expression.Expr.{Expr}
 use Rattle.liquid_grammar.specs.declared.condition.Condition.{Condition}
+use Rattle.liquid_grammar.specs.declared.tag.LoopKind.TheVariants as loop_kind
 use Rattle.liquid_grammar.specs.declared.tag.Loop.{Loop}
 use Rattle.liquid_grammar.specs.declared.tag.Include.{Include}
 use Rattle.liquid_grammar.specs.declared.tag.Assign.{Assign}
@@ -30,7 +31,7 @@ use Rattle.liquid_grammar.specs.Pieces.{begins, after_white}
 use Rattle.liquid_grammar.specs.Tokens.{is_letter, is_name_byte}
 use Rattle.liquid_grammar.specs.Expressions.{read_expression}
 use Rattle.liquid_grammar.specs.Conditions.{read_condition}
-use Rattle.liquid_grammar.specs.Tags.{read_nothing, read_name, read_assign, read_values, read_cycle, read_for, read_table_row, read_include, read_path, read_language, inside}
+use Rattle.liquid_grammar.specs.Tags.{read_nothing, read_name, read_assign, read_values, read_cycle, read_loop, read_include, read_path, read_language, inside}
 
 -- ---- Faults
 
@@ -70,8 +71,8 @@ abbrev pub opening : BlockName → List ℕ → Result Item FaultKind
 opening block_name.If rest = made opens_if (read_condition rest)
 opening block_name.Unless rest = made opens_unless (read_condition rest)
 opening block_name.Case rest = made (λ e. item.Opens (block.Case e) Body) (read_expression rest)
-opening block_name.For rest = made (λ l. item.Opens (block.For l) Body) (read_for rest)
-opening block_name.TableRow rest = made (λ l. item.Opens (block.TableRow l) Body) (read_table_row rest)
+opening block_name.For rest = made (λ l. item.Opens (block.For l) Body) (read_loop loop_kind.For rest)
+opening block_name.TableRow rest = made (λ l. item.Opens (block.TableRow l) Body) (read_loop loop_kind.TableRow rest)
 opening block_name.Capture rest = made (λ x. item.Opens (block.Capture x) Body) (read_name rest)
 opening block_name.Highlight rest = made (λ x. item.Opens (block.Highlight x) Body) (read_language rest)
 opening block_name.Raw rest = made (λ _. item.Raw) (read_nothing rest)

@@ -10,11 +10,15 @@ use Rattle.liquid_grammar.specs.declared.expression.Expr.{Expr}
 use Rattle.liquid_grammar.specs.declared.expression.Parameter.{Parameter}
 use Rattle.liquid_grammar.specs.declared.tag.Assign.{Assign}
 use Rattle.liquid_grammar.specs.declared.tag.Cycle.{Cycle}
+use Rattle.liquid_grammar.specs.declared.tag.LoopKind.{LoopKind}
+use Rattle.liquid_grammar.specs.declared.tag.LoopKind.TheVariants.{For, TableRow}
 use Rattle.liquid_grammar.specs.declared.tag.LoopKey.{LoopKey}
 use Rattle.liquid_grammar.specs.declared.tag.LoopKey.TheVariants.{Limit, Offset, Columns}
 use Rattle.liquid_grammar.specs.declared.tag.LoopPart.{LoopPart}
 use Rattle.liquid_grammar.specs.declared.tag.LoopPart.TheVariants.{Reversed, Number}
 use Rattle.liquid_grammar.specs.declared.tag.Loop.{Loop}
+use Rattle.liquid_grammar.specs.declared.tag.NamePlace.{NamePlace}
+use Rattle.liquid_grammar.specs.declared.tag.NamePlace.TheVariants.{InName, InOutput, InEnd}
 use Rattle.liquid_grammar.specs.declared.tag.NamePart.{NamePart}
 use Rattle.liquid_grammar.specs.declared.tag.NamePart.TheVariants as name_part
 use Rattle.liquid_grammar.specs.declared.tag.Include.{Include}
@@ -121,58 +125,50 @@ named_part None ts = stop
 abbrev pub next_part : List Token → More LoopPart
 next_part ts = named_part (word_at ts) (drop 1 ts)
 
-abbrev pub is_reversed : LoopPart → Bool
-is_reversed Reversed = true
-is_reversed (Number key e) = false
-
 abbrev pub same_key : LoopKey → LoopKey → Bool
 same_key Limit Limit = true
 same_key Offset Offset = true
 same_key Columns Columns = true
 same_key _ _ = false
 
-abbrev pub has_key : LoopKey → LoopPart → Bool
-has_key key Reversed = false
-has_key key (Number other e) = same_key key other
+-- `reversed` is the part without a key
+abbrev pub has_key : Option LoopKey → LoopPart → Bool
+has_key None Reversed = true
+has_key None (Number other e) = false
+has_key (Some key) Reversed = false
+has_key (Some key) (Number other e) = same_key key other
 
 -- how many parts have this key
-abbrev pub keys : LoopKey → List LoopPart → ℕ
+abbrev pub keys : Option LoopKey → List LoopPart → ℕ
 keys key parts = count_by (has_key key) parts
 
 -- which parts may come, and each of them once
 abbrev pub fits_for : List LoopPart → Bool
-fits_for parts = nat_lt (keys Limit parts) 2 && nat_lt (keys Offset parts) 2 && nat_lt (keys Columns parts) 1 && nat_lt (count_by is_reversed parts) 2
+fits_for parts = nat_lt (keys (Some Limit) parts) 2 && nat_lt (keys (Some Offset) parts) 2 && nat_lt (keys (Some Columns) parts) 1 && nat_lt (keys None parts) 2
 
 abbrev pub fits_table_row : List LoopPart → Bool
-fits_table_row parts = nat_lt (keys Limit parts) 2 && nat_lt (keys Offset parts) 2 && nat_lt (keys Columns parts) 2 && nat_lt (count_by is_reversed parts) 1
+fits_table_row parts = nat_lt (keys (Some Limit) parts) 2 && nat_lt (keys (Some Offset) parts) 2 && nat_lt (keys (Some Columns) parts) 2 && nat_lt (keys None parts) 1
 
--- where the parts fit
-module _ (fits : List LoopPart → Bool) where
-  abbrev pub fitting : Loop → ℕ → Reading Loop
-  fitting l n = if fits l.parts then Some (l, n) else None
+abbrev pub fits : LoopKind → List LoopPart → Bool
+fits For parts = fits_for parts
+fits TableRow parts = fits_table_row parts
 
-  -- what stands after `name in`
-  abbrev pub loop_over : List ℕ → List Token → Reading Loop
-  loop_over name ts = expression ts >>= λ e. many next_part (drop e.1 ts) >>= λ ps. fitting (record { name = name; list = e.0; parts = ps.0 }) (e.1 + ps.1)
+abbrev pub fitting : LoopKind → Loop → ℕ → Reading Loop
+fitting kind l n = if fits kind l.parts then Some (l, n) else None
 
-  abbrev pub loop_named : Option (List ℕ) → List Token → Reading Loop
-  loop_named (Some name) ts = if is_word (codes "in") ts then after 2 (loop_over name (drop 1 ts)) else None
-  loop_named None ts = None
+-- what stands after `name in`
+abbrev pub loop_over : LoopKind → List ℕ → List Token → Reading Loop
+loop_over kind name ts = expression ts >>= λ e. many next_part (drop e.1 ts) >>= λ ps. fitting kind (record { name = name; list = e.0; parts = ps.0 }) (e.1 + ps.1)
 
-abbrev pub loop_at : (List LoopPart → Bool) → List Token → Reading Loop
-loop_at fits ts = loop_named fits (name_at ts) (drop 1 ts)
+abbrev pub loop_named : LoopKind → Option (List ℕ) → List Token → Reading Loop
+loop_named kind (Some name) ts = if is_word (codes "in") ts then after 2 (loop_over kind name (drop 1 ts)) else None
+loop_named kind None ts = None
 
-unfoldable pub for_loop : List Token → Reading Loop
-for_loop ts = loop_at fits_for ts
+unfoldable pub loop_at : LoopKind → List Token → Reading Loop
+loop_at kind ts = loop_named kind (name_at ts) (drop 1 ts)
 
-unfoldable pub table_row : List Token → Reading Loop
-table_row ts = loop_at fits_table_row ts
-
-abbrev pub read_for : List ℕ → Result Loop Refusal
-read_for bytes = reads for_loop bytes
-
-abbrev pub read_table_row : List ℕ → Result Loop Refusal
-read_table_row bytes = reads table_row bytes
+abbrev pub read_loop : LoopKind → List ℕ → Result Loop Refusal
+read_loop kind bytes = reads (loop_at kind) bytes
 
 -- ---- Names that tags are given: texts with outputs in them
 
@@ -199,10 +195,6 @@ name_parts text None [] = Ok []
 name_parts text (Some line) [] = Err syntax_fault
 name_parts text unclosed (p ∷ ps) = with_part (part_of p.kind (inside text p.inner)) (name_parts text unclosed ps)
 
-abbrev pub some_parts : List NamePart → Result (List NamePart) Refusal
-some_parts [] = Err syntax_fault
-some_parts (p ∷ ps) = Ok (p ∷ ps)
-
 abbrev pub parts_of_cut : List ℕ → Cut → Result (List NamePart) Refusal
 parts_of_cut text c = name_parts text c.unclosed c.pieces
 
@@ -211,23 +203,17 @@ abbrev pub read_name_parts : List ℕ → Result (List NamePart) Refusal
 read_name_parts text = if length text == 0 then Err syntax_fault else parts_of_cut text (cut_of text)
 
 -- where a name ends that runs to white space: white space in an output is no end
-pub data Place : Type 0 where
-  in_name : Place
-  in_output : Place
-  -- between the two bytes of `}}`
-  in_end : Place
+abbrev pub next_place : NamePlace → List ℕ → NamePlace
+next_place InName text = if begins (codes "{{") text then InOutput else InName
+next_place InOutput text = if begins (codes "}}") text then InEnd else InOutput
+next_place InEnd text = InName
 
-abbrev pub next_place : Place → List ℕ → Place
-next_place in_name text = if begins (codes "{{") text then in_output else in_name
-next_place in_output text = if begins (codes "}}") text then in_end else in_output
-next_place in_end text = in_name
+abbrev pub ends_at : NamePlace → ℕ → Bool
+ends_at InName c = is_white c
+ends_at InOutput c = false
+ends_at InEnd c = false
 
-abbrev pub ends_at : Place → ℕ → Bool
-ends_at in_name c = is_white c
-ends_at in_output c = false
-ends_at in_end c = false
-
-unfoldable pub name_len : Place → List ℕ → ℕ
+unfoldable pub name_len : NamePlace → List ℕ → ℕ
 name_len p [] = 0
 name_len p (c ∷ cs) = if ends_at p c then 0 else suc (name_len (next_place p (c ∷ cs)) cs)
 
@@ -249,7 +235,7 @@ include_of (Err e) params = Err e
 abbrev pub read_include : List ℕ → Result Include Refusal
 read_include text =
     let behind = stripped_front text in
-    let n = name_len in_name behind in
+    let n = name_len InName behind in
     include_of (read_name_parts (take n behind)) (read_parameters (drop n behind))
 
 -- a name alone

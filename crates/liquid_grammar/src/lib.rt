@@ -23,4 +23,4 @@ pub use operand::Operand;
 pub use piece::{Front, Piece, PieceKind, Span};
 pub use several::Several;
 pub use step::Step;
-pub use tag::{Assign, Cycle, Include, Loop, LoopKey, LoopPart, NamePart};
+pub use tag::{Assign, Cycle, Include, Loop, LoopKey, LoopKind, LoopPart, NamePart, NamePlace};

@@ -17,6 +17,13 @@ pub struct Cycle {
     pub values: Several<Operand>,
 }
 
+/// Which tag a loop is of.
+#[derive(Clone, Copy, Debug, PartialEq, Eq)]
+pub enum LoopKind {
+    For,
+    TableRow,
+}
+
 /// What a loop is given a number for.
 #[derive(Clone, Copy, Debug, PartialEq, Eq)]
 pub enum LoopKey {
@@ -45,6 +52,15 @@ pub struct Loop {
 pub enum NamePart {
     Text(Text),
     Output(Expr),
+}
+
+/// Where a byte stands in a name that ends at white space.
+#[derive(Clone, Copy, Debug, PartialEq, Eq)]
+pub enum NamePlace {
+    InName,
+    InOutput,
+    /// Between the two bytes of `}}`.
+    InEnd,
 }
 
 /// `include file k=e ..`
