@@ -15,6 +15,7 @@ use Rattle.liquid_grammar.specs.Pieces.{Cut, cut_is, cut_of, is_white, white_len
 use Rattle.liquid_expr.specs.declared.stop.ReadExprError.{ReadExprError}
 use Rattle.liquid_expr.specs.declared.stop.ReadExprError.TheVariants as read_error
 use Rattle.liquid_expr.specs.Readings.{ReadFails}
+use Rattle.liquid_expr.specs.Token.{EndsAscii}
 use Rattle.liquid_grammar.specs.Readings.{Refusal, syntax_fault, overflow}
 
 module _ (p : NamePlace) where
@@ -111,3 +112,8 @@ black_cut xs n e = at (ltb n (length xs)) refl where
       let white : is_white (get_or xs n 0) ≡ true = ap (λ k. is_white (get_or xs k 0)) e ∙ white_if (is_white (get_or xs (prefix_len is_black xs) 0)) stop in
       IsCharBoundary-before_ascii xs n (ltb-true n (length xs) lt) (white_ascii _ white)
   at false le = subst (IsCharBoundary xs) (let k : length xs ≡ n = omega (arith, e, ltb-false n (length xs) le, prefix_len-le-length is_black xs) in k) (IsCharBoundary-end xs)
+
+-- a cut behind an ASCII byte, or at the start
+pub ascii_cut : (xs bytes : List ℕ) (n : ℕ) → IsUtf8 xs → bytes ≡ xs → n ≤ length bytes → EndsAscii bytes n → IsCharBoundary xs n
+ascii_cut xs bytes zero u e le ascii = IsCharBoundary-start xs u
+ascii_cut xs bytes (suc n) u e le ascii = cut_at xs (suc n) u (omega arith) (omega (arith, ap length e)) (subst (λ ys. get_or ys (suc n - 1) 0 < 128) e (ascii (omega arith)))

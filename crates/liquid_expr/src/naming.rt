@@ -5,12 +5,14 @@ ghost use Rattle.liquid_grammar.specs.declared.tag.NamePlace.TheVariants.{InName
 ghost use Rattle.liquid_grammar.specs.Tags.{next_place, ends_at, name_len, trimmed, stripped_front, is_black, first_word, inside, part_of, read_name_parts, read_include, read_path, read_language};
 ghost use Rattle.liquid_expr.specs.Readings.{GivesRead};
 ghost use Rattle.liquid_expr.specs.Spans.{IsSpanOf};
-ghost use Rattle.liquid_expr.specs.Token.{IsCut};
+ghost use Rattle.liquid_grammar.specs.Items.{tag_name_len, tag_name, tag_rest};
+ghost use Rattle.liquid_expr.specs.Token.{EndsAscii, IsCut};
 
 use crate::cutting::cut_up;
 use crate::places::{begins, is_white, tail, white_end_len, white_len};
 use crate::reads::{read_expr, read_params};
 use crate::stop::ReadExprError;
+use crate::token::{is_letter, name_len as token_name_len};
 use liquid_grammar::{Include, NamePart, NamePlace, PieceKind, Several, Span};
 use site_base::Text;
 use std::alloc::Global;
@@ -160,4 +162,41 @@ pub fn read_language(alloc: Global, text: &str) -> Result<Text, ReadExprError>
         return Err(ReadExprError::Syntax);
     }
     Ok(Text::copy(alloc, word)?)
+}
+
+/// What stands between the marks of a tag, cut behind its name.
+pub struct TagText<'a> {
+    /// The name; it is empty where no name stands at the front.
+    pub name: &'a str,
+    pub rest: &'a str,
+}
+
+fn tag_name_len(bytes: &[u8]) -> usize
+    ensures value { result ≡ tag_name_len bytes.now }
+    ensures within { result ≤ length bytes.now }
+    ensures ascii { EndsAscii bytes.now result }
+{
+    match bytes {
+        [first, ..] => {
+            if is_letter(*first) {
+                token_name_len(bytes)
+            } else {
+                0
+            }
+        }
+        [] => 0,
+    }
+}
+
+/// Cuts what stands between the marks of a tag behind the tag's name.
+pub fn tag_text<'a>(text: &'a str) -> TagText<'a>
+    ensures name { result.name.now ≡ tag_name text.now }
+    ensures rest { result.rest.now ≡ tag_rest text.now }
+{
+    let behind = stripped_front(text);
+    let len = tag_name_len(behind.as_bytes());
+    TagText {
+        name: &behind[..len],
+        rest: &behind[len..],
+    }
 }

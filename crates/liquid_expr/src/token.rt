@@ -241,7 +241,7 @@ fn long_mark(first: u8, second: u8) -> Option<Mark>
     }
 }
 
-fn is_letter(byte: u8) -> bool
+pub(crate) fn is_letter(byte: u8) -> bool
     ensures { result ≡ is_letter byte }
 {
     64 < byte && byte < 91 || 96 < byte && byte < 123 || byte == b'_'
@@ -259,7 +259,7 @@ fn is_name_byte(byte: u8) -> bool
     is_letter(byte) || is_digit(byte) || byte == b'-'
 }
 
-fn name_len(bytes: &[u8]) -> usize
+pub(crate) fn name_len(bytes: &[u8]) -> usize
     ensures value { result ≡ prefix_len is_name_byte bytes.now }
     ensures within { result ≤ length bytes.now }
     ensures ascii { EndsAscii bytes.now result }

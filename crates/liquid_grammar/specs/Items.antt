@@ -106,8 +106,18 @@ plain_tag text name rest =
     else naming name rest
 
 -- the block that is ended by a tag of this name
-abbrev pub ended_by : List ℕ → Option BlockName
-ended_by name = if begins (codes "end") name then block_named (drop 3 name) else None
+abbrev pub block_ended : List ℕ → Option BlockName
+block_ended name =
+    if bytes_eq name (codes "endif") then Some block_name.If
+    else if bytes_eq name (codes "endunless") then Some block_name.Unless
+    else if bytes_eq name (codes "endcase") then Some block_name.Case
+    else if bytes_eq name (codes "endfor") then Some block_name.For
+    else if bytes_eq name (codes "endtablerow") then Some block_name.TableRow
+    else if bytes_eq name (codes "endcapture") then Some block_name.Capture
+    else if bytes_eq name (codes "endhighlight") then Some block_name.Highlight
+    else if bytes_eq name (codes "endraw") then Some block_name.Raw
+    else if bytes_eq name (codes "endcomment") then Some block_name.Comment
+    else None
 
 abbrev pub ending : Option BlockName → List ℕ → List ℕ → List ℕ → Result Item FaultKind
 ending (Some b) text name rest = made (λ _. item.Ends b) (read_nothing rest)
@@ -115,19 +125,26 @@ ending None text name rest = plain_tag text name rest
 
 abbrev pub tag_named : Option BlockName → List ℕ → List ℕ → List ℕ → Result Item FaultKind
 tag_named (Some b) text name rest = opening b rest
-tag_named None text name rest = ending (ended_by name) text name rest
+tag_named None text name rest = ending (block_ended name) text name rest
 
 -- how many bytes at the front are a name
 abbrev pub tag_name_len : List ℕ → ℕ
 tag_name_len [] = 0
 tag_name_len (c ∷ cs) = if is_letter c then prefix_len is_name_byte (c ∷ cs) else 0
 
-abbrev pub tag_with : List ℕ → List ℕ → ℕ → Result Item FaultKind
-tag_with text behind n = if n == 0 then Err LiquidSyntax else tag_named (block_named (take n behind)) text (take n behind) (drop n behind)
+-- a tag without a name is none
+abbrev pub tag_with : List ℕ → List ℕ → List ℕ → Result Item FaultKind
+tag_with text name rest = if length name == 0 then Err LiquidSyntax else tag_named (block_named name) text name rest
+
+abbrev pub tag_name : List ℕ → List ℕ
+tag_name text = let behind = after_white text in take (tag_name_len behind) behind
+
+abbrev pub tag_rest : List ℕ → List ℕ
+tag_rest text = let behind = after_white text in drop (tag_name_len behind) behind
 
 -- what stands between the marks of a tag
 unfoldable pub tag_item : List ℕ → Result Item FaultKind
-tag_item text = let behind = after_white text in tag_with text behind (tag_name_len behind)
+tag_item text = tag_with text (tag_name text) (tag_rest text)
 
 -- ---- What pieces say
 

@@ -11,8 +11,14 @@ use Rattle.liquid_grammar.specs.declared.item.BlockName.TheVariants as block_nam
 use Rattle.liquid_grammar.specs.declared.item.Part.{Part}
 use Rattle.liquid_grammar.specs.declared.item.Part.TheVariants.{Body, Test, When, Otherwise}
 use Rattle.liquid_grammar.specs.declared.item.Item.{Item}
-use Rattle.liquid_grammar.specs.declared.item.Item.TheVariants.{Nothing, Opens, Turns, Ends, Raw, Comment}
+use Rattle.liquid_grammar.specs.declared.item.Item.TheVariants.{Nothing}
 use Rattle.liquid_grammar.specs.declared.item.Item.TheVariants as item
+use Rattle.liquid_grammar.specs.declared.item.Verbatim.{Verbatim}
+use Rattle.liquid_grammar.specs.declared.item.Verbatim.TheVariants.{Not}
+use Rattle.liquid_grammar.specs.declared.item.Verbatim.TheVariants as verbatim
+use Rattle.liquid_grammar.specs.declared.item.Move.{Move}
+use Rattle.liquid_grammar.specs.declared.item.Move.TheVariants.{Passes, Adds, Fails}
+use Rattle.liquid_grammar.specs.declared.item.Move.TheVariants as moves
 use Rattle.liquid_grammar.specs.Pieces.{Cut, cut_of}
 use Rattle.liquid_grammar.specs.Items.{item_of}
 
@@ -79,56 +85,41 @@ same_block block_name.Capture block_name.Capture = true
 same_block block_name.Highlight block_name.Highlight = true
 same_block _ _ = false
 
--- ---- Raw texts and comments
-
--- whether the pieces are those of a raw text or a comment, which starts in this line
-pub data Verbatim : Type 0 where
-  plain : Verbatim
-  in_raw : (line : ℕ) → Verbatim
-  in_comment : (line : ℕ) → Verbatim
-
--- what a piece does
-pub data Move : Type 0 where
-  passes : (v : Verbatim) → Move
-  adds : (l : Leaf) → Move
-  opens : (b : Block) → (p : Part) → Move
-  turns : (p : Part) → Move
-  ends : (b : BlockName) → Move
-  fails : (kind : FaultKind) → Move
+-- ---- What pieces do, in raw texts and comments and outside of them
 
 abbrev pub end_move : BlockName → Move
-end_move block_name.Raw = fails LiquidSyntax
-end_move block_name.Comment = fails LiquidSyntax
-end_move b = ends b
+end_move block_name.Raw = Fails LiquidSyntax
+end_move block_name.Comment = Fails LiquidSyntax
+end_move b = moves.Ends b
 
 abbrev pub raw_end : ℕ → BlockName → Move
-raw_end line block_name.Raw = passes plain
-raw_end line _ = fails LiquidSyntax
+raw_end line block_name.Raw = Passes Not
+raw_end line _ = Fails LiquidSyntax
 
 abbrev pub comment_end : ℕ → BlockName → Move
-comment_end line block_name.Comment = passes plain
-comment_end line _ = fails LiquidSyntax
+comment_end line block_name.Comment = Passes Not
+comment_end line _ = Fails LiquidSyntax
 
 -- a raw text holds text alone, and a comment nothing that is kept
 abbrev pub move : Verbatim → ℕ → Item → Move
-move plain line Nothing = passes plain
-move plain line (item.Leaf l) = adds l
-move plain line (Opens b p) = opens b p
-move plain line (Turns p) = turns p
-move plain line (Ends b) = end_move b
-move plain line Raw = passes (in_raw line)
-move plain line Comment = passes (in_comment line)
-move (in_raw start) line Nothing = passes (in_raw start)
-move (in_raw start) line (item.Leaf l) = adds l
-move (in_raw start) line (Ends b) = raw_end start b
-move (in_raw start) line _ = fails LiquidSyntax
-move (in_comment start) line Nothing = passes (in_comment start)
-move (in_comment start) line (Ends b) = comment_end start b
-move (in_comment start) line _ = fails LiquidSyntax
+move Not line Nothing = Passes Not
+move Not line (item.Leaf l) = Adds l
+move Not line (item.Opens b p) = moves.Opens b p
+move Not line (item.Turns p) = moves.Turns p
+move Not line (item.Ends b) = end_move b
+move Not line item.Raw = Passes (verbatim.Raw line)
+move Not line item.Comment = Passes (verbatim.Comment line)
+move (verbatim.Raw start) line Nothing = Passes (verbatim.Raw start)
+move (verbatim.Raw start) line (item.Leaf l) = Adds l
+move (verbatim.Raw start) line (item.Ends b) = raw_end start b
+move (verbatim.Raw start) line _ = Fails LiquidSyntax
+move (verbatim.Comment start) line Nothing = Passes (verbatim.Comment start)
+move (verbatim.Comment start) line (item.Ends b) = comment_end start b
+move (verbatim.Comment start) line _ = Fails LiquidSyntax
 
 abbrev pub move_in : Verbatim → ℕ → Result Item FaultKind → Move
 move_in v line (Ok i) = move v line i
-move_in v line (Err kind) = fails kind
+move_in v line (Err kind) = Fails kind
 
 -- ---- Blocks
 
@@ -189,17 +180,17 @@ first_opening line b p = record { line = line; block = b; parts = done; part_lin
 -- the end of the text, or a piece without its end
 abbrev pub last_rest : Option ℕ → Verbatim → Rest
 last_rest (Some line) v = faulty (fault line LiquidSyntax)
-last_rest None plain = at_end done
-last_rest None (in_raw line) = faulty (fault line LiquidSyntax)
-last_rest None (in_comment line) = faulty (fault line LiquidSyntax)
+last_rest None Not = at_end done
+last_rest None (verbatim.Raw line) = faulty (fault line LiquidSyntax)
+last_rest None (verbatim.Comment line) = faulty (fault line LiquidSyntax)
 
 abbrev pub after_move : Verbatim → ℕ → Move → (Verbatim → Rest) → Rest
-after_move v line (passes w) rest = rest w
-after_move v line (adds l) rest = in_front (leaf line l) (rest v)
-after_move v line (opens b p) rest = block_from (first_opening line b p) (rest v)
-after_move v line (turns p) rest = turned done line p (rest v)
-after_move v line (ends b) rest = ended done line b (rest v)
-after_move v line (fails kind) rest = faulty (fault line kind)
+after_move v line (Passes w) rest = rest w
+after_move v line (Adds l) rest = in_front (leaf line l) (rest v)
+after_move v line (moves.Opens b p) rest = block_from (first_opening line b p) (rest v)
+after_move v line (moves.Turns p) rest = turned done line p (rest v)
+after_move v line (moves.Ends b) rest = ended done line b (rest v)
+after_move v line (Fails kind) rest = faulty (fault line kind)
 
 -- the pieces of a text, up to a piece without its end
 module _ (text : List ℕ) (unclosed : Option ℕ) where
@@ -215,7 +206,7 @@ whole (ended nodes line b after) = Err (fault line LiquidSyntax)
 whole (faulty f) = Err f
 
 abbrev pub tree_of_cut : List ℕ → Cut → Result Tree Fault
-tree_of_cut text c = whole (rest_of text c.unclosed plain c.pieces)
+tree_of_cut text c = whole (rest_of text c.unclosed Not c.pieces)
 
 abbrev pub tree : List ℕ → Result Tree Fault
 tree text = tree_of_cut text (cut_of text)

@@ -1,6 +1,6 @@
 // What the pieces of a template say.
 use crate::{Assign, Condition, Cycle, Expr, Include, Loop, NamePart, Operand, Several};
-use site_base::Text;
+use site_base::{FaultKind, Text};
 
 /// What holds nothing else.
 #[derive(Drop)]
@@ -73,4 +73,23 @@ pub enum Item {
     Ends(BlockName),
     Raw,
     Comment,
+}
+
+/// Whether pieces are those of a raw text or of a comment, which starts in this line.
+#[derive(Clone, Copy, Debug, PartialEq, Eq)]
+pub enum Verbatim {
+    Not,
+    Raw(u64),
+    Comment(u64),
+}
+
+/// What a piece does to the tree.
+#[derive(Drop)]
+pub enum Move {
+    Passes(Verbatim),
+    Adds(Leaf),
+    Opens(Block, Part),
+    Turns(Part),
+    Ends(BlockName),
+    Fails(FaultKind),
 }

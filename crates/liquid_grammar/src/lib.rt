@@ -16,7 +16,7 @@ mod tag;
 
 pub use condition::{Condition, Joined, Test};
 pub use expression::{Expr, Filter, Parameter, Params};
-pub use item::{Block, BlockName, Item, Leaf, Part};
+pub use item::{Block, BlockName, Item, Leaf, Move, Part, Verbatim};
 pub use literal::Literal;
 pub use mark::{Comparison, Joint, Mark};
 pub use operand::Operand;
