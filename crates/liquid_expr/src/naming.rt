@@ -165,6 +165,7 @@ pub fn read_language(alloc: Global, text: &str) -> Result<Text, ReadExprError>
 }
 
 /// What stands between the marks of a tag, cut behind its name.
+#[derive(Clone, Copy)]
 pub struct TagText<'a> {
     /// The name; it is empty where no name stands at the front.
     pub name: &'a str,

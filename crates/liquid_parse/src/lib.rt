@@ -1,13 +1,14 @@
-// A library with one function.
+//! Templates: what each piece of a text says, and the tree that the pieces make.
 #![tactic(auto)]
 
-ghost use Rattle.std.specs.Prelude.{◌≡◌};
-ghost use Rattle.liquid_parse.specs.Echo.{echo_of};
+mod building;
+mod error;
+mod item;
+mod node;
+mod parsing;
+mod template;
 
-// The `ensures` clause is the contract: what `echo` returns is `echo_of` of its argument, a definition
-// in `specs/Echo.antt`, which a caller's clause can cite too.
-pub fn echo(x: usize) -> usize
-    ensures { result ≡ echo_of x }
-{
-    x
-}
+pub use error::ParseError;
+pub use node::Node;
+pub use parsing::parse;
+pub use template::{First, Template, first_of};
