@@ -42,15 +42,15 @@ cut_from_is r = down_is size (cut_is [] None) cut_step falls r
 abbrev pub rest_at : List ℕ → ℕ → ℕ → Bool → Rest
 rest_at bytes at line trims = record { at = at; line = line; trims = trims; text = drop at bytes }
 
-at_some : (bytes : List ℕ) (at line : ℕ) (trims : Bool) → at < length bytes → cut_from (rest_at bytes at line trims) ≡ then_rest (front_of (drop at bytes)) cut_from (rest_at bytes at line trims)
+pub at_some : (bytes : List ℕ) (at line : ℕ) (trims : Bool) → at < length bytes → cut_from (rest_at bytes at line trims) ≡ then_rest (front_of (drop at bytes)) cut_from (rest_at bytes at line trims)
 at_some bytes at line trims lt =
     let some : eqb (length (drop at bytes)) 0 ≡ false = ne_eqb (length (drop at bytes)) 0 (λ e. absurd (omega (arith, length-drop at bytes))) in
     cut_from_is (rest_at bytes at line trims) ∙ rw some refl
 
-past_is : (bytes : List ℕ) (at line n : ℕ) (trims then : Bool) → past n then (rest_at bytes at line trims) ≡ rest_at bytes (at + n) (line + line_ends (take n (drop at bytes))) then
+pub past_is : (bytes : List ℕ) (at line n : ℕ) (trims then : Bool) → past n then (rest_at bytes at line trims) ≡ rest_at bytes (at + n) (line + line_ends (take n (drop at bytes))) then
 past_is bytes at line n trims then = ap (λ (text : List ℕ). record { at = at + n; line = line + line_ends (take n (drop at bytes)); trims = then; text = text }) (drop-drop n at bytes)
 
-then_found : (next : Front) (len : ℕ) (s : Rest) → found_len next ≡ Some len → then_rest next cut_from s ≡ with_front (pieces_of next s) (cut_from (past len (trims_after next s.text) s))
+pub then_found : (next : Front) (len : ℕ) (s : Rest) → found_len next ≡ Some len → then_rest next cut_from s ≡ with_front (pieces_of next s) (cut_from (past len (trims_after next s.text) s))
 then_found Unclosed len s e = absurd cc
 then_found (Text n) len s e = let k : n ≡ len = cc in rw k refl
 then_found (Output n) len s e = let k : n ≡ len = cc in subst (λ j. then_rest (Output n) cut_from s ≡ with_front (pieces_of (Output n) s) (cut_from (past j (trims_after (Output n) s.text) s))) k refl
@@ -72,7 +72,7 @@ goes_on front bytes at line len trims total lt found so_far =
     let one : cut_from here ≡ with_front (pieces_of next here) (cut_from later) = at_some bytes at line trims lt ∙ then_found next len here found ∙ ap (λ r. with_front (pieces_of next here) (cut_from r)) (past_is bytes at line len trims then) in
     sym (joined front (pieces_of next here) (cut_from later)) ∙ ap (with_front front) (sym one) ∙ so_far
 
-then_none : (next : Front) (s : Rest) → found_len next ≡ None → then_rest next cut_from s ≡ cut_is [] (Some s.line)
+pub then_none : (next : Front) (s : Rest) → found_len next ≡ None → then_rest next cut_from s ≡ cut_is [] (Some s.line)
 then_none Unclosed s e = refl
 then_none (Text n) s e = absurd cc
 then_none (Output n) s e = absurd cc

@@ -5,3 +5,6 @@ pub mod OperandLaws
 pub mod PlacesLaws
 pub mod TokenLaws
 pub mod TokenLoop
+pub mod Wholes
+pub mod SpanLaws
+pub mod NameLaws

@@ -6,8 +6,10 @@ use Rattle.liquid_grammar.specs.declared.step.Step.TheVariants as step
 use Rattle.liquid_grammar.specs.declared.literal.Literal.{Literal}
 use Rattle.liquid_grammar.specs.Tokens.{Token}
 use Rattle.liquid_grammar.specs.Readings.{Reading, after, stop, wrong, more_of, many, ◌>>=◌}
-use Rattle.liquid_grammar.specs.Expressions.{Operand, range, variable, member, index, Link, named, at, walk, closes_bracket, closes_range, goes_to, bracket_end, bracket, link, follow, range_close, range_end, range_at, operand_from, operand_with, start_of, starts_variable, starts_literal, starts_range, no_start, follow_of, follows_name, follows_bracket, follows_nothing, no_follow, operand_in, operand_inside}
-use Rattle.liquid_expr.specs.Steps.{steps_of, link_steps, codes_of, added, more_added}
+use Rattle.liquid_grammar.specs.Expressions.{Link, named, at, walk, closes_bracket, closes_range, goes_to, bracket_end, bracket, link, follow, range_close, range_end, range_at, operand_from, operand_with, start_of, starts_variable, starts_literal, starts_range, no_start, follow_of, follows_name, follows_bracket, follows_nothing, no_follow, operand_in, operand_inside}
+use Rattle.liquid_grammar.specs.Operands.{Operand, range, variable, member, index}
+use Rattle.liquid_expr.specs.Steps.{link_steps, codes_of, added, more_added}
+use Rattle.liquid_grammar.specs.Operands.{steps_of}
 use Rattle.liquid_expr.proofs.Adding.{parts}
 
 pub operand_is : (d : ℕ) (ts : List Token) → operand_in d ts ≡ operand_with (operand_inside d) ts

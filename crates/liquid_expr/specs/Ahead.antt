@@ -1,5 +1,6 @@
 -- What stands ahead, without where it stands.
-use Rattle.std.specs.Prelude.{List, map}
+use Rattle.std.specs.Prelude.{ℕ, List, map, Option, Some, None}
+use Rattle.std.specs.Borrow.{Bor}
 use Rattle.liquid_grammar.specs.Tokens as grammar
 use Rattle.liquid_grammar.specs.Expressions as expressions
 use Rattle.liquid_expr.specs.declared.token.Token.{Token}
@@ -23,3 +24,7 @@ follow_is (follow.Name name) = expressions.follows_name name.now
 follow_is follow.Bracket = expressions.follows_bracket
 follow_is follow.Nothing = expressions.follows_nothing
 follow_is follow.End = expressions.no_follow
+
+abbrev pub text_of : Option (Bor (List ℕ)) → Option (List ℕ)
+text_of (Some t) = Some t.now
+text_of None = None

@@ -1,18 +1,12 @@
--- The steps of an operand for a stack of values: first those of its parts, from left to right.
+-- What readings add to a list.
 use Rattle.std.specs.Prelude.{◌≡◌, ℕ, List, [], ◌∷◌, ◌++◌, Option, Some, None, Result, Ok, Err}
 use Rattle.liquid_grammar.specs.declared.step.Step.{Step}
 use Rattle.liquid_grammar.specs.declared.step.Step.TheVariants as step
-use Rattle.liquid_grammar.specs.Expressions.{Operand, literal, range, variable, member, index, Link, named, at}
+use Rattle.liquid_grammar.specs.Operands.{steps_of}
+use Rattle.liquid_grammar.specs.Expressions.{Link, named, at}
 use Rattle.liquid_grammar.specs.Readings.{Reading, More, stop, wrong, one}
 use Rattle.liquid_expr.specs.declared.stop.Stop.{Stop}
 use Rattle.liquid_expr.specs.declared.stop.Stop.TheVariants.{NoReading, Memory}
-
-abbrev pub steps_of : Operand → List Step
-steps_of (literal l) = step.Literal l ∷ []
-steps_of (range a b) = steps_of a ++ (steps_of b ++ step.Range ∷ [])
-steps_of (variable name) = step.Variable name ∷ []
-steps_of (member e name) = steps_of e ++ step.Member name ∷ []
-steps_of (index e x) = steps_of e ++ (steps_of x ++ step.Index ∷ [])
 
 abbrev pub link_steps : Link → List Step
 link_steps (named name) = step.Member name ∷ []

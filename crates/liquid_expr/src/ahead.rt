@@ -1,10 +1,12 @@
 // What the next tokens are.
-ghost use Rattle.std.specs.Prelude.{◌≡◌, drop, IfOk};
-ghost use Rattle.liquid_grammar.specs.Expressions.{word_literal, is_joining, word_start, start_of, follow_of, closes_bracket, closes_range, goes_to};
-ghost use Rattle.liquid_expr.specs.Ahead.{tokens_of, start_is, follow_is};
+ghost use Rattle.std.specs.Prelude.{◌≡◌, ◌+◌, ◌≤◌, drop, length, codes, IfOk};
+ghost use Rattle.liquid_grammar.specs.Expressions.{word_literal, is_joining, word_start, start_of, follow_of, closes_bracket, closes_range, goes_to, is_comma, is_bar, is_colon, word_at};
+ghost use Rattle.liquid_grammar.specs.Conditions.{is_assign, comparison, joint_of, joint};
+ghost use Rattle.liquid_grammar.specs.Tags.{is_reserved, name_at, is_word};
+ghost use Rattle.liquid_expr.specs.Ahead.{tokens_of, text_of, start_is, follow_is};
 
 use crate::token::Token;
-use liquid_grammar::{Literal, Mark};
+use liquid_grammar::{Comparison, Joint, Literal, Mark};
 use site_base::{Memory, Text};
 use std::alloc::Global;
 
@@ -122,4 +124,117 @@ pub(crate) fn goes_to(tokens: &[Token]) -> bool
     ensures { result ≡ goes_to (tokens_of tokens.now) }
 {
     matches!(tokens, [Token::Mark(Mark::To), ..])
+}
+
+/// What follows the first tokens, of which there are so many.
+pub(crate) fn behind<'a, 'b>(tokens: &'b [Token<'a>], len: usize) -> &'b [Token<'a>]
+    requires { len ≤ length tokens.now }
+    ensures seen { tokens_of result.now ≡ drop len (tokens_of tokens.now) }
+    ensures len { length result.now + len ≡ length tokens.now }
+{
+    rest(tokens, len)
+}
+
+pub(crate) fn is_comma(tokens: &[Token]) -> bool
+    ensures { result ≡ is_comma (tokens_of tokens.now) }
+{
+    matches!(tokens, [Token::Mark(Mark::Comma), ..])
+}
+
+pub(crate) fn is_bar(tokens: &[Token]) -> bool
+    ensures { result ≡ is_bar (tokens_of tokens.now) }
+{
+    matches!(tokens, [Token::Mark(Mark::Bar), ..])
+}
+
+pub(crate) fn is_colon(tokens: &[Token]) -> bool
+    ensures { result ≡ is_colon (tokens_of tokens.now) }
+{
+    matches!(tokens, [Token::Mark(Mark::Colon), ..])
+}
+
+pub(crate) fn is_assign(tokens: &[Token]) -> bool
+    ensures { result ≡ is_assign (tokens_of tokens.now) }
+{
+    matches!(tokens, [Token::Mark(Mark::Assign), ..])
+}
+
+/// The word at the front.
+pub(crate) fn word_at<'a>(tokens: &[Token<'a>]) -> Option<&'a str>
+    ensures { text_of result ≡ word_at (tokens_of tokens.now) }
+{
+    match tokens {
+        [Token::Word(name), ..] => Some(*name),
+        _ => None,
+    }
+}
+
+/// The comparison at the front.
+pub(crate) fn comparison(tokens: &[Token]) -> Option<Comparison>
+    ensures { result ≡ comparison (tokens_of tokens.now) }
+{
+    match tokens {
+        [Token::Mark(Mark::Compare(how)), ..] => Some(*how),
+        [Token::Word(name), ..] if *name == "contains" => Some(Comparison::Contains),
+        _ => None,
+    }
+}
+
+/// The joint at the front.
+pub(crate) fn joint(tokens: &[Token]) -> Option<Joint>
+    ensures { result ≡ joint (tokens_of tokens.now) }
+{
+    match tokens {
+        [Token::Word(name), ..] => joint_of(name),
+        _ => None,
+    }
+}
+
+fn joint_of(name: &str) -> Option<Joint>
+    ensures { result ≡ joint_of name.now }
+{
+    if name == "and" {
+        Some(Joint::And)
+    } else if name == "or" {
+        Some(Joint::Or)
+    } else {
+        None
+    }
+}
+
+// Whether a word names no variable.
+fn is_reserved(name: &str) -> bool
+    ensures { result ≡ is_reserved name.now }
+{
+    word_literal(name).is_some() || is_joining(name)
+}
+
+/// The name of a variable at the front.
+pub(crate) fn name_at<'a>(tokens: &[Token<'a>]) -> Option<&'a str>
+    ensures { text_of result ≡ name_at (tokens_of tokens.now) }
+{
+    match word_at(tokens) {
+        Some(name) => { if is_reserved(name) { None } else { Some(name) } }
+        None => None,
+    }
+}
+
+/// Whether `or` stands at the front.
+pub(crate) fn is_or(tokens: &[Token]) -> bool
+    ensures { result ≡ is_word (codes "or") (tokens_of tokens.now) }
+{
+    match word_at(tokens) {
+        Some(name) => name == "or",
+        None => false,
+    }
+}
+
+/// Whether `in` stands at the front.
+pub(crate) fn is_in(tokens: &[Token]) -> bool
+    ensures { result ≡ is_word (codes "in") (tokens_of tokens.now) }
+{
+    match word_at(tokens) {
+        Some(name) => name == "in",
+        None => false,
+    }
 }

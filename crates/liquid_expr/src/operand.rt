@@ -3,7 +3,8 @@ ghost use Rattle.std.specs.Prelude.{◌≡◌, ◌+◌, ◌<◌, ◌≤◌, leng
 ghost use Rattle.liquid_grammar.specs.Readings.{many};
 ghost use Rattle.liquid_grammar.specs.Expressions.{operand_in, operand_inside, link, bracket, range_at};
 ghost use Rattle.liquid_expr.specs.Ahead.{tokens_of};
-ghost use Rattle.liquid_expr.specs.Steps.{steps_of, link_steps, codes_of, Adds, AddsMore};
+ghost use Rattle.liquid_expr.specs.Steps.{link_steps, codes_of, Adds, AddsMore};
+ghost use Rattle.liquid_grammar.specs.Operands.{steps_of};
 
 use crate::ahead::{
     Follow, Start, closes_bracket, closes_range, follow_of, goes_to, rest, start_of,
@@ -164,21 +165,5 @@ mod tests {
         for (text, len) in rows {
             assert!(rt; count(rt.alloc(), text) == len, "at {text:?}");
         }
-    }
-
-    #[test]
-    fn counts_open_brackets(rt: HostRuntime) -> Result<(), Fail> {
-        for (depth, len) in [(100, Some(301)), (101, None)] {
-            let mut text = String::new(rt.alloc());
-            for _ in 0..depth {
-                text.push_str("a[")?;
-            }
-            text.push_str("1")?;
-            for _ in 0..depth {
-                text.push_str("]")?;
-            }
-            assert!(rt; count(rt.alloc(), text.as_str()) == len, "at {depth}");
-        }
-        Ok(())
     }
 }

@@ -1,5 +1,6 @@
 // Where something stands in a text.
 ghost use Rattle.std.specs.Prelude.{◌≡◌, ◌+◌, ◌≤◌, length, drop, count_by, ◌==◌};
+ghost use Rattle.std.specs.List.{suffix_len};
 ghost use Rattle.liquid_grammar.specs.Pieces.{first_place, begins, opens, is_tag, is_white, white_len, after_white, after_dash, line_ends};
 
 /// What follows a place.
@@ -70,6 +71,17 @@ pub(crate) fn white_len(text: &[u8]) -> usize
     ensures within { result ≤ length text.now }
 {
     text.iter().take_while(|byte| is_white(**byte)).count()
+}
+
+/// How many bytes of white space stand at the end.
+pub(crate) fn white_end_len(text: &[u8]) -> usize
+    ensures value { result ≡ suffix_len is_white text.now }
+    ensures within { result ≤ length text.now }
+{
+    text.iter()
+        .rev()
+        .take_while(|byte| is_white(**byte))
+        .count()
 }
 
 fn after_white(text: &[u8]) -> &[u8]

@@ -1,20 +1,9 @@
 // What is left of a piece without its marks, dashes and stripped white space.
 ghost use Rattle.std.specs.Prelude.{◌≡◌, ◌+◌, ◌<◌, ◌≤◌, ◌^◌, length};
-ghost use Rattle.std.specs.List.{suffix_len};
-ghost use Rattle.liquid_grammar.specs.Pieces.{is_white, has_first_dash, inside_at, stripped_at};
+ghost use Rattle.liquid_grammar.specs.Pieces.{has_first_dash, inside_at, stripped_at};
 
-use crate::places::{is_white, white_len};
+use crate::places::{white_end_len, white_len};
 use liquid_grammar::Span;
-
-fn white_end_len(text: &[u8]) -> usize
-    ensures value { result ≡ suffix_len is_white text.now }
-    ensures within { result ≤ length text.now }
-{
-    text.iter()
-        .rev()
-        .take_while(|byte| is_white(**byte))
-        .count()
-}
 
 fn has_first_dash(text: &[u8]) -> bool
     ensures { result ≡ has_first_dash text.now }

@@ -2,7 +2,7 @@
 ghost use Rattle.std.specs.Prelude.{◌≡◌, ◌+◌, ◌-◌, ◌<◌, ◌≤◌, ◌==◌, not, length, take, drop, map, slice_index, IfOk, IfSome, OnSome, true, MatchOption, Some, None};
 ghost use Rattle.std.specs.List.{prefix_len};
 ghost use Rattle.std.specs.Str.Parse.{IsNumeral, without_leading_sign};
-ghost use Rattle.liquid_grammar.specs.Tokens.{short_at, is_letter, is_digit, is_name_byte, whole_token, sign_len, whole_len, fraction_len, short_mark, long_mark, mark_at, quoted_at, number_at, number_or_mark, token_at, tokens, text};
+ghost use Rattle.liquid_grammar.specs.Tokens.{is_large, short_at, is_letter, is_digit, is_name_byte, whole_token, sign_len, whole_len, fraction_len, short_mark, long_mark, mark_at, quoted_at, number_at, number_or_mark, token_at, tokens, text};
 ghost use Rattle.liquid_grammar.specs.Pieces.{is_white};
 ghost use Rattle.liquid_expr.specs.Token.{token_of, found_of, marked_of, EndsAscii, IsCut, IsFound, IsWhole};
 
@@ -21,6 +21,13 @@ pub(crate) enum Token<'a> {
     /// A whole number that is no i64.
     Large,
     Mark(Mark),
+}
+
+/// Whether it is a whole number that is no i64.
+pub(crate) fn is_large(token: &Token) -> bool
+    ensures { result ≡ is_large (token_of token.now) }
+{
+    matches!(token, Token::Large)
 }
 
 /// The tokens of a text, or None where something in it is no token.
@@ -234,7 +241,7 @@ fn long_mark(first: u8, second: u8) -> Option<Mark>
     }
 }
 
-fn is_letter(byte: u8) -> bool
+pub(crate) fn is_letter(byte: u8) -> bool
     ensures { result ≡ is_letter byte }
 {
     64 < byte && byte < 91 || 96 < byte && byte < 123 || byte == b'_'
@@ -252,7 +259,7 @@ fn is_name_byte(byte: u8) -> bool
     is_letter(byte) || is_digit(byte) || byte == b'-'
 }
 
-fn name_len(bytes: &[u8]) -> usize
+pub(crate) fn name_len(bytes: &[u8]) -> usize
     ensures value { result ≡ prefix_len is_name_byte bytes.now }
     ensures within { result ≤ length bytes.now }
     ensures ascii { EndsAscii bytes.now result }

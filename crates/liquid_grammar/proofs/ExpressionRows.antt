@@ -6,10 +6,14 @@ use Rattle.liquid_grammar.specs.declared.mark.Mark.TheVariants.{To, Compare}
 use Rattle.liquid_grammar.specs.declared.mark.Joint.TheVariants.{And, Or}
 use Rattle.liquid_grammar.specs.Tokens.{word, text, whole, large, mark, tokens, tokens_after}
 use Rattle.liquid_grammar.specs.Readings.{many_after, syntax_fault, overflow}
-use Rattle.liquid_grammar.specs.Expressions.{Operand, literal, range, variable, member, index, Expression, Filter, filter_of, operand_in, operand, expression, read_expression}
-use Rattle.liquid_grammar.specs.Conditions.{holds, compares, test, joined, test_at, condition, read_condition, read_parameters}
+use Rattle.liquid_grammar.specs.declared.expression.Filter.{Filter}
+use Rattle.liquid_grammar.specs.declared.expression.Expr.{Expr}
+use Rattle.liquid_grammar.specs.declared.condition.Test.TheVariants.{Holds, Compares}
+use Rattle.liquid_grammar.specs.Operands.{Operand, literal, range, variable, member, index}
+use Rattle.liquid_grammar.specs.Expressions.{filter_of, operand_in, operand, expression, read_expression}
+use Rattle.liquid_grammar.specs.Conditions.{test_at, condition, read_condition, read_parameters}
 
-abbrev plain : Operand → List Filter → Expression
+abbrev plain : Operand → List Filter → Expr
 plain e fs = record { operand = e; filters = fs }
 
 abbrev v : List ℕ → Operand
@@ -83,9 +87,12 @@ one_bracket_more : read_expression (nested 101 (codes "a[") (codes "1") (codes "
 unfolding tokens_after many_after operand operand_in expression
 one_bracket_more = refl
 
-from_the_right : read_condition (codes "a and b<>1 or c contains \"d\"") ≡ Ok (joined (holds (v (codes "a"))) And (joined (compares (v (codes "b")) comparison.Unequal (int 1)) Or (test (compares (v (codes "c")) comparison.Contains (literal (literals.Text (codes "d")))))))
+three_tests : read_condition (codes "a and b<>1 or c contains \"d\"") ≡ Ok (record {
+  first = Holds (v (codes "a"));
+  rest = record { joint = And; test = Compares (v (codes "b")) comparison.Unequal (int 1) } ∷ record { joint = Or; test = Compares (v (codes "c")) comparison.Contains (literal (literals.Text (codes "d"))) } ∷ [];
+})
 unfolding tokens_after many_after operand operand_in test_at condition
-from_the_right = refl
+three_tests = refl
 
 no_right_side : read_condition (codes "a ==") ≡ Err syntax_fault
 unfolding tokens_after many_after operand operand_in test_at condition

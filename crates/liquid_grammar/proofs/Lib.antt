@@ -1,2 +1,3 @@
 mod ExpressionRows
 mod Rows
+mod TreeRows

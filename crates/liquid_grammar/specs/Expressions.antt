@@ -4,25 +4,11 @@ use Rattle.std.specs.Str.{bytes_eq}
 use Rattle.liquid_grammar.specs.declared.literal.Literal.{Literal}
 use Rattle.liquid_grammar.specs.declared.literal.Literal.TheVariants as literals
 use Rattle.liquid_grammar.specs.declared.mark.Mark.TheVariants.{Dot, To, OpenBracket, CloseBracket, OpenRange, CloseRange, Bar, Colon, Comma}
+use Rattle.liquid_grammar.specs.declared.expression.Filter.{Filter}
+use Rattle.liquid_grammar.specs.declared.expression.Expr.{Expr}
+use Rattle.liquid_grammar.specs.Operands.{Operand, literal, range, variable, member, index}
 use Rattle.liquid_grammar.specs.Tokens.{Token, word, text, whole, large, mark}
 use Rattle.liquid_grammar.specs.Readings.{Reading, ◌>>=◌, after, More, stop, wrong, one, more_of, many, Refusal, reads}
-
-pub data Operand : Type 0 where
-  literal : (l : Literal) → Operand
-  range : (a b : Operand) → Operand
-  variable : (name : List ℕ) → Operand
-  -- `e.name`
-  member : (e : Operand) → (name : List ℕ) → Operand
-  -- `e[x]`
-  index : (e x : Operand) → Operand
-
-pub record Filter : Type 0 where
-  pub name : List ℕ
-  pub arguments : List Operand
-
-pub record Expression : Type 0 where
-  pub operand : Operand
-  pub filters : List Filter
 
 -- ---- Words
 
@@ -162,9 +148,25 @@ operand ts = operand_in 100 ts
 
 -- ---- Filters
 
+abbrev pub is_comma : List Token → Bool
+is_comma (mark Comma ∷ rest) = true
+is_comma _ = false
+
+abbrev pub is_bar : List Token → Bool
+is_bar (mark Bar ∷ rest) = true
+is_bar _ = false
+
+abbrev pub is_colon : List Token → Bool
+is_colon (mark Colon ∷ rest) = true
+is_colon _ = false
+
+-- the word at the front
+abbrev pub word_at : List Token → Option (List ℕ)
+word_at (word name ∷ rest) = Some name
+word_at _ = None
+
 abbrev pub next_argument : List Token → More Operand
-next_argument (mark Comma ∷ rest) = more_of (after 1 (operand rest))
-next_argument _ = stop
+next_argument ts = if is_comma ts then more_of (after 1 (operand (drop 1 ts))) else stop
 
 -- what stands after the `:` of a filter
 abbrev pub arguments : List Token → Reading (List Operand)
@@ -173,16 +175,21 @@ arguments ts = operand ts >>= λ a. many next_argument (drop a.1 ts) >>= λ othe
 abbrev pub filter_of : List ℕ → List Operand → Filter
 filter_of name arguments = record { name = name; arguments = arguments }
 
+-- what follows the name of a filter: `:` and its arguments, or nothing
+abbrev pub filter_end : List ℕ → List Token → Reading Filter
+filter_end name ts = if is_colon ts then (arguments (drop 1 ts) >>= λ given. Some (filter_of name given.0, 1 + given.1)) else Some (filter_of name [], 0)
+
+abbrev pub named_filter : Option (List ℕ) → List Token → More Filter
+named_filter (Some name) ts = more_of (after 2 (filter_end name ts))
+named_filter None ts = wrong
+
 abbrev pub next_filter : List Token → More Filter
-next_filter (mark Bar ∷ word name ∷ mark Colon ∷ rest) = more_of (arguments rest >>= λ given. Some (filter_of name given.0, 3 + given.1))
-next_filter (mark Bar ∷ word name ∷ rest) = one (filter_of name []) 2
-next_filter (mark Bar ∷ rest) = wrong
-next_filter _ = stop
+next_filter ts = if is_bar ts then named_filter (word_at (drop 1 ts)) (drop 2 ts) else stop
 
 -- an operand and its filters
-unfoldable pub expression : List Token → Reading Expression
+unfoldable pub expression : List Token → Reading Expr
 expression ts = operand ts >>= λ x. many next_filter (drop x.1 ts) >>= λ fs. Some (record { operand = x.0; filters = fs.0 }, x.1 + fs.1)
 
 -- an expression as a whole text
-abbrev pub read_expression : List ℕ → Result Expression Refusal
+abbrev pub read_expression : List ℕ → Result Expr Refusal
 read_expression bytes = reads expression bytes

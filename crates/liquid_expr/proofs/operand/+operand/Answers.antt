@@ -6,7 +6,8 @@ use Rattle.liquid_grammar.specs.Readings.{many, stop}
 use Rattle.liquid_grammar.specs.Expressions.{operand_in, operand_inside, link, range_at, closes_bracket, closes_range, goes_to, start_of, starts_variable, starts_literal, starts_range}
 use Rattle.liquid_expr.specs.Token.{token_of}
 use Rattle.liquid_expr.specs.Ahead.{tokens_of, start_is}
-use Rattle.liquid_expr.specs.Steps.{steps_of, link_steps, codes_of, added, more_added, AddsMore}
+use Rattle.liquid_expr.specs.Steps.{link_steps, codes_of, added, more_added, AddsMore}
+use Rattle.liquid_grammar.specs.Operands.{steps_of}
 use Rattle.liquid_expr.proofs.Adding.{goes_on, ends, fails, pass_error, pass_more, rest_is}
 use Rattle.liquid_expr.proofs.OperandLaws.{operand_is, inside_is, bracket_open, bracket_adds, range_no_end, range_wrong_end, range_open, range_adds, literal_adds, no_operand, range_operand, range_operand_none, variable_adds, variable_none}
 use Rattle.liquid_expr.proofs.operand.+operand.Goals as goal

@@ -1,0 +1,116 @@
+// Expressions.
+ghost use Rattle.std.specs.Prelude.{◌≡◌, ◌≤◌, ◌∷◌, length, IfOk, MatchResult, refl};
+ghost use Rattle.liquid_grammar.specs.Expressions.{operand, next_argument, arguments, filter_end, next_filter, expression};
+ghost use Rattle.liquid_expr.specs.Ahead.{tokens_of};
+ghost use Rattle.liquid_expr.specs.Readings.{IsRead};
+
+use crate::ahead::{behind, is_bar, is_colon, is_comma, word_at};
+use crate::operand::operand;
+use crate::reading::{FromTokens, Repeats, many};
+use crate::stop::Stop;
+use crate::token::Token;
+use liquid_grammar::{Expr, Filter, Operand, Several};
+use site_base::Text;
+use std::alloc::Global;
+
+/// No more brackets than these may be open.
+const MOST_BRACKETS: u32 = 100;
+
+impl FromTokens for Operand {
+    type Value = Operand;
+
+    ghost reading = { operand };
+
+    fn read(alloc: Global, tokens: &[Token]) -> Result<(Operand, usize), Stop> {
+        let mut steps = Vec::new(alloc);
+        let len = operand(alloc, tokens, MOST_BRACKETS, &mut steps)?;
+        Ok((Operand::from_steps(steps), len))
+    }
+}
+
+/// The arguments of a filter after the first, each behind a comma.
+pub(crate) enum Arguments {}
+
+impl Repeats for Arguments {
+    type Item = Operand;
+
+    ghost more = { next_argument };
+
+    fn next(alloc: Global, tokens: &[Token]) -> Result<Option<(Operand, usize)>, Stop> {
+        if !is_comma(tokens) {
+            return Ok(None);
+        }
+        let (value, len) = Operand::read(alloc, behind(tokens, 1))?;
+        Ok(Some((value, 1 + len)))
+    }
+
+    ghost ends = { refl };
+}
+
+/// Puts a value in front of others.
+pub(crate) fn in_front<T: Drop>(first: T, others: Several<T>) -> Result<Several<T>, Stop>
+    ensures { MatchResult result (λ all. all ≡ first ∷ others) (λ error. error ≡ Stop.Memory) }
+{
+    let mut list = others.into_vec();
+    list.insert(0, first)?;
+    Ok(Several::from_vec(list))
+}
+
+/// The arguments of a filter, or the values of a tag: operands between commas.
+pub(crate) fn operands(alloc: Global, tokens: &[Token]) -> Result<(Several<Operand>, usize), Stop>
+    ensures value { IsRead result (arguments (tokens_of tokens.now)) }
+    ensures within { IfOk result (λ found. found.1 ≤ length tokens.now) }
+{
+    let (first, len) = Operand::read(alloc, tokens)?;
+    let (others, more) = many::<Arguments>(alloc, behind(tokens, len))?;
+    Ok((in_front(first, others)?, len + more))
+}
+
+// A filter without its bar and its name.
+fn filter_end(alloc: Global, name: Text, tokens: &[Token]) -> Result<(Filter, usize), Stop>
+    ensures value { IsRead result (filter_end name (tokens_of tokens.now)) }
+    ensures within { IfOk result (λ found. found.1 ≤ length tokens.now) }
+{
+    if !is_colon(tokens) {
+        let arguments = Several::from_vec(Vec::new(alloc));
+        return Ok((Filter { name, arguments }, 0));
+    }
+    let (arguments, len) = operands(alloc, behind(tokens, 1))?;
+    Ok((Filter { name, arguments }, 1 + len))
+}
+
+/// The filters of an expression, each behind a bar.
+pub(crate) enum Filters {}
+
+impl Repeats for Filters {
+    type Item = Filter;
+
+    ghost more = { next_filter };
+
+    fn next(alloc: Global, tokens: &[Token]) -> Result<Option<(Filter, usize)>, Stop> {
+        if !is_bar(tokens) {
+            return Ok(None);
+        }
+        let name = match word_at(behind(tokens, 1)) {
+            Some(name) => Text::copy(alloc, name)?,
+            None => return Err(Stop::NoReading),
+        };
+        let (filter, len) = filter_end(alloc, name, behind(tokens, 2))?;
+        Ok(Some((filter, 2 + len)))
+    }
+
+    ghost ends = { refl };
+}
+
+impl FromTokens for Expr {
+    type Value = Expr;
+
+    ghost reading = { expression };
+
+    #[tactic(auto, unfolding(liquid_grammar::specs::Expressions::expression))]
+    fn read(alloc: Global, tokens: &[Token]) -> Result<(Expr, usize), Stop> {
+        let (operand, len) = Operand::read(alloc, tokens)?;
+        let (filters, more) = many::<Filters>(alloc, behind(tokens, len))?;
+        Ok((Expr { operand, filters }, len + more))
+    }
+}

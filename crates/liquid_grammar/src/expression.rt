@@ -1,0 +1,27 @@
+// Expressions.
+use crate::{Operand, Several};
+use site_base::Text;
+
+/// A filter with its arguments.
+#[derive(Drop)]
+pub struct Filter {
+    pub name: Text,
+    pub arguments: Several<Operand>,
+}
+
+/// An operand, and the filters that its value goes through, from the first to the last.
+#[derive(Drop)]
+pub struct Expr {
+    pub operand: Operand,
+    pub filters: Several<Filter>,
+}
+
+/// A parameter `name=value` of a tag.
+#[derive(Drop)]
+pub struct Parameter {
+    pub name: Text,
+    pub value: Expr,
+}
+
+/// The parameters of a tag, in their order.
+pub type Params = Several<Parameter>;

@@ -1,0 +1,95 @@
+// What the pieces of a template say.
+use crate::{Assign, Condition, Cycle, Expr, Include, Loop, NamePart, Operand, Several};
+use site_base::{FaultKind, Text};
+
+/// What holds nothing else.
+#[derive(Drop)]
+pub enum Leaf {
+    Text(Text),
+    Output(Expr),
+    Assign(Assign),
+    /// The text of the tag, and what it says.
+    Cycle(Text, Cycle),
+    Increment(Text),
+    Decrement(Text),
+    Break,
+    Continue,
+    Include(Include),
+    IncludeRelative(Include),
+    Link(Several<NamePart>),
+    PostUrl(Several<NamePart>),
+}
+
+/// What a block's tag says.
+#[derive(Drop)]
+pub enum Block {
+    If,
+    Unless,
+    Case(Expr),
+    For(Loop),
+    TableRow(Loop),
+    Capture(Text),
+    /// The language that is named.
+    Highlight(Text),
+}
+
+/// A block by its name.
+#[derive(Clone, Copy, Debug, PartialEq, Eq)]
+pub enum BlockName {
+    If,
+    Unless,
+    Case,
+    For,
+    TableRow,
+    Capture,
+    Highlight,
+    Raw,
+    Comment,
+}
+
+/// How a part of a block begins.
+#[derive(Drop)]
+pub enum Part {
+    /// With the block itself, where its tag holds no test. In a `case` this is what stands before the first `when`.
+    Body,
+    /// With the test of an `if`, an `unless` or an `elsif`.
+    Test(Condition),
+    /// With the values of a `when`.
+    When(Several<Operand>),
+    /// With an `else`.
+    Otherwise,
+}
+
+/// What a piece of a template says.
+#[derive(Drop)]
+pub enum Item {
+    Nothing,
+    Leaf(Leaf),
+    /// The start of a block and of its first part.
+    Opens(Block, Part),
+    /// The end of a part of a block, and the start of the next.
+    Turns(Part),
+    /// The end of a block.
+    Ends(BlockName),
+    Raw,
+    Comment,
+}
+
+/// Whether pieces are those of a raw text or of a comment, which starts in this line.
+#[derive(Clone, Copy, Debug, PartialEq, Eq)]
+pub enum Verbatim {
+    Not,
+    Raw(u64),
+    Comment(u64),
+}
+
+/// What a piece does to the tree.
+#[derive(Drop)]
+pub enum Move {
+    Passes(Verbatim),
+    Adds(Leaf),
+    Opens(Block, Part),
+    Turns(Part),
+    Ends(BlockName),
+    Fails(FaultKind),
+}

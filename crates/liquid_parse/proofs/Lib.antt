@@ -1,0 +1,4 @@
+pub mod Simulation
+pub mod Stacks
+pub mod Walking
+pub mod AllPieces

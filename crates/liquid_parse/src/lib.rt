@@ -1,0 +1,14 @@
+//! Templates: what each piece of a text says, and the tree that the pieces make.
+#![tactic(auto)]
+
+mod building;
+mod error;
+mod item;
+mod node;
+mod parsing;
+mod template;
+
+pub use error::ParseError;
+pub use node::Node;
+pub use parsing::parse;
+pub use template::{First, Template, first_of};
