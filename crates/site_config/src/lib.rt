@@ -1,0 +1,28 @@
+//! The configuration of a site: a key's form, its default, and the first key whose value has another form.
+#![tactic(auto)]
+
+mod collection;
+mod collections;
+mod config;
+mod form;
+mod forms;
+mod names;
+mod parts;
+mod reading;
+mod scope;
+mod scopes;
+mod settings;
+mod table;
+#[cfg(test)]
+mod tests;
+mod value_error;
+mod values;
+
+pub use collection::Collection;
+pub use collections::Collections;
+pub use config::Config;
+pub use names::Names;
+pub use scope::Scope;
+pub use scopes::Scopes;
+pub use value_error::ValueError;
+pub use values::config_of;

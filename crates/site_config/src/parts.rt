@@ -1,0 +1,91 @@
+// The parts of a configuration that take memory, a few fields at a time.
+ghost use Rattle.std.specs.Prelude.{◌≡◌, IfOk};
+ghost use Rattle.site_config.specs.Forms.{given};
+ghost use Rattle.site_config.specs.Parts.{addresses, choices, documents, breaks};
+
+use crate::collections::Collections;
+use crate::names::Names;
+use crate::reading::{INCLUDED, KEPT, excluded, text_or, texts_or};
+use crate::scopes::Scopes;
+use crate::settings::setting;
+use site_base::{Memory, Text, Value};
+use std::alloc::Global;
+
+/// What URLs are made of, and whose pages are Markdown.
+#[derive(Drop)]
+pub(crate) struct Addresses {
+    pub baseurl: Text,
+    pub url: Text,
+    pub permalink: Text,
+    pub markdown_ext: Text,
+}
+
+/// Which files are taken, and which outputs stay.
+#[derive(Drop)]
+pub(crate) struct Choices {
+    pub include: Names,
+    pub exclude: Names,
+    pub keep_files: Names,
+}
+
+/// The collections, and values for items.
+#[derive(Drop)]
+pub(crate) struct Documents {
+    pub collections: Collections,
+    pub defaults: Scopes,
+}
+
+/// Where posts are broken off.
+#[derive(Drop)]
+pub(crate) struct Breaks {
+    pub paginate_path: Text,
+    pub excerpt_separator: Text,
+}
+
+impl Addresses {
+    pub(crate) fn read(alloc: Global, all: Option<&Value>) -> Result<Addresses, Memory>
+        ensures { IfOk result (λ made. made ≡ addresses (given all.entry)) }
+    {
+        let extensions = "markdown,mkdown,mkdn,mkd,md";
+        Ok(Addresses {
+            baseurl: text_or(alloc, "", setting("baseurl", all))?,
+            url: text_or(alloc, "", setting("url", all))?,
+            permalink: text_or(alloc, "date", setting("permalink", all))?,
+            markdown_ext: text_or(alloc, extensions, setting("markdown_ext", all))?,
+        })
+    }
+}
+
+impl Choices {
+    pub(crate) fn read(alloc: Global, all: Option<&Value>) -> Result<Choices, Memory>
+        ensures { IfOk result (λ made. made ≡ choices (given all.entry)) }
+    {
+        Ok(Choices {
+            include: texts_or(alloc, &INCLUDED, setting("include", all))?,
+            exclude: excluded(alloc, setting("exclude", all))?,
+            keep_files: texts_or(alloc, &KEPT, setting("keep_files", all))?,
+        })
+    }
+}
+
+impl Documents {
+    pub(crate) fn read(alloc: Global, all: Option<&Value>) -> Result<Documents, Memory>
+        ensures { IfOk result (λ made. made ≡ documents (given all.entry)) }
+    {
+        Ok(Documents {
+            collections: Collections::read(alloc, setting("collections", all))?,
+            defaults: Scopes::read(alloc, setting("defaults", all))?,
+        })
+    }
+}
+
+impl Breaks {
+    pub(crate) fn read(alloc: Global, all: Option<&Value>) -> Result<Breaks, Memory>
+        ensures { IfOk result (λ made. made ≡ breaks (given all.entry)) }
+    {
+        Ok(Breaks {
+            paginate_path: text_or(alloc, "/page:num", setting("paginate_path", all))?,
+            excerpt_separator: text_or(alloc, "\n\n", setting("excerpt_separator", all))?,
+        })
+    }
+}

@@ -1,0 +1,157 @@
+// Configurations of rows of values.
+use crate::{Config, ValueError, config_of};
+use site_base::{Hash, List, Text, Value};
+use std::alloc::Global;
+use std::test::Fail;
+
+fn text(alloc: Global, text: &str) -> Result<Value, Fail> {
+    Ok(Value::Text(Text::copy(alloc, text)?))
+}
+
+fn texts(alloc: Global, names: &[&str]) -> Result<Value, Fail> {
+    let mut list = List::new(alloc);
+    for name in names {
+        list.push(text(alloc, name)?)?;
+    }
+    Ok(Value::List(list))
+}
+
+fn hash(alloc: Global, pairs: Vec<(&str, Value)>) -> Result<Value, Fail> {
+    let mut hash = Hash::new(alloc);
+    for (key, value) in pairs {
+        hash.set(Text::copy(alloc, key)?, value)?;
+    }
+    Ok(Value::Hash(hash))
+}
+
+fn wrong(alloc: Global, value: Value) -> Result<Text, Fail> {
+    match config_of(alloc, value) {
+        Err(ValueError::Key(key)) => Ok(key),
+        Err(ValueError::NotMapping) => Ok(Text::copy(alloc, "not a mapping")?),
+        _ => Ok(Text::new(alloc)),
+    }
+}
+
+fn made(alloc: Global, value: Value) -> Result<Config, Fail> {
+    match config_of(alloc, value) {
+        Ok(config) => Ok(config),
+        Err(_) => Err("no configuration")?,
+    }
+}
+
+#[test]
+fn takes_defaults(rt: HostRuntime) -> Result<(), Fail> {
+    let alloc = rt.alloc();
+    let config = made(alloc, Value::Nil)?;
+    assert_eq!(rt; config.permalink.as_str(), "date");
+    assert_eq!(rt; config.markdown_ext.as_str(), "markdown,mkdown,mkdn,mkd,md");
+    assert_eq!(rt; config.exclude.len(), 10);
+    assert_eq!(rt; config.exclude.at(9), "gemfiles");
+    assert_eq!(rt; config.keep_files.at(1), ".svn");
+    assert_eq!(rt; config.include.at(0), ".htaccess");
+    assert_eq!(rt; config.paginate, None);
+    assert_eq!(rt; config.paginate_path.as_str(), "/page:num");
+    assert_eq!(rt; config.excerpt_separator.as_str(), "\n\n");
+    assert_eq!(rt; config.timezone, 0);
+    assert!(rt; !config.future && !config.unpublished && !config.show_drafts);
+    assert_eq!(rt; config.collections.as_slice().len(), 1);
+    assert_eq!(rt; config.collections.as_slice()[0].name.as_str(), "posts");
+    assert!(rt; config.collections.as_slice()[0].output);
+    assert!(rt; config.defaults.as_slice().is_empty());
+    assert!(rt; config.all.is_empty());
+    Ok(())
+}
+
+#[test]
+fn names_the_first_wrong_key(rt: HostRuntime) -> Result<(), Fail> {
+    let alloc = rt.alloc();
+    let x = hash(alloc, vec![in alloc; ("paginate", text(alloc, "x")?)]?)?;
+    assert_eq!(rt; wrong(alloc, x)?.as_str(), "paginate");
+    let two = hash(
+        alloc,
+        vec![in alloc;
+            ("timezone", text(alloc, "Europe/Paris")?),
+            ("paginate", Value::Int(0)),
+        ]?,
+    )?;
+    assert_eq!(rt; wrong(alloc, two)?.as_str(), "paginate");
+    let path = hash(
+        alloc,
+        vec![in alloc; ("paginate_path", text(alloc, "/page")?)]?,
+    )?;
+    assert_eq!(rt; wrong(alloc, path)?.as_str(), "paginate_path");
+    let names = hash(
+        alloc,
+        vec![in alloc; ("collections", texts(alloc, &["a b"])?)]?,
+    )?;
+    assert_eq!(rt; wrong(alloc, names)?.as_str(), "collections");
+    let numbers = hash(alloc, vec![in alloc; ("exclude", Value::Int(1))]?)?;
+    assert_eq!(rt; wrong(alloc, numbers)?.as_str(), "exclude");
+    assert_eq!(rt;
+        wrong(alloc, texts(alloc, &["a"])?)?.as_str(),
+        "not a mapping"
+    );
+    Ok(())
+}
+
+#[test]
+fn reads_each_form(rt: HostRuntime) -> Result<(), Fail> {
+    let alloc = rt.alloc();
+    let output = hash(
+        alloc,
+        vec![in alloc;
+            ("output", Value::Bool(true)),
+            ("permalink", text(alloc, "/:title")?),
+        ]?,
+    )?;
+    let collections = hash(
+        alloc,
+        vec![in alloc;
+            ("films", output),
+            ("posts", Value::Nil),
+            ("cast_2", Value::Nil),
+        ]?,
+    )?;
+    let scope = hash(
+        alloc,
+        vec![in alloc;
+            ("path", text(alloc, "a")?),
+            ("type", text(alloc, "films")?),
+        ]?,
+    )?;
+    let values = hash(alloc, vec![in alloc; ("layout", text(alloc, "page")?)]?)?;
+    let mut defaults = List::new(alloc);
+    defaults.push(hash(alloc, vec![in alloc; ("scope", scope), ("values", values)]?)?)?;
+    let config = made(
+        alloc,
+        hash(
+            alloc,
+            vec![in alloc;
+                ("collections", collections),
+                ("defaults", Value::List(defaults)),
+                ("exclude", texts(alloc, &["tmp"])?),
+                ("include", texts(alloc, &["_pages"])?),
+                ("paginate", Value::Int(5)),
+                ("timezone", text(alloc, "+02:30")?),
+                ("future", Value::Bool(true)),
+                ("theme", text(alloc, "minima")?),
+            ]?,
+        )?,
+    )?;
+    let collections = config.collections.as_slice();
+    assert_eq!(rt; collections.len(), 3);
+    assert_eq!(rt; collections[0].name.as_str(), "posts");
+    assert_eq!(rt; collections[1].name.as_str(), "films");
+    assert!(rt; collections[1].output && collections[1].permalink.is_some());
+    assert_eq!(rt; collections[2].name.as_str(), "cast_2");
+    assert_eq!(rt; config.defaults.as_slice().len(), 1);
+    assert_eq!(rt; config.defaults.as_slice()[0].path.as_str(), "a");
+    assert_eq!(rt; config.exclude.len(), 11);
+    assert_eq!(rt; config.exclude.at(10), "tmp");
+    assert_eq!(rt; config.include.len(), 1);
+    assert_eq!(rt; config.paginate, Some(5));
+    assert_eq!(rt; config.timezone, 9000);
+    assert!(rt; config.future);
+    assert_eq!(rt; config.all.len(), 8);
+    Ok(())
+}
