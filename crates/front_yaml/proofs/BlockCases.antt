@@ -1,5 +1,5 @@
 -- The cases of a block.
-use Rattle.std.proofs.Common.{◌≡◌, ℕ, zero, suc, ◌-◌, ◌<◌, Bool, true, false, List, ◌∷◌, ◌≤◌, ◌+◌, length, get_or, take, drop, Ok, Err, refl, ap, sym, ◌∙◌, drop_of_length-le, arith}
+use Rattle.std.proofs.Common.{◌≡◌, ℕ, zero, suc, ◌-◌, ◌<◌, Bool, true, false, List, ◌∷◌, ◌≤◌, length, get_or, take, drop, Ok, Err, refl, ap, sym, ◌∙◌, drop_of_length-le, arith}
 use Rattle.std.proofs.lemmas.List.{at_drop_more}
 use Rattle.site_base.specs.Plain.{Plain}
 use Rattle.site_base.specs.declared.faults.YamlKind.TheVariants as kind

@@ -1,5 +1,5 @@
 -- Worked rows: flow values.
-use Rattle.std.specs.Prelude.{◌≡◌, true, [], Ok, Err, pos, codes, refl}
+use Rattle.std.specs.Prelude.{◌≡◌, true, Ok, Err, pos, codes, refl}
 use Rattle.std.specs.Char.{encode_utf8}
 use Rattle.site_base.specs.declared.faults.YamlKind.TheVariants as kind
 use Rattle.site_base.specs.Plain.{nil, bool, int, text, list, hash, no_items, item, no_pairs, pair}

@@ -1,5 +1,5 @@
 -- A list of one byte, repeated.
-use Rattle.std.proofs.Common.{◌≡◌, ℕ, zero, suc, ◌+◌, List, [], ◌∷◌, ◌++◌, refl, ap, ◌∙◌, append_assoc, arith}
+use Rattle.std.proofs.Common.{◌≡◌, ℕ, zero, suc, ◌+◌, List, [], ◌∷◌, ◌++◌, refl, ap, append_assoc, arith}
 use Rattle.front_yaml.specs.Bytes.{repeated}
 
 ends : (n c : ℕ) → repeated n c ++ c ∷ [] ≡ c ∷ repeated n c

@@ -1,4 +1,4 @@
-use Rattle.std.proofs.Common.{◌≡◌, ℕ, ◌+◌, ◌-◌, drop, length, length-drop, subst, sym, ap, ◌∙◌, arith, Ok, Err}
+use Rattle.std.proofs.Common.{◌+◌, drop, length, length-drop, subst, sym, ap, ◌∙◌, arith, Ok, Err}
 use Rattle.site_base.specs.View.{plain}
 use Rattle.front_yaml.specs.declared.faults.PlaceError.{PlaceError}
 use Rattle.front_yaml.specs.declared.faults.PlaceError.TheVariants as place_error

@@ -1,7 +1,6 @@
-use Rattle.std.proofs.Common.{◌≡◌, ◌∙◌, ◌++◌, ◌+◌, ℕ, List, sym, ap, arith, length, take}
+use Rattle.std.proofs.Common.{◌≡◌, ◌∙◌, ◌++◌, ◌+◌, sym, ap}
 use Rattle.site_base.specs.Fronts.{front_len}
 use Rattle.front_yaml.specs.Bytes.{repeated, is_gap}
-use Rattle.front_yaml.specs.TextLines.{line_ends}
 use Rattle.front_yaml.proofs.FoldLaws.{line_end_taken, gap_count, not_empty}
 use Rattle.front_yaml.proofs.folding.append_line_end.Goals as goal
 

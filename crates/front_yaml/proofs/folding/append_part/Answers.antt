@@ -1,8 +1,7 @@
-use Rattle.std.proofs.Common.{◌≡◌, ◌∙◌, ◌++◌, ◌+◌, sym, ap, arith, length, take, get_or}
+use Rattle.std.proofs.Common.{◌≡◌, ◌∙◌, ◌++◌, ◌+◌, sym, ap, take}
 use Rattle.site_base.specs.Fronts.{front_len}
 use Rattle.front_yaml.specs.Bytes.{is_gap}
 use Rattle.front_yaml.specs.Folding.{joint, between}
-use Rattle.front_yaml.specs.Given.{is_solid}
 use Rattle.front_yaml.proofs.FoldLaws.{break_taken, white_taken, solid_taken, gap_count}
 use Rattle.front_yaml.proofs.folding.append_part.Goals as goal
 

@@ -1,4 +1,4 @@
-use Rattle.std.proofs.Common.{◌≡◌, ◌++◌, ℕ, List, length, take, drop, sym, ap, ◌∙◌, arith}
+use Rattle.std.proofs.Common.{◌++◌, ℕ, List, take, drop, ap, ◌∙◌, arith}
 use Rattle.front_yaml.specs.Bytes.{starts, repeated}
 use Rattle.front_yaml.specs.TextLines.{Line, spaces}
 use Rattle.front_yaml.proofs.LineLaws.{after_spaces, spaces_again, cut_fits}
