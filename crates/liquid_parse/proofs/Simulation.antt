@@ -213,8 +213,12 @@ next_place : (fs : List Frame) (f : Frame) (nodes : Tree) → length (layout (f 
 next_place fs f nodes =
     let o = f.opening in
     omega (
-      arith, length-append (layout fs f.before) (head_of o ∷ (flat o.parts ++ part_of o ∷ flat nodes)), length-append (flat o.parts) (part_of o ∷ flat nodes),
-      ap length (flat-append o.parts (part o.part_line o.part nodes done)), length-append (flat o.parts) (node.Part o.part_line o.part (length (flat nodes)) ∷ (flat nodes ++ [])), length-append (flat nodes) []
+      arith,
+      length-append (layout fs f.before) (head_of o ∷ (flat o.parts ++ part_of o ∷ flat nodes)),
+      length-append (flat o.parts) (part_of o ∷ flat nodes),
+      ap length (flat-append o.parts (part o.part_line o.part nodes done)),
+      length-append (flat o.parts) (node.Part o.part_line o.part (length (flat nodes)) ∷ (flat nodes ++ [])),
+      length-append (flat nodes) [],
     )
 
 turn_by : (line : ℕ) (p : Part) (nodes : Tree) (v : Verbatim) (fs : List Frame) (f : Frame) (b : Bool) → may_follow (name_of f.opening.block) (is_last f.opening.part) p ≡ b → Simulates (turn line p (now_at (f ∷ fs) nodes v) (Some (open_at fs f))) (turn_frame line p nodes v (f ∷ fs))

@@ -17,13 +17,15 @@ around n ns a r is_a is_r len all =
     let k = len_of n in
     let fits : k ≤ length ns = omega (arith, ap length all, length-append a r, len) in
     let front : take k ns ≡ a = ap (take k) (sym all) ∙ take_at a r k len in
-    let behind : drop k ns ≡ r = ap (drop k) (sym all) ∙ drop_at a r k len in
-    (fits, record {
-      inside_flat = sym is_a ∙ sym front;
-      rest_flat = sym is_r ∙ sym behind;
-      tree = tree_of_is (n ∷ ns);
-      len = omega (arith, fits, length-take k ns, length-drop k ns);
-    })
+    let behind : drop k ns ≡ r = ap (drop k) (sym all) ∙ drop_at a r k len in (
+      fits,
+      record {
+        inside_flat = sym is_a ∙ sym front;
+        rest_flat = sym is_r ∙ sym behind;
+        tree = tree_of_is (n ∷ ns);
+        len = omega (arith, fits, length-take k ns, length-drop k ns);
+      },
+    )
 
 pub first_node : (n : Node) (ns : List Node) → IsFlat (n ∷ ns) → (len_of n ≤ length ns) × IsFirst (n ∷ ns) n (take (len_of n) ns) (drop (len_of n) ns)
 first_node (node.Leaf line l) ns h =
@@ -49,7 +51,7 @@ pub first_in : (nodes behind : List Node) (n d : Node) → 0 < length nodes → 
 first_in [] behind n d lt e k h = absurd (omega arith)
 first_in (x ∷ xs) behind n d lt e k h =
     subst (λ (y : Node). (len_of y ≤ length behind) × IsFirst (x ∷ xs) y (take (len_of y) behind) (drop (len_of y) behind)) (sym e)
-      (subst (λ (ys : List Node). (len_of x ≤ length ys) × IsFirst (x ∷ xs) x (take (len_of x) ys) (drop (len_of x) ys)) (sym k) (first_node x xs h))
+    (subst (λ (ys : List Node). (len_of x ≤ length ys) × IsFirst (x ∷ xs) x (take (len_of x) ys) (drop (len_of x) ys)) (sym k) (first_node x xs h))
 
 -- the part of a list from its second element on
 pub behind_first : (nodes : List Node) → take (length nodes - 1) (drop 1 nodes) ≡ drop 1 nodes

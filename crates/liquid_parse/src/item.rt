@@ -71,18 +71,12 @@ fn opening(alloc: Global, block: BlockName, rest: &str) -> Result<Item, ItemErro
     ensures { GivesItem result (opening block rest.now) }
 {
     match block {
-        BlockName::If => Ok(Item::Opens(
-            Block::If,
-            Part::Test(read_condition(alloc, rest)?),
-        )),
+        BlockName::If => Ok(Item::Opens(Block::If, Part::Test(read_condition(alloc, rest)?))),
         BlockName::Unless => Ok(Item::Opens(
             Block::Unless,
             Part::Test(read_condition(alloc, rest)?),
         )),
-        BlockName::Case => Ok(Item::Opens(
-            Block::Case(read_expr(alloc, rest)?),
-            Part::Body,
-        )),
+        BlockName::Case => Ok(Item::Opens(Block::Case(read_expr(alloc, rest)?), Part::Body)),
         BlockName::For => Ok(Item::Opens(
             Block::For(read_loop(alloc, LoopKind::For, rest)?),
             Part::Body,
@@ -91,10 +85,7 @@ fn opening(alloc: Global, block: BlockName, rest: &str) -> Result<Item, ItemErro
             Block::TableRow(read_loop(alloc, LoopKind::TableRow, rest)?),
             Part::Body,
         )),
-        BlockName::Capture => Ok(Item::Opens(
-            Block::Capture(read_name(alloc, rest)?),
-            Part::Body,
-        )),
+        BlockName::Capture => Ok(Item::Opens(Block::Capture(read_name(alloc, rest)?), Part::Body)),
         BlockName::Highlight => Ok(Item::Opens(
             Block::Highlight(read_language(alloc, rest)?),
             Part::Body,

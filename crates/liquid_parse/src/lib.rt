@@ -12,3 +12,6 @@ pub use error::ParseError;
 pub use node::Node;
 pub use parsing::parse;
 pub use template::{First, Template, first_of};
+
+#[cfg(test)]
+mod tests;

@@ -37,7 +37,8 @@ impl Template {
 
     /// The nodes of the template, one after another.
     pub fn nodes(&self) -> &[Node]
-        ensures { result.now ≡ flat self.now }
+        ensures nodes { result.now ≡ flat self.now }
+        ensures flat { IsFlat result.now }
     {
         self.nodes.as_slice()
     }

@@ -1,0 +1,231 @@
+use crate::{Node, ParseError, Template, first_of, parse};
+use liquid_grammar::Leaf;
+use std::alloc::Global;
+use std::test::*;
+
+// The line and the number of the fault, or None for a template.
+fn fault(alloc: Global, text: &str) -> Result<Option<(u64, u8)>, Fail> {
+    match parse(alloc, text) {
+        Ok(_) => Ok(None),
+        Err(ParseError::Fault(line, kind)) => Ok(Some((line, kind.number()))),
+        Err(ParseError::Memory) => Err("no memory")?,
+    }
+}
+
+// Texts that are templates.
+#[test]
+fn takes_templates(rt: HostRuntime) -> Result<(), Fail> {
+    let templates = [
+        "",
+        "a }} %} { b",
+        "{{ a }}",
+        "{{a}}",
+        "{{-a-}}",
+        "{{ 'a\"b' }}{{ \"a'b\" }}",
+        "{{ a.b[\"c\"][d.e] | f: 1, -2 | g }}",
+        "{{ (1..n) | join: ', ' }}",
+        "{{ a-b.c-d }}",
+        "{{ nil }}{{ null }}{{ true }}{{ false }}{{ blank }}{{ empty }}",
+        "{{ 1.50 }}{{ -7 }}{{ 9223372036854775807 }}{{ -9223372036854775808 }}",
+        "{% assign a = b | f %}",
+        "{%assign a=b%}",
+        "{%- assign a = 'x' -%}",
+        "{% capture a %}b{% endcapture %}",
+        "{% if a %}b{% endif %}",
+        "{% if a == 1 and b != 2 or c contains 'd' %}{% endif %}",
+        "{% if a <> 1 and b <= 2 and c >= 3 and d < 4 and e > 5 %}{% endif %}",
+        "{% if a %}1{% elsif b %}2{% elsif c %}3{% else %}4{% endif %}",
+        "{% unless a %}1{% elsif b %}2{% else %}3{% endunless %}",
+        "{% case a %}{% when 1 %}b{% when 2, 3 or 4 %}c{% else %}d{% endcase %}",
+        "{% case a %}x{% endcase %}",
+        "{% for a in b %}{{ a }}{% endfor %}",
+        "{% for a in (1..3) %}{{ a }}{% else %}b{% endfor %}",
+        "{% for a in b reversed limit:2 offset: c %}{% endfor %}",
+        "{% for a in b limit:2 reversed %}{% break %}{% continue %}{% endfor %}",
+        "{% break %}{% continue %}",
+        "{% cycle 'a', 'b' %}{% cycle g: 1, 2 %}{% cycle 1 %}",
+        "{% tablerow a in b cols:2 limit:4 offset:1 %}{{ a }}{% endtablerow %}",
+        "{% increment a %}{% decrement a %}",
+        "{% raw %}{{ a }}{% endraw %}b",
+        "{% raw %}{% if %}{% raw %}{% endraw %}",
+        "{% raw %}{% endraw %}",
+        "{% comment %}{{ | {% if {% endcomment %}",
+        "{% comment %}{% endcomment %}",
+        "{% include a.html %}",
+        "{% include a/{{ b | f }}.html c=1 d='e' | g %}",
+        "{% include {{ a }} %}",
+        "{% include_relative ../a.md %}",
+        "{% link a b.md %}{% link {{ a }}.md %}",
+        "{% post_url 2020-01-01-a %}",
+        "{% highlight c++ linenos %}a < b{% endhighlight %}",
+        "{% if a %}{% for b in c %}{% case d %}{% when 1 %}{% endcase %}{% endfor %}{% endif %}",
+    ];
+    for text in templates {
+        assert!(rt; fault(rt.alloc(), text)? == None, "at {text:?}");
+    }
+    Ok(())
+}
+
+// The first fault of a text: its line and its number, 10 where a tag or an output has no reading, 11 where its name is not
+// known, 16 where a whole number is no i64.
+#[test]
+fn names_the_first_fault(rt: HostRuntime) -> Result<(), Fail> {
+    let rows = [
+        // outputs
+        ("{{ }}", (1, 10)),
+        ("{{ a", (1, 10)),
+        ("{{ a %}", (1, 10)),
+        ("{{ a | }}", (1, 10)),
+        ("{{ a b }}", (1, 10)),
+        ("{{ and }}", (1, 10)),
+        ("{{ 'a }}", (1, 10)),
+        ("{{ a[ }}", (1, 10)),
+        ("{{ a == b }}", (1, 10)),
+        ("{{ 9223372036854775808 }}", (1, 16)),
+        ("\n{{ -9223372036854775809 }}", (2, 16)),
+        // names
+        ("{% foo %}", (1, 11)),
+        ("{% endfoo %}", (1, 11)),
+        ("{% If a %}{% endif %}", (1, 11)),
+        ("{% end-if %}", (1, 11)),
+        ("{% %}", (1, 10)),
+        ("{% 1 %}", (1, 10)),
+        ("{% if a", (1, 10)),
+        // parts that are missing, doubled or misplaced
+        ("{% assign a %}", (1, 10)),
+        ("{% assign a = %}", (1, 10)),
+        ("{% assign = b %}", (1, 10)),
+        ("{% assign nil = b %}", (1, 10)),
+        ("{% assign a = 9223372036854775808 %}", (1, 16)),
+        ("{% capture %}{% endcapture %}", (1, 10)),
+        ("{% capture a b %}{% endcapture %}", (1, 10)),
+        ("{% if %}{% endif %}", (1, 10)),
+        ("{% if a == %}{% endif %}", (1, 10)),
+        ("{% if a and %}{% endif %}", (1, 10)),
+        ("{% if a | f %}{% endif %}", (1, 10)),
+        ("{% if a %}{% elsif %}{% endif %}", (1, 10)),
+        ("{% if a %}{% else b %}{% endif %}", (1, 10)),
+        ("{% if a %}\n{% else %}\n{% else %}{% endif %}", (3, 10)),
+        ("{% if a %}{% else %}\n{% elsif b %}{% endif %}", (2, 10)),
+        ("{% if a %}{% endif b %}", (1, 10)),
+        ("{% if a %}\n{% when 1 %}{% endif %}", (2, 10)),
+        ("{% if a %}\n{% endunless %}", (2, 10)),
+        ("{% case %}{% endcase %}", (1, 10)),
+        ("{% case a %}{% when %}{% endcase %}", (1, 10)),
+        ("{% case a %}{% when 1, %}{% endcase %}", (1, 10)),
+        ("{% case a %}\n{% elsif b %}{% endcase %}", (2, 10)),
+        ("{% case a %}{% else %}\n{% when 1 %}{% endcase %}", (2, 10)),
+        ("{% for a b %}{% endfor %}", (1, 10)),
+        ("{% for a in %}{% endfor %}", (1, 10)),
+        ("{% for in b %}{% endfor %}", (1, 10)),
+        ("{% for a in b limit %}{% endfor %}", (1, 10)),
+        ("{% for a in b limit:1 limit:2 %}{% endfor %}", (1, 10)),
+        ("{% for a in b reversed reversed %}{% endfor %}", (1, 10)),
+        ("{% for a in b cols:2 %}{% endfor %}", (1, 10)),
+        ("{% tablerow a in b reversed %}{% endtablerow %}", (1, 10)),
+        (
+            "{% tablerow a in b %}\n{% else %}{% endtablerow %}",
+            (2, 10),
+        ),
+        ("{% cycle %}", (1, 10)),
+        ("{% cycle a: %}", (1, 10)),
+        ("{% increment %}", (1, 10)),
+        ("{% break a %}", (1, 10)),
+        ("{% include %}", (1, 10)),
+        ("{% include a b %}", (1, 10)),
+        ("{% include a{{ b %}", (1, 10)),
+        ("{% include a b=1 c= %}", (1, 10)),
+        ("{% link %}", (1, 10)),
+        ("{% highlight %}{% endhighlight %}", (1, 10)),
+        ("a\n{% endif %}", (2, 10)),
+        ("\n\n{% else %}", (3, 10)),
+        ("\n{% endraw %}", (2, 10)),
+        ("\n{% endcomment %}", (2, 10)),
+        // what has no end
+        ("{% if a %}", (1, 10)),
+        ("{% if a %}\n{% for x in y %}", (2, 10)),
+        ("{% if a %}\n{% for x in y %}{% endfor %}", (1, 10)),
+        ("a\n{% raw %}{{ b }}", (2, 10)),
+        ("\n{% comment %} {% if %}", (2, 10)),
+        (
+            "{%comment%}{%comment%}{%endcomment%}\n{%endcomment%}",
+            (2, 10),
+        ),
+        // the first by place
+        ("{% if a %}\n\n{{ b | }}\n{{ c", (3, 10)),
+        ("{{ a }}\n{% foo %}{% if %}", (2, 11)),
+        (
+            "{% for a in b %}\n{% endif %}\n{{ 9223372036854775808 }}",
+            (2, 10),
+        ),
+        ("{{ 9223372036854775808 }}\n{% endif %}", (1, 16)),
+    ];
+    for (text, first) in rows {
+        assert!(rt; fault(rt.alloc(), text)? == Some(first), "at {text:?}");
+    }
+    Ok(())
+}
+
+// The texts of a template without blocks.
+fn texts_are(template: &Template, wanted: &[&str]) -> bool {
+    let nodes = template.nodes();
+    let mut same = nodes.len() == wanted.len();
+    for (node, text) in nodes.iter().zip(wanted) {
+        same = same
+            && match node {
+                Node::Leaf(_, Leaf::Text(found)) => found.as_str() == *text,
+                _ => false,
+            };
+    }
+    same
+}
+
+#[test]
+fn keeps_texts_as_they_are(rt: HostRuntime) -> Result<(), Fail> {
+    let template = parse(rt.alloc(), "{% raw %}{{ a }}{% endraw %}b")
+        .ok()
+        .ok_or("a template")?;
+    assert!(rt; texts_are(&template, &["{{ a }}", "b"]));
+    let template = parse(rt.alloc(), "é{% comment %}ü{% endcomment %} ö")
+        .ok()
+        .ok_or("a template")?;
+    assert!(rt; texts_are(&template, &["é", " ö"]));
+    Ok(())
+}
+
+#[test]
+fn walks_over_nodes(rt: HostRuntime) -> Result<(), Fail> {
+    let template = parse(
+        rt.alloc(),
+        "{% if a %}b{{ c }}{% else %}d{% endif %}\n{{ e }}",
+    )
+    .ok()
+    .ok_or("a template")?;
+    let first = first_of(template.nodes()).ok_or("a block")?;
+    assert!(rt; matches!(first.node, Node::Block(1, _, 5)));
+    assert!(rt; first.inside.len() == 5 && first.rest.len() == 2);
+    let part = first_of(first.inside).ok_or("its first part")?;
+    assert!(rt; matches!(part.node, Node::Part(1, _, 2)));
+    let other = first_of(part.rest).ok_or("its second part")?;
+    assert!(rt; other.inside.len() == 1 && other.rest.is_empty());
+    let text = first_of(first.rest).ok_or("a text")?;
+    assert!(rt; text.inside.is_empty());
+    let output = first_of(text.rest).ok_or("an output")?;
+    assert!(rt; matches!(output.node, Node::Leaf(2, Leaf::Output(_))));
+    assert!(rt; first_of(output.rest).is_none());
+    Ok(())
+}
+
+#[test]
+fn nests_deeply(rt: HostRuntime) -> Result<(), Fail> {
+    let mut text = String::new(rt.alloc());
+    for _ in 0..2000 {
+        text.push_str("{% if a %}")?;
+    }
+    assert!(rt; fault(rt.alloc(), text.as_str())? == Some((1, 10)));
+    for _ in 0..2000 {
+        text.push_str("{% endif %}")?;
+    }
+    assert!(rt; fault(rt.alloc(), text.as_str())? == None);
+    Ok(())
+}
