@@ -1,0 +1,6 @@
+mod Texts
+mod Steps
+mod Shifting
+mod Entering
+mod Walking
+mod Rows
