@@ -47,7 +47,9 @@ fn takes_defaults(rt: HostRuntime) -> Result<(), Fail> {
     assert_eq!(rt; config.markdown_ext.as_str(), "markdown,mkdown,mkdn,mkd,md");
     assert_eq!(rt; config.exclude.len(), 10);
     assert_eq!(rt; config.exclude.at(9), "gemfiles");
+    assert_eq!(rt; config.keep_files.len(), 2);
     assert_eq!(rt; config.keep_files.at(1), ".svn");
+    assert_eq!(rt; config.include.len(), 1);
     assert_eq!(rt; config.include.at(0), ".htaccess");
     assert_eq!(rt; config.paginate, None);
     assert_eq!(rt; config.paginate_path.as_str(), "/page:num");
