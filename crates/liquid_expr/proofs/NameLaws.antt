@@ -5,7 +5,7 @@ use Rattle.std.specs.Str.{IsUtf8, IsCharBoundary}
 use Rattle.std.proofs.lemmas.Bool.{ltb-true, ltb-false}
 use Rattle.std.proofs.lemmas.Str.{IsCharBoundary-start, IsCharBoundary-end, IsCharBoundary-before_ascii}
 use Rattle.std.proofs.lemmas.List.Sums.{prefix_len_passes, prefix_len_stops, prefix_len-le-length}
-use Rattle.std.proofs.lemmas.List.{append-nil, drop_all, drop_more, length-drop, length-reverse, get_or-reverse}
+use Rattle.std.proofs.lemmas.List.{append-nil, drop_all, drop_more, length-reverse, get_or-reverse}
 use Rattle.liquid_expr.proofs.TokenLaws.{cut_at, white_ascii, last_ascii}
 use Rattle.liquid_grammar.specs.declared.tag.NamePlace.{NamePlace}
 use Rattle.liquid_grammar.specs.declared.tag.NamePart.{NamePart}

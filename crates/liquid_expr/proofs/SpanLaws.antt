@@ -1,6 +1,6 @@
 -- The insides of pieces lie between characters.
-use Rattle.std.proofs.Common.{◌≡◌, ℕ, zero, suc, ◌+◌, ◌-◌, ◌<◌, ◌≤◌, max, Bool, true, false, cond, ltb, eqb, ◌&&◌, ◌||◌, List, [], ◌∷◌, ◌++◌, length, take, drop, get_or, slice_index, refl, sym, ap, subst, ◌∙◌, arith, inl, inr, codes, reverse, Option, Some, None}
-use Rattle.std.specs.List.{prefix_len, suffix_len}
+use Rattle.std.proofs.Common.{◌≡◌, ℕ, zero, suc, ◌+◌, ◌-◌, ◌<◌, ◌≤◌, max, Bool, true, false, cond, ltb, eqb, ◌&&◌, List, [], ◌∷◌, ◌++◌, length, take, drop, get_or, refl, sym, ap, subst, ◌∙◌, arith, inl, inr, codes, reverse, Option, Some, None}
+use Rattle.std.specs.List.{suffix_len}
 use Rattle.std.specs.Str.{IsUtf8, IsCharBoundary}
 use Rattle.std.specs.Cmp.Lexicographic.{same_text}
 use Rattle.std.proofs.lemmas.Bool.{ltb-true, ltb-false, eqb-true, eq-eqb, cond_both, or_cases}
@@ -8,15 +8,14 @@ use Rattle.std.proofs.lemmas.List.{drop-drop, length-drop, length-take, length-r
 use Rattle.std.proofs.lemmas.List.Sums.{prefix_len_passes, prefix_len-le-length}
 use Rattle.std.proofs.lemmas.Str.{IsCharBoundary-start, IsCharBoundary-end, IsCharBoundary-before_ascii, IsCharBoundary-after_ascii}
 use Rattle.liquid_grammar.specs.declared.piece.Piece.{Piece}
-use Rattle.liquid_grammar.specs.declared.piece.Span.{Span}
 use Rattle.liquid_grammar.specs.declared.piece.Front.{Front}
 use Rattle.liquid_grammar.specs.declared.piece.Front.TheVariants.{Text, Output, Tag, Raw, Comment, Unclosed}
-use Rattle.liquid_grammar.specs.Pieces.{first_place, begins, opens, is_tag, is_white, white_len, tag_place, tag_at, markup_at, front_of, has_first_dash, has_last_dash, span, inside_at, stripped_at, Rest, Cut, past, pieces_of, len_of, trims_after, raw_text, dropped_text, text_piece, markup_piece, cut_is, with_front, then_rest, cut_from, cut_of, line_ends}
+use Rattle.liquid_grammar.specs.Pieces.{first_place, begins, opens, is_tag, is_white, white_len, tag_place, tag_at, markup_at, front_of, has_first_dash, has_last_dash, span, inside_at, stripped_at, Rest, Cut, past, pieces_of, trims_after, raw_text, dropped_text, cut_is, with_front, cut_from, cut_of, line_ends}
 use Rattle.liquid_expr.specs.Spans.{IsSpanOf}
 use Rattle.liquid_expr.specs.Fits.{Fits, found_len}
 use Rattle.liquid_expr.proofs.PlacesLaws.{place_le, place_at}
-use Rattle.liquid_expr.proofs.FrontFits.{mark_fits, opens_long, front_fits}
-use Rattle.liquid_expr.proofs.TokenLaws.{white_ascii, last_ascii}
+use Rattle.liquid_expr.proofs.FrontFits.{mark_fits, front_fits}
+use Rattle.liquid_expr.proofs.TokenLaws.{white_ascii}
 use Rattle.liquid_expr.proofs.CutLoop.{rest_at, at_some, past_is, then_found, then_none, cut_from_is}
 
 abbrev pub EachOf : {X : Type 0} → (X → Type 0) → List X → Type 0

@@ -18,7 +18,9 @@ mod tag;
 mod token;
 
 pub use cutting::{CutError, Pieces, cut, cut_up};
-pub use naming::{TagText, inside, read_include, read_language, read_name_parts, read_path, tag_text};
+pub use naming::{
+    TagText, inside, read_include, read_language, read_name_parts, read_path, tag_text,
+};
 pub use reads::{
     read_assign, read_condition, read_cycle, read_expr, read_loop, read_name, read_nothing,
     read_params, read_values,

@@ -20,7 +20,7 @@ use Rattle.liquid_grammar.specs.Expressions.{filter_of, operand_in, operand, exp
 use Rattle.liquid_grammar.specs.Conditions.{test_at, condition}
 use Rattle.liquid_grammar.specs.Tags.{assignment, cycle, loop_at, name_len}
 use Rattle.liquid_grammar.specs.Items.{tag_item}
-use Rattle.liquid_grammar.specs.Trees.{Tree, done, leaf, block, part, fault, tree}
+use Rattle.liquid_grammar.specs.Trees.{done, leaf, block, part, fault, tree}
 
 abbrev v : List ℕ → Operand
 v name = variable name

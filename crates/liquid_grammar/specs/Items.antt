@@ -1,5 +1,5 @@
 -- What the pieces of a template say, one by one.
-use Rattle.std.specs.Prelude.{ℕ, zero, suc, ◌+◌, Bool, true, false, ◌&&◌, List, [], ◌∷◌, length, drop, take, nat_lt, ◌==◌, codes, if◌then◌else◌, Option, Some, None, Result, Ok, Err}
+use Rattle.std.specs.Prelude.{ℕ, List, [], ◌∷◌, length, drop, take, ◌==◌, codes, if◌then◌else◌, Option, Some, None, Result, Ok, Err}
 use Rattle.std.specs.Str.{bytes_eq}
 use Rattle.std.specs.List.{prefix_len}
 use Rattle.site_base.specs.declared.faults.FaultKind.{FaultKind}
@@ -7,27 +7,17 @@ use Rattle.site_base.specs.declared.faults.FaultKind.TheVariants.{LiquidSyntax, 
 use Rattle.liquid_grammar.specs.declared.piece.PieceKind.{PieceKind}
 use Rattle.liquid_grammar.specs.declared.piece.PieceKind.TheVariants as kind
 use Rattle.liquid_grammar.specs.declared.piece.Piece.{Piece}
-use Rattle.liquid_grammar.specs.declared.expression.Expr.{Expr}
 use Rattle.liquid_grammar.specs.declared.condition.Condition.{Condition}
 use Rattle.liquid_grammar.specs.declared.tag.LoopKind.TheVariants as loop_kind
-use Rattle.liquid_grammar.specs.declared.tag.Loop.{Loop}
-use Rattle.liquid_grammar.specs.declared.tag.Include.{Include}
-use Rattle.liquid_grammar.specs.declared.tag.Assign.{Assign}
-use Rattle.liquid_grammar.specs.declared.tag.Cycle.{Cycle}
-use Rattle.liquid_grammar.specs.declared.tag.NamePart.{NamePart}
-use Rattle.liquid_grammar.specs.declared.item.Leaf.{Leaf}
 use Rattle.liquid_grammar.specs.declared.item.Leaf.TheVariants as leaf
-use Rattle.liquid_grammar.specs.declared.item.Block.{Block}
 use Rattle.liquid_grammar.specs.declared.item.Block.TheVariants as block
 use Rattle.liquid_grammar.specs.declared.item.BlockName.{BlockName}
 use Rattle.liquid_grammar.specs.declared.item.BlockName.TheVariants as block_name
-use Rattle.liquid_grammar.specs.declared.item.Part.{Part}
 use Rattle.liquid_grammar.specs.declared.item.Part.TheVariants.{Body, Test, When, Otherwise}
 use Rattle.liquid_grammar.specs.declared.item.Item.{Item}
 use Rattle.liquid_grammar.specs.declared.item.Item.TheVariants as item
-use Rattle.liquid_grammar.specs.Operands.{Operand}
 use Rattle.liquid_grammar.specs.Readings.{Refusal, syntax_fault, overflow}
-use Rattle.liquid_grammar.specs.Pieces.{begins, after_white}
+use Rattle.liquid_grammar.specs.Pieces.{after_white}
 use Rattle.liquid_grammar.specs.Tokens.{is_letter, is_name_byte}
 use Rattle.liquid_grammar.specs.Expressions.{read_expression}
 use Rattle.liquid_grammar.specs.Conditions.{read_condition}

@@ -1,5 +1,5 @@
 -- What stands in tags behind their names.
-use Rattle.std.specs.Prelude.{ℕ, zero, suc, ◌+◌, ◌-◌, Bool, true, false, ◌&&◌, ◌||◌, List, [], ◌∷◌, ◌++◌, length, drop, take, count_by, nat_lt, ◌==◌, slice_range, codes, if◌then◌else◌, Option, Some, None, Result, Ok, Err, is_some}
+use Rattle.std.specs.Prelude.{ℕ, suc, ◌+◌, ◌-◌, Bool, true, false, ◌&&◌, ◌||◌, List, [], ◌∷◌, length, drop, take, count_by, nat_lt, ◌==◌, slice_range, codes, if◌then◌else◌, Option, Some, None, Result, Ok, Err, is_some}
 use Rattle.std.specs.Str.{bytes_eq}
 use Rattle.std.specs.List.{prefix_len, suffix_len}
 use Rattle.liquid_grammar.specs.declared.piece.PieceKind.{PieceKind}
@@ -23,8 +23,8 @@ use Rattle.liquid_grammar.specs.declared.tag.NamePart.{NamePart}
 use Rattle.liquid_grammar.specs.declared.tag.NamePart.TheVariants as name_part
 use Rattle.liquid_grammar.specs.declared.tag.Include.{Include}
 use Rattle.liquid_grammar.specs.Operands.{Operand}
-use Rattle.liquid_grammar.specs.Tokens.{Token, word}
-use Rattle.liquid_grammar.specs.Readings.{Reading, ◌>>=◌, after, More, stop, wrong, one, more_of, many, Refusal, syntax_fault, reads}
+use Rattle.liquid_grammar.specs.Tokens.{Token}
+use Rattle.liquid_grammar.specs.Readings.{Reading, ◌>>=◌, after, More, stop, one, more_of, many, Refusal, syntax_fault, reads}
 use Rattle.liquid_grammar.specs.Pieces.{Cut, cut_of, begins, is_white, white_len}
 use Rattle.liquid_grammar.specs.Expressions.{word_literal, is_joining, word_at, is_comma, is_colon, operand, next_argument, arguments, expression, read_expression}
 use Rattle.liquid_grammar.specs.Conditions.{is_assign, read_parameters}

@@ -1,5 +1,5 @@
 -- The tree of a template, or its first fault.
-use Rattle.std.specs.Prelude.{ℕ, Bool, true, false, List, [], ◌∷◌, if◌then◌else◌, Option, Some, None, Result, Ok, Err}
+use Rattle.std.specs.Prelude.{ℕ, Bool, true, false, List, [], ◌∷◌, Option, Some, None, Result, Ok, Err}
 use Rattle.site_base.specs.declared.faults.FaultKind.{FaultKind}
 use Rattle.site_base.specs.declared.faults.FaultKind.TheVariants.{LiquidSyntax}
 use Rattle.liquid_grammar.specs.declared.piece.Piece.{Piece}
@@ -9,7 +9,7 @@ use Rattle.liquid_grammar.specs.declared.item.Block.TheVariants as blocks
 use Rattle.liquid_grammar.specs.declared.item.BlockName.{BlockName}
 use Rattle.liquid_grammar.specs.declared.item.BlockName.TheVariants as block_name
 use Rattle.liquid_grammar.specs.declared.item.Part.{Part}
-use Rattle.liquid_grammar.specs.declared.item.Part.TheVariants.{Body, Test, When, Otherwise}
+use Rattle.liquid_grammar.specs.declared.item.Part.TheVariants.{Test, When, Otherwise}
 use Rattle.liquid_grammar.specs.declared.item.Item.{Item}
 use Rattle.liquid_grammar.specs.declared.item.Item.TheVariants.{Nothing}
 use Rattle.liquid_grammar.specs.declared.item.Item.TheVariants as item

@@ -1,7 +1,6 @@
 -- All pieces of a text, as a loop takes them.
-use Rattle.std.proofs.Common.{◌≡◌, ℕ, ◌+◌, ◌<◌, ◌≤◌, List, [], ◌∷◌, length, drop, get_or, Option, Some, None, Result, Ok, Err, refl, sym, ap, subst, ◌∙◌, arith}
+use Rattle.std.proofs.Common.{◌≡◌, ℕ, ◌+◌, ◌<◌, ◌≤◌, List, [], length, drop, get_or, Option, Result, Ok, Err, sym, ap, subst, ◌∙◌}
 use Rattle.std.proofs.lemmas.List.{drop_all, drop_more}
-use Rattle.site_base.specs.declared.faults.FaultKind.{FaultKind}
 use Rattle.liquid_grammar.specs.declared.piece.Piece.{Piece}
 use Rattle.liquid_grammar.specs.declared.item.Verbatim.TheVariants.{Not}
 use Rattle.liquid_grammar.specs.Pieces.{Cut, cut_is, cut_of}
@@ -13,8 +12,8 @@ use Rattle.liquid_parse.specs.declared.error.ParseError.{ParseError}
 use Rattle.liquid_parse.specs.declared.error.ParseError.TheVariants as parse_error
 use Rattle.liquid_parse.specs.Flat.{flat, tree_of, IsFlat}
 use Rattle.liquid_parse.specs.FlatLaws.{tree_of-flat, IsFlat-flat}
-use Rattle.liquid_parse.specs.Machine.{Flat, flat_is, step, then_run, piece_step, finish, run, Steps}
-use Rattle.liquid_parse.specs.Parsed.{ParseFails, Parses}
+use Rattle.liquid_parse.specs.Machine.{Flat, flat_is, step, then_run, finish, run, Steps}
+use Rattle.liquid_parse.specs.Parsed.{ParseFails}
 use Rattle.liquid_parse.proofs.Simulation.{Tells, run_is}
 
 module _ (text : List ℕ) where

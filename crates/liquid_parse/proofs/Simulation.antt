@@ -4,7 +4,6 @@ use Rattle.std.proofs.lemmas.List.{append-nil, length-append}
 use Rattle.site_base.specs.declared.faults.FaultKind.TheVariants.{LiquidSyntax}
 use Rattle.liquid_grammar.specs.declared.piece.Piece.{Piece}
 use Rattle.liquid_grammar.specs.declared.item.Part.{Part}
-use Rattle.liquid_grammar.specs.declared.item.Block.{Block}
 use Rattle.liquid_grammar.specs.declared.item.BlockName.{BlockName}
 use Rattle.liquid_grammar.specs.declared.item.Verbatim.{Verbatim}
 use Rattle.liquid_grammar.specs.declared.item.Verbatim.TheVariants as verbatim
@@ -17,7 +16,7 @@ use Rattle.liquid_parse.specs.declared.node.Node.TheVariants as node
 use Rattle.liquid_parse.specs.declared.building.Open.{Open}
 use Rattle.liquid_parse.specs.Flat.{flat}
 use Rattle.liquid_parse.proofs.Stacks.{top-last, below-last}
-use Rattle.liquid_parse.specs.Machine.{Flat, flat_is, top, below, with_len, set_len, close_at, open_is, refused, opened, turned_at, turn, ended_at, end, step, open_line, finished, finish, then_run, piece_step, run}
+use Rattle.liquid_parse.specs.Machine.{Flat, flat_is, top, with_len, set_len, close_at, open_is, turn, end, step, open_line, finished, finish, then_run, run}
 
 -- ---- Trees one behind another
 

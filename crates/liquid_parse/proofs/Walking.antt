@@ -1,10 +1,9 @@
 -- The first node of a flat list.
-use Rattle.std.proofs.Common.{◌≡◌, ℕ, zero, suc, ◌+◌, ◌-◌, ◌<◌, ◌≤◌, List, [], ◌∷◌, ◌++◌, length, take, drop, get_or, refl, sym, ap, subst, ◌∙◌, arith}
+use Rattle.std.proofs.Common.{◌≡◌, ◌-◌, ◌<◌, ◌≤◌, List, [], ◌∷◌, ◌++◌, length, take, drop, get_or, refl, sym, ap, subst, ◌∙◌, arith}
 use Rattle.std.proofs.lemmas.List.{take_at, drop_at, take_all, length-append, length-take, length-drop}
-use Rattle.liquid_grammar.specs.Trees.{Tree, done, leaf, block, part}
 use Rattle.liquid_parse.specs.declared.node.Node.{Node}
 use Rattle.liquid_parse.specs.declared.node.Node.TheVariants as node
-use Rattle.liquid_parse.specs.Flat.{flat, len_of, with_node, tree_of, IsFlat}
+use Rattle.liquid_parse.specs.Flat.{flat, len_of, tree_of, IsFlat}
 use Rattle.liquid_parse.specs.FlatLaws.{tree_of_is}
 use Rattle.liquid_parse.specs.Walk.{IsFirst}
 

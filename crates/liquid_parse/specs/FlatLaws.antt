@@ -1,5 +1,5 @@
 -- A flat list and its tree.
-use Rattle.std.proofs.Common.{◌≡◌, ℕ, ◌+◌, List, [], ◌∷◌, ◌++◌, length, take, drop, refl, sym, ap, ◌∙◌, arith}
+use Rattle.std.proofs.Common.{◌≡◌, List, [], ◌∷◌, ◌++◌, length, take, drop, refl, sym, ap, ◌∙◌, arith}
 use Rattle.std.proofs.lemmas.List.{take_at, drop_at, length-take, length-drop}
 use Rattle.site_base.specs.Recursion.{Falls, down_is}
 use Rattle.liquid_grammar.specs.Trees.{Tree, done, leaf, block, part}

@@ -1,4 +1,4 @@
-use Rattle.std.proofs.Common.{arith, ◌≡◌, ◌+◌, ◌<◌, ap, sym, subst, ◌∙◌, drop, length, true, false, slice_index}
+use Rattle.std.proofs.Common.{arith, ◌≡◌, ◌+◌, ap, sym, ◌∙◌, drop, true, false, slice_index}
 use Rattle.liquid_grammar.specs.Tags.{name_len, next_place, ends_at}
 use Rattle.liquid_expr.proofs.NameLaws.{name_on, name_stops, name_ends}
 use Rattle.liquid_expr.proofs.naming.name_len.Goals as goal

@@ -1,10 +1,9 @@
-use Rattle.std.proofs.Common.{arith, ◌≡◌, ◌+◌, ◌<◌, ◌≤◌, ◌++◌, ◌∷◌, [], Option, Some, None, Ok, Err, false, eqb, length, get_or, drop, refl, sym, ap, subst, ◌∙◌}
+use Rattle.std.proofs.Common.{◌≡◌, ◌+◌, Some, None, Ok, get_or, drop, sym, ap, ◌∙◌}
 use Rattle.std.proofs.lemmas.Result.{err_from_is_err_and}
 use Rattle.liquid_grammar.specs.declared.piece.Piece.{Piece}
 use Rattle.liquid_grammar.specs.declared.piece.PieceKind.TheVariants.{Text}
 use Rattle.liquid_grammar.specs.Pieces.{Cut, cut_is, cut_of}
-use Rattle.liquid_grammar.specs.Tags.{name_parts, parts_of_cut, part_of, inside, read_name_parts}
-use Rattle.liquid_expr.specs.Spans.{IsSpanOf}
+use Rattle.liquid_grammar.specs.Tags.{name_parts, parts_of_cut, part_of, inside}
 use Rattle.liquid_expr.proofs.SpanLaws.{span_at}
 use Rattle.liquid_expr.proofs.NameLaws.{with_parts, part_on, part_stops, parts_end, parts_open, parts_begin, some_text}
 use Rattle.liquid_expr.proofs.naming.read_name_parts.Goals as goal

@@ -1,4 +1,3 @@
-use Rattle.std.proofs.Common.{◌-◌, ◌<◌, subst, slice_index}
 use Rattle.liquid_expr.proofs.NameLaws.{ascii_cut}
 use Rattle.liquid_expr.proofs.naming.tag_text.Goals as goal
 

@@ -1,6 +1,5 @@
 use Rattle.std.proofs.Common.{◌≡◌, ◌+◌, arith, length, vec_len}
 use Rattle.liquid_parse.proofs.Stacks.{popped}
-use Rattle.liquid_parse.proofs.Simulation.{run_is}
 use Rattle.liquid_parse.proofs.building.pop_open.Goals as goal
 
 pub returns-clause-top : goal.returns-clause-top

@@ -1,4 +1,4 @@
-use Rattle.std.proofs.Common.{◌≡◌, ◌<◌, ◌≤◌, arith, length, set, ap, ◌∙◌}
+use Rattle.std.proofs.Common.{◌<◌, ◌≤◌, arith, length, set, ap, ◌∙◌}
 use Rattle.liquid_parse.proofs.Stacks.{set_is, set_beyond}
 use Rattle.liquid_parse.proofs.building.set_len.Goals as goal
 

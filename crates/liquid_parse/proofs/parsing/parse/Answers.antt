@@ -1,4 +1,4 @@
-use Rattle.std.proofs.Common.{arith, ◌≡◌, ◌+◌, ◌<◌, ◌≤◌, Ok, Err, length, get_or, drop, refl, sym, ap, subst, ◌∙◌}
+use Rattle.std.proofs.Common.{◌≡◌, Ok, refl, sym, ap, ◌∙◌}
 use Rattle.std.proofs.lemmas.Result.{err_from_is_err_and}
 use Rattle.liquid_grammar.specs.declared.piece.Piece.{Piece}
 use Rattle.liquid_grammar.specs.declared.piece.PieceKind.TheVariants.{Text}
@@ -7,7 +7,7 @@ use Rattle.liquid_expr.proofs.SpanLaws.{span_at}
 use Rattle.liquid_grammar.specs.declared.item.Verbatim.TheVariants.{Not}
 use Rattle.liquid_grammar.specs.Trees.{Tree}
 use Rattle.liquid_parse.specs.Machine.{flat_of, finish}
-use Rattle.liquid_parse.proofs.AllPieces.{total, Runs, runs_begin, runs_on, runs_stop, runs_end, fails_end, whole_text}
+use Rattle.liquid_parse.proofs.AllPieces.{total, runs_begin, runs_on, runs_stop, runs_end, fails_end, whole_text}
 use Rattle.liquid_parse.proofs.parsing.parse.Goals as goal
 
 abbrev no_piece : Piece

@@ -1,5 +1,4 @@
-use Rattle.std.proofs.Common.{◌≡◌, ◌-◌, ◌<◌, ◌≤◌, arith, length, take, drop, get_or, ap, sym, subst, ◌∙◌}
-use Rattle.liquid_parse.specs.Flat.{len_of}
+use Rattle.std.proofs.Common.{◌-◌, arith, length, take, drop}
 use Rattle.liquid_parse.proofs.Walking.{first_in, behind_first}
 use Rattle.liquid_parse.proofs.template.first_of.Goals as goal
 
