@@ -23,12 +23,14 @@ use std::alloc::Global;
 
 // ---- what a line is to the block around it
 
+// Whether a line starts an item of a sequence of this indent, or ends the sequence.
 fn is_item(indent: usize, line: &TextLine) -> bool
     ensures { result ≡ is_item indent line.now }
 {
     line.carries() && line.indent() <= indent
 }
 
+// Whether a line starts a pair of a mapping of this indent, or ends the mapping; a list at the indent of its key does not.
 fn is_pair(indent: usize, line: &TextLine) -> bool
     ensures { result ≡ is_pair indent line.now }
 {
@@ -37,18 +39,21 @@ fn is_pair(indent: usize, line: &TextLine) -> bool
         && !(line.indent() == indent && is_dash(line.inside()))
 }
 
+// Whether a line may go on a quoted text or a block scalar.
 fn reaches(floor: usize, line: &TextLine) -> bool
     ensures { result ≡ reaches floor line.now }
 {
     line.is_blank() || floor <= line.indent()
 }
 
+// Whether a line may go on any other value.
 fn belongs(floor: usize, line: &TextLine) -> bool
     ensures { result ≡ belongs floor line.now }
 {
     !line.carries() || floor <= line.indent()
 }
 
+// What is wrong with a line that carries something where none may.
 fn left_kind(floor: usize, line: &TextLine) -> YamlKind
     ensures { result ≡ left_kind floor line.now }
 {
@@ -115,6 +120,7 @@ fn idle_lines(lines: &[TextLine]) -> usize
     n
 }
 
+// How many lines at the front may go on a value.
 fn belonging(floor: usize, lines: &[TextLine]) -> usize
     ensures value { result ≡ run (belongs floor) lines.now }
     ensures within { result ≤ length lines.now }
@@ -126,6 +132,7 @@ fn belonging(floor: usize, lines: &[TextLine]) -> usize
     n
 }
 
+// How many lines at the front may go on a quoted text or a block scalar.
 fn reaching(floor: usize, lines: &[TextLine]) -> usize
     ensures value { result ≡ run (reaches floor) lines.now }
     ensures within { result ≤ length lines.now }
@@ -149,6 +156,7 @@ fn taken(floor: usize, text: &[u8], lines: &[TextLine]) -> usize
     }
 }
 
+// The fault of lines that no block has: that of the first that carries something.
 fn left_fault(floor: usize, lines: &[TextLine]) -> Option<YamlFault>
     ensures { option_map as_line_pair result ≡ left_fault floor lines.now }
 {
@@ -200,6 +208,7 @@ fn by_lines(line: &TextLine, text: &[u8], fault: PlaceFault) -> YamlError
     )
 }
 
+// The scalar or flow value that starts with a text at the end of a line, and may go on over lines of an indent.
 fn leaf_lines(
     alloc: Global,
     depth: u32,
@@ -220,6 +229,7 @@ fn leaf_lines(
     }
 }
 
+// The block scalar of a header at the end of a line, and the lines below it.
 fn scalar_lines(
     alloc: Global,
     floor: usize,
@@ -273,6 +283,7 @@ fn no_key(text: &[u8], all: &[u8]) -> YamlKind
     }
 }
 
+// The same of a text that starts with a quote.
 fn no_quoted_key(quote: u8, all: &[u8]) -> YamlKind
     ensures { result ≡ no_quoted_key quote all.now }
 {
@@ -285,6 +296,7 @@ fn no_quoted_key(quote: u8, all: &[u8]) -> YamlKind
     }
 }
 
+// The fault of a line of a mapping that has no key.
 fn no_key_fault(
     alloc: Global,
     floor: usize,
@@ -304,8 +316,10 @@ fn no_key_fault(
 
 // ---- blocks
 
+// The value of lines whose first carries something; the other lines have the indent `floor` at least, if they carry
+// anything.
 #[cycle(block)]
-pub(crate) fn block<'l, 'a>(
+fn block<'l, 'a>(
     alloc: Global,
     depth: u32,
     floor: usize,
@@ -334,6 +348,7 @@ pub(crate) fn block<'l, 'a>(
     }
 }
 
+// The items of lines of which the first is one.
 #[cycle(block)]
 fn sequence<'l, 'a>(
     alloc: Global,
@@ -362,6 +377,7 @@ fn sequence<'l, 'a>(
     }
 }
 
+// The pairs of lines of which the first has a key.
 #[cycle(block)]
 fn mapping<'l, 'a>(
     alloc: Global,
@@ -390,6 +406,7 @@ fn mapping<'l, 'a>(
     }
 }
 
+// The value of an item: of its first line, at the indent of the sequence, and the lines up to the next item.
 #[cycle(block)]
 fn item<'l, 'a>(
     alloc: Global,
@@ -415,6 +432,7 @@ fn item<'l, 'a>(
     item_at(alloc, depth, indent, head, place, more)
 }
 
+// The same, where the value starts some bytes behind the `-`'s column.
 #[cycle(block)]
 fn item_at<'l, 'a>(
     alloc: Global,
@@ -438,6 +456,7 @@ fn item_at<'l, 'a>(
     }
 }
 
+// A key with its value: of their first line, at the indent of the mapping, and the lines up to the next key.
 #[cycle(block)]
 fn pair<'l, 'a>(
     alloc: Global,
@@ -458,6 +477,7 @@ fn pair<'l, 'a>(
     pair_at(alloc, depth, indent, head, more)
 }
 
+// The same, once the indent is known to fit.
 #[cycle(block)]
 fn pair_at<'l, 'a>(
     alloc: Global,
@@ -485,6 +505,7 @@ fn pair_at<'l, 'a>(
     }
 }
 
+// The value of a key that takes some bytes of the line.
 #[cycle(block)]
 fn pair_value<'l, 'a>(
     alloc: Global,
@@ -503,6 +524,7 @@ fn pair_value<'l, 'a>(
     entry_value(alloc, depth, indent + 1, head, tail(text, place), more)
 }
 
+// The value that starts with a text at the end of a line, or stands below it.
 #[cycle(block)]
 fn entry_value<'l, 'a>(
     alloc: Global,
@@ -540,6 +562,7 @@ pub(crate) fn below<'l, 'a>(
     below_first(alloc, depth, floor, &body[idle], &body[idle + 1..])
 }
 
+// The value of lines below an entry, of which the first carries something.
 #[cycle(block)]
 fn below_first<'l, 'a>(
     alloc: Global,

@@ -33,8 +33,11 @@ pub(crate) enum ItemPart {
 /// What stands in a flow hash up to the next separator, with the bytes before that.
 #[derive(Drop)]
 pub(crate) enum PairPart {
+    /// Nothing, and then the end.
     Shut(usize),
+    /// A key with its value before the end.
     Last(Text, Value, usize),
+    /// A key with its value before a comma.
     More(Text, Value, usize),
 }
 
@@ -181,6 +184,7 @@ fn collection(alloc: Global, depth: u32, text: &[u8]) -> Result<(Value, usize), 
     }
 }
 
+// The list whose `[` stands at the front, and its bytes.
 #[cycle(flow)]
 fn list(alloc: Global, depth: u32, text: &[u8]) -> Result<(Value, usize), PlaceError>
     requires { begins_value text.now ≡ true }
@@ -194,6 +198,7 @@ fn list(alloc: Global, depth: u32, text: &[u8]) -> Result<(Value, usize), PlaceE
     }
 }
 
+// The hash whose `{` stands at the front, and its bytes.
 #[cycle(flow)]
 fn hash(alloc: Global, depth: u32, text: &[u8]) -> Result<(Value, usize), PlaceError>
     requires { begins_value text.now ≡ true }
@@ -233,6 +238,7 @@ fn items(alloc: Global, depth: u32, text: &[u8]) -> Result<(List, usize), PlaceE
     Err(PlaceError::at(n, YamlKind::Flow))
 }
 
+// What stands in a list up to the next separator.
 #[cycle(flow)]
 fn item_part(alloc: Global, depth: u32, text: &[u8]) -> Result<ItemPart, PlaceError>
     ensures value { ReadsItem result (part 93 (node (collection depth)) text.now) }
@@ -284,6 +290,7 @@ fn pairs(alloc: Global, depth: u32, text: &[u8]) -> Result<(Hash, usize), PlaceE
     Err(PlaceError::at(n, YamlKind::Flow))
 }
 
+// What stands in a hash up to the next separator.
 #[cycle(flow)]
 fn pair_part(alloc: Global, depth: u32, text: &[u8]) -> Result<PairPart, PlaceError>
     ensures value { ReadsPair result (part 125 (entry (node (collection depth))) text.now) }

@@ -52,11 +52,14 @@ fn lines_value(alloc: Global, lines: &[TextLine]) -> Result<Value, YamlError>
     Ok(value)
 }
 
-/// The value of a text in the YAML subset.
+/// The value of a text in the subset of YAML 1.2 that `docs/PROFILE.md` describes.
 ///
-/// A byte-order mark at the front and a first line `---` are passed over; LF, CR LF and CR end a line. `Fault` comes
-/// exactly where the text has no value. It names what is met first in reading, the end of a quote or of a flow value
-/// being looked for where it is opened, and the number, from 1, of the line where it is met.
+/// A byte-order mark at the front and a first line `---` are passed over; LF, CR LF and CR end a line. Numbers are `Int`s,
+/// and a key that stands twice keeps its place and takes the last value. A text that carries nothing is `Nil`.
+///
+/// `Fault` comes exactly where the text has no value. It names what is met first in reading, the end of a quote or of a
+/// flow value being looked for where it is opened, and the number, from 1, of the line where it is met. `Memory` comes
+/// where memory was wanting.
 pub fn read_yaml(alloc: Global, text: &str) -> Result<Value, YamlError>
     ensures { Gives result (yaml text.now) }
 {
