@@ -61,7 +61,7 @@ pub same_paths : {V W A : Type 0} (f : List ℕ → A) (p : List ℕ × V → Bo
 same_paths f p r es fs s t alike =
     from_bare f (filter p es)
     ∙ ap (λ (l : List (List ℕ × Unit {0})). map (λ e. f e.0) l) (same_entries path_cmp path_order same_if_tied (bare (filter p es)) (bare (filter r fs)) (sorted_bare p es s) (sorted_bare r fs t)
-        (λ q. find_bare p q es s ∙ ap (λ b. cond b (Some tt) None) (alike q) ∙ sym (find_bare r q fs t)))
+    (λ q. find_bare p q es s ∙ ap (λ b. cond b (Some tt) None) (alike q) ∙ sym (find_bare r q fs t)))
     ∙ sym (from_bare f (filter r fs))
 
 rise : {V : Type 0} (m : FinMap path_cmp V) → PathsRise (entries m)
@@ -102,7 +102,7 @@ writes_within belief tree touched settled =
     same_paths (write_at belief tree) (λ e. is_some (wanted belief tree e.0)) (is_wanting belief) (entries touched) (entries tree) (rise touched) (rise tree)
     (λ q. at q (find path_cmp q (entries touched)) (find path_cmp q (entries tree)) (get-entries touched q) (get-entries tree q))
     ∙ sym (by_path (is_wanting belief) Write (write_at belief tree) (entries tree) (rise tree)
-        (λ q v found h. written q v (get-entries tree q ∙ found) h))
+    (λ q v found h. written q v (get-entries tree q ∙ found) h))
   where
     told : (b : Bool) (bytes : List ℕ) → is_some (cond b None (Some bytes)) ≡ not b
     told true bytes = refl

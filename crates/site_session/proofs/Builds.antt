@@ -118,4 +118,3 @@ holds_again told (Some belief) first other some h = record { there = h.there; to
 pub same_told : (failed : List (List ℕ)) (tree : Files) (told was tells : Option Files) → told ≡ was → MakesBut failed tree told tells → MakesBut failed tree was tells
 same_told failed tree told was tells same made =
     record { old = made.old; new = made.new; told_is = sym same ∙ made.told_is; tells_is = made.tells_is; exactly = made.exactly }
-

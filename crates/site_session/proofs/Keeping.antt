@@ -358,9 +358,9 @@ pub untouched_more : (first touched new : Option Paths) (ks : List (List ℕ)) (
 untouched_more first touched new ks place path lt here new_is was = record {
   some = ap is_some new_is ∙ same touched ∙ was.some;
   beyond = λ q beyond.
-    let both = beyond_more touched path q (ap (λ (t : Option Paths). is_beyond t q) (sym new_is) ∙ beyond) in
-    let before = was.beyond q both.0 in
-    (before.0, list_any_more (same_path q) ks place path lt ∙ ap (λ (p : List ℕ). is_listed q (take place ks) || same_path q p) here ∙ (λ i. before.1 i || both.1 i));
+      let both = beyond_more touched path q (ap (λ (t : Option Paths). is_beyond t q) (sym new_is) ∙ beyond) in
+      let before = was.beyond q both.0 in
+      (before.0, list_any_more (same_path q) ks place path lt ∙ ap (λ (p : List ℕ). is_listed q (take place ks) || same_path q p) here ∙ (λ i. before.1 i || both.1 i));
 }
   where
     same : (t : Option Paths) → is_some (option_map (λ (p : Paths). insert p path tt) t) ≡ is_some t

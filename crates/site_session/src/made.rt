@@ -42,7 +42,11 @@ pub(crate) enum Outputs {
 }
 
 // Makes what the held files stand for, from what is kept of the last build where something is.
-pub(crate) fn make_outputs(alloc: Global, held: &Held, last: Option<Made>) -> Result<Outputs, Memory>
+pub(crate) fn make_outputs(
+    alloc: Global,
+    held: &Held,
+    last: Option<Made>,
+) -> Result<Outputs, Memory>
     requires { IfLast last (λ made. Stands held.now made) }
     ensures full { IfOk result (λ outputs. full held.now ≡ full_of outputs) }
     ensures stands { IfOk result (λ outputs. IfTree outputs (λ made. Stands held.now made)) }

@@ -303,7 +303,9 @@ fn edits_go_on_from_the_build_before(rt: HostRuntime) -> Result<(), Fail> {
     comes_out(
         &rt,
         alloc,
-        Given::session("put a 1\nxbuild\nput b.md 9\n---\n---\nbbuild\nput a 1\nyput b.md 1\nbbuild\n"),
+        Given::session(
+            "put a 1\nxbuild\nput b.md 9\n---\n---\nbbuild\nput a 1\nyput b.md 1\nbbuild\n",
+        ),
         0,
         "ok\nbuilt rendered=0 reused=0 written=1 removed=0\nok\nfault F0 0 b.md\nok\nok\nbuilt rendered=0 reused=0 written=2 removed=0\n",
         &[("a", "y"), ("b.md", "b")],

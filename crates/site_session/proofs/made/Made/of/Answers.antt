@@ -11,7 +11,7 @@ pub loop-place-init : goal.loop-place-init
 loop-place-init c = (
   c.new-tree.ensures,
   λ q. ap (λ pages. contains_key pages q) c.new-pages.ensures ∙ ap is_some (get-empty path_cmp q)
-  ∙ sym (ap (λ tree. is_page_there (get tree q)) c.new-tree.ensures ∙ ap is_page_there (get-empty path_cmp q)),
+      ∙ sym (ap (λ tree. is_page_there (get tree q)) c.new-tree.ensures ∙ ap is_page_there (get-empty path_cmp q)),
 )
 
 pub loop-place-preserved : goal.loop-place-preserved
@@ -20,10 +20,10 @@ loop-place-preserved c =
     let bytes = c.shared_at.result.1.now in
     let lt : c.loop-place.place < len c.args.held.now = omega (arith, c.len-place-end.ensures.number, c.loop-place-test.true) in (
       files_more c.args.held.now c.loop-place.tree c.put_shared.new.self c.loop-place.place path bytes _ _ lt c.shared_at.ensures c.in_ok-copy.ensures c.in_ok-share.ensures c.loop-place.invariant.0
-      c.in_ok-put_shared.ensures.ok,
+          c.in_ok-put_shared.ensures.ok,
       pages_follow (as_map c.loop-place.pages) _ c.loop-place.tree c.put_shared.new.self path bytes c.loop-place.invariant.1
-      (c.in_ok-note_page.ensures ∙ ap (pages_with (as_map c.loop-place.pages) path) c.as_slice.ensures)
-      (c.in_ok-put_shared.ensures.ok ∙ (λ i. insert c.loop-place.tree (c.in_ok-copy.ensures i) (c.in_ok-share.ensures i))),
+          (c.in_ok-note_page.ensures ∙ ap (pages_with (as_map c.loop-place.pages) path) c.as_slice.ensures)
+          (c.in_ok-put_shared.ensures.ok ∙ (λ i. insert c.loop-place.tree (c.in_ok-copy.ensures i) (c.in_ok-share.ensures i))),
     )
 
 pub returns-clause-stands : goal.returns-clause-stands

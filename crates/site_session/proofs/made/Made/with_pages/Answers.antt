@@ -24,10 +24,10 @@ loop-place-preserved c =
     let lt : c.loop-place.place < len pages = omega (arith, c.len-place-end.ensures, c.loop-place-test.true) in
     let noted = noted_at pages c.loop-place.place path c.at.result.1.now lt c.at.ensures in (
       rendered_more files c.args.self.tree c.loop-place.tree c.put.new.self (keys pages) c.loop-place.place path c.in_ok-text.text noted.within noted.key
-      (page_made (get files path) c.in_ok-text.text (page_noted files c.args.self path c.requires noted.there) c.in_ok-text.ensures)
-      (c.in_ok-put.ensures.ok ∙ (λ i. insert c.loop-place.tree (c.in_ok-copy.ensures i) (c.into_bytes.ensures i))) c.loop-place.invariant.0,
+          (page_made (get files path) c.in_ok-text.text (page_noted files c.args.self path c.requires noted.there) c.in_ok-text.ensures)
+          (c.in_ok-put.ensures.ok ∙ (λ i. insert c.loop-place.tree (c.in_ok-copy.ensures i) (c.into_bytes.ensures i))) c.loop-place.invariant.0,
       untouched_more c.args.self.touched c.loop-place.touched c.add.new.self (keys pages) c.loop-place.place path noted.within noted.key
-      (c.in_ok-add.ensures.ok ∙ ap (λ path. option_map (λ p. insert p path tt) c.loop-place.touched) c.in_ok-copy-2.ensures) c.loop-place.invariant.1,
+          (c.in_ok-add.ensures.ok ∙ ap (λ path. option_map (λ p. insert p path tt) c.loop-place.touched) c.in_ok-copy-2.ensures) c.loop-place.invariant.1,
     )
 
 passed : (c : goal.After-loop-place) → len (as_map c.args.self.pages) ≤ c.loop-place.place
