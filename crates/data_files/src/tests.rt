@@ -1,6 +1,6 @@
 // The values of texts: the examples of RFC 8259, section 13, and of RFC 4180, section 2.
-use crate::{Refusal, read_csv, read_json, read_tsv};
-use site_base::{Value, code};
+use crate::{DataError, Refusal, read_csv, read_data, read_json, read_tsv};
+use site_base::{SitePath, Value, YamlKind, code};
 use std::alloc::Global;
 use std::process::Abort;
 use std::test::Fail;
@@ -116,5 +116,39 @@ fn reads_tables(rt: HostRuntime) -> Result<(), Fail> {
     check(&rt, alloc, read_csv(alloc, "a,b\n"), "l0:")?;
     assert!(rt; matches!(read_csv(alloc, "a,b\n1,2\n3\n"), Err(Refusal::Refused)));
     assert!(rt; matches!(read_csv(alloc, "a,b\n1,2,3\n"), Err(Refusal::Refused)));
+    Ok(())
+}
+
+#[test]
+fn reads_by_the_end_of_a_path(rt: HostRuntime) -> Result<(), Fail> {
+    let alloc = rt.alloc();
+    for (path, text, written) in [
+        ("_data/a.json", "{\"b\": [1]}", "h1:s1:bl1:i1;"),
+        ("_data/a.yml", "b: [1]\n", "h1:s1:bl1:i1;"),
+        ("_data/a.yaml", "b:\n- 1\n", "h1:s1:bl1:i1;"),
+        ("_data/a.csv", "b\n1\n", "l1:h1:s1:bs1:1"),
+        ("_data/a.tsv", "b\n1\n", "l1:h1:s1:bs1:1"),
+    ] {
+        match read_data(alloc, &SitePath::read(alloc, path)?, text) {
+            Ok(Some(value)) => assert_eq!(rt;
+                code(alloc, &value)?.as_slice(),
+                written.as_bytes(),
+                "at {path}"
+            ),
+            _ => Err("no value")?,
+        }
+    }
+    let json = SitePath::read(alloc, "_data/a.json")?;
+    assert!(rt; matches!(read_data(alloc, &json, "1.5"), Err(DataError::Refused)));
+    let yaml = SitePath::read(alloc, "_data/a.yml")?;
+    match read_data(alloc, &yaml, "a: 1\nb: 'x\n") {
+        Err(DataError::Yaml(fault)) => assert_eq!(rt;
+            (fault.line, fault.kind),
+            (2, YamlKind::Quote)
+        ),
+        _ => Err("read")?,
+    }
+    let other = SitePath::read(alloc, "_data/a.txt")?;
+    assert!(rt; matches!(read_data(alloc, &other, "1"), Ok(None)));
     Ok(())
 }

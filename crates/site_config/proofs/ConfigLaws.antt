@@ -13,10 +13,24 @@ use Rattle.site_config.specs.declared.parts.Breaks.{Breaks}
 
 abbrev pub made : Addresses → Choices → Documents → Breaks → Option ℕ → ℤ → Bool → Bool → Bool → Pairs → Config
 made a s d b paginate timezone future unpublished show_drafts all = record {
-    baseurl = a.baseurl; url = a.url; permalink = a.permalink; markdown_ext = a.markdown_ext; include = s.include; exclude = s.exclude; keep_files = s.keep_files;
-    collections = d.collections; defaults = d.defaults; paginate = paginate; paginate_path = b.paginate_path; excerpt_separator = b.excerpt_separator; timezone = timezone;
-    future = future; unpublished = unpublished; show_drafts = show_drafts; all = all
-  }
+  baseurl = a.baseurl;
+  url = a.url;
+  permalink = a.permalink;
+  markdown_ext = a.markdown_ext;
+  include = s.include;
+  exclude = s.exclude;
+  keep_files = s.keep_files;
+  collections = d.collections;
+  defaults = d.defaults;
+  paginate = paginate;
+  paginate_path = b.paginate_path;
+  excerpt_separator = b.excerpt_separator;
+  timezone = timezone;
+  future = future;
+  unpublished = unpublished;
+  show_drafts = show_drafts;
+  all = all;
+}
 
 pub of_parts : (v : Plain) (a : Addresses) (s : Choices) (d : Documents) (b : Breaks) (paginate : Option ℕ) (timezone : ℤ) (future unpublished show_drafts : Bool) (all : Pairs)
     → a ≡ addresses v → s ≡ choices v → d ≡ documents v → b ≡ breaks v → paginate ≡ count_of (setting (codes "paginate") v) → timezone ≡ offset_of (setting (codes "timezone") v)
