@@ -11,11 +11,11 @@ onto_item : (is js : Items) (v : Plain) → onto (onto is (item v no_items)) js 
 onto_item no_items js v = refl
 onto_item (item w is) js v = ap (λ ks. item w ks) (onto_item is js v)
 
-onto_nothing : (is : Items) → onto is no_items ≡ is
+pub onto_nothing : (is : Items) → onto is no_items ≡ is
 onto_nothing no_items = refl
 onto_nothing (item w is) = ap (λ ks. item w ks) (onto_nothing is)
 
-map_onto : (is : Items) (v : Plain) (o : Option Items) → option_map (onto (onto is (item v no_items))) o ≡ option_map (onto is) (option_map (item v) o)
+pub map_onto : (is : Items) (v : Plain) (o : Option Items) → option_map (onto (onto is (item v no_items))) o ≡ option_map (onto is) (option_map (item v) o)
 map_onto is v None = refl
 map_onto is v (Some js) = ap (λ ks. Some ks) (onto_item is js v)
 

@@ -1,1 +1,3 @@
+pub mod Formats
 pub mod Json
+pub mod Tables

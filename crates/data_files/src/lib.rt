@@ -1,11 +1,18 @@
 //! Data files: the values of their texts.
 #![tactic(auto)]
 
+mod data_error;
+mod files;
+mod format;
 mod json;
 mod refusal;
+mod tables;
 
+pub use data_error::DataError;
+pub use files::read_data;
 pub use json::read_json;
 pub use refusal::Refusal;
+pub use tables::{read_csv, read_tsv};
 
 #[cfg(test)]
 mod tests;

@@ -4,3 +4,4 @@ pub mod Forms
 pub mod Lists
 pub mod Parts
 pub mod Table
+pub mod Texts

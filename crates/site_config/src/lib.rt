@@ -4,6 +4,7 @@
 mod collection;
 mod collections;
 mod config;
+mod config_error;
 mod form;
 mod forms;
 mod names;
@@ -15,14 +16,17 @@ mod settings;
 mod table;
 #[cfg(test)]
 mod tests;
+mod texts;
 mod value_error;
 mod values;
 
 pub use collection::Collection;
 pub use collections::Collections;
 pub use config::Config;
+pub use config_error::ConfigError;
 pub use names::Names;
 pub use scope::Scope;
 pub use scopes::Scopes;
+pub use texts::read_config;
 pub use value_error::ValueError;
 pub use values::config_of;

@@ -1,6 +1,6 @@
 // Configurations of rows of values.
-use crate::{Config, ValueError, config_of};
-use site_base::{Hash, List, Text, Value};
+use crate::{Config, ConfigError, ValueError, config_of, read_config};
+use site_base::{Hash, List, Text, Value, YamlKind};
 use std::alloc::Global;
 use std::test::Fail;
 
@@ -155,5 +155,40 @@ fn reads_each_form(rt: HostRuntime) -> Result<(), Fail> {
     assert_eq!(rt; config.timezone, 9000);
     assert!(rt; config.future);
     assert_eq!(rt; config.all.len(), 8);
+    Ok(())
+}
+
+#[test]
+fn reads_texts(rt: HostRuntime) -> Result<(), Fail> {
+    let alloc = rt.alloc();
+    match read_config(alloc, Some("paginate: x\n")) {
+        Err(ConfigError::Key(key)) => assert_eq!(rt; key.as_str(), "paginate"),
+        _ => Err("read")?,
+    }
+    match read_config(alloc, Some("title: a\nurl: 'x\n")) {
+        Err(ConfigError::Yaml(fault)) => assert_eq!(rt;
+            (fault.line, fault.kind),
+            (2, YamlKind::Quote)
+        ),
+        _ => Err("read")?,
+    }
+    match read_config(alloc, Some("- a\n")) {
+        Err(ConfigError::Yaml(fault)) => assert_eq!(rt;
+            (fault.line, fault.kind),
+            (1, YamlKind::NotMapping)
+        ),
+        _ => Err("read")?,
+    }
+    match read_config(alloc, Some("collections: [films]\nfuture: yes\n")) {
+        Ok(config) => {
+            assert!(rt; config.future);
+            assert_eq!(rt; config.collections.as_slice().len(), 2);
+        }
+        _ => Err("refused")?,
+    }
+    match read_config(alloc, None) {
+        Ok(config) => assert_eq!(rt; config.permalink.as_str(), "date"),
+        _ => Err("refused")?,
+    }
     Ok(())
 }
