@@ -1,5 +1,6 @@
 // Configurations of rows of values.
 use crate::{Config, ConfigError, ValueError, config_of, read_config};
+use front_yaml::YamlFault;
 use site_base::{Hash, List, Text, Value, YamlKind};
 use std::alloc::Global;
 use std::test::Fail;
@@ -158,37 +159,48 @@ fn reads_each_form(rt: HostRuntime) -> Result<(), Fail> {
     Ok(())
 }
 
+// The key that a configuration is refused for, if it is for one.
+fn wrong_key(alloc: Global, text: &str) -> Option<Text> {
+    match read_config(alloc, Some(text)) {
+        Ok(_config) => None,
+        Err(error) => match error {
+            ConfigError::Key(key) => Some(key),
+            ConfigError::Yaml(_fault) => None,
+            ConfigError::Memory => None,
+        },
+    }
+}
+
+// The fault of YAML that a configuration is refused for, if it is for one.
+fn yaml_fault(alloc: Global, text: &str) -> Option<YamlFault> {
+    match read_config(alloc, Some(text)) {
+        Ok(_config) => None,
+        Err(error) => match error {
+            ConfigError::Key(_key) => None,
+            ConfigError::Yaml(fault) => Some(fault),
+            ConfigError::Memory => None,
+        },
+    }
+}
+
+fn configured(alloc: Global, text: &str) -> Option<Config> {
+    match read_config(alloc, Some(text)) {
+        Ok(config) => Some(config),
+        Err(_error) => None,
+    }
+}
+
 #[test]
 fn reads_texts(rt: HostRuntime) -> Result<(), Fail> {
     let alloc = rt.alloc();
-    match read_config(alloc, Some("paginate: x\n")) {
-        Err(ConfigError::Key(key)) => assert_eq!(rt; key.as_str(), "paginate"),
-        _ => Err("read")?,
-    }
-    match read_config(alloc, Some("title: a\nurl: 'x\n")) {
-        Err(ConfigError::Yaml(fault)) => assert_eq!(rt;
-            (fault.line, fault.kind),
-            (2, YamlKind::Quote)
-        ),
-        _ => Err("read")?,
-    }
-    match read_config(alloc, Some("- a\n")) {
-        Err(ConfigError::Yaml(fault)) => assert_eq!(rt;
-            (fault.line, fault.kind),
-            (1, YamlKind::NotMapping)
-        ),
-        _ => Err("read")?,
-    }
-    match read_config(alloc, Some("collections: [films]\nfuture: yes\n")) {
-        Ok(config) => {
-            assert!(rt; config.future);
-            assert_eq!(rt; config.collections.as_slice().len(), 2);
-        }
-        _ => Err("refused")?,
-    }
-    match read_config(alloc, None) {
-        Ok(config) => assert_eq!(rt; config.permalink.as_str(), "date"),
-        _ => Err("refused")?,
-    }
+    let key = wrong_key(alloc, "paginate: x\n").ok_or("no key")?;
+    assert_eq!(rt; key.as_str(), "paginate");
+    let quote = yaml_fault(alloc, "title: a\nurl: 'x\n").ok_or("no fault")?;
+    assert_eq!(rt; (quote.line, quote.kind), (2, YamlKind::Quote));
+    let list = yaml_fault(alloc, "- a\n").ok_or("no fault")?;
+    assert_eq!(rt; (list.line, list.kind), (1, YamlKind::NotMapping));
+    let config = configured(alloc, "collections: [films]\nfuture: yes\n").ok_or("refused")?;
+    assert!(rt; config.future);
+    assert_eq!(rt; config.collections.as_slice().len(), 2);
     Ok(())
 }
