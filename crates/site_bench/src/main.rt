@@ -1,11 +1,7 @@
 // The measured program: reads its standard input, and calls one library on it. `bench/` runs it.
 #![tactic(auto)]
 
-use data_files::{DataError, read_data};
 use front_yaml::{YamlError, read_yaml};
-use liquid_parse::{ParseError, parse};
-use site_base::SitePath;
-use site_config::{ConfigError, read_config};
 use std::process::ExitCode;
 use std::{env, io};
 
@@ -26,10 +22,6 @@ fn main(rt: HostRuntime) -> ExitCode {
     match arguments.nth(1) {
         Some(word) if word.as_str() == "nothing" => ExitCode::SUCCESS,
         Some(word) if word.as_str() == "yaml" => ExitCode::from(yaml(rt, text.as_str())),
-        Some(word) if word.as_str() == "config" => ExitCode::from(config(rt, text.as_str())),
-        Some(word) if word.as_str() == "json" => ExitCode::from(data(rt, "a.json", text.as_str())),
-        Some(word) if word.as_str() == "csv" => ExitCode::from(data(rt, "a.csv", text.as_str())),
-        Some(word) if word.as_str() == "liquid" => ExitCode::from(liquid(rt, text.as_str())),
         _ => ExitCode::from(USAGE),
     }
 }
@@ -40,35 +32,5 @@ fn yaml(rt: HostRuntime, text: &str) -> u8 {
         Ok(_) => 0,
         Err(YamlError::Fault(_)) => REFUSED,
         Err(YamlError::Memory) => FAILED,
-    }
-}
-
-// The status of reading a configuration.
-fn config(rt: HostRuntime, text: &str) -> u8 {
-    match read_config(rt.alloc(), Some(text)) {
-        Ok(_) => 0,
-        Err(ConfigError::Memory) => FAILED,
-        Err(_) => REFUSED,
-    }
-}
-
-// The status of reading a data file of this name.
-fn data(rt: HostRuntime, name: &str, text: &str) -> u8 {
-    let Ok(path) = SitePath::read(rt.alloc(), name) else {
-        return FAILED;
-    };
-    match read_data(rt.alloc(), &path, text) {
-        Ok(_) => 0,
-        Err(DataError::Memory) => FAILED,
-        Err(_) => REFUSED,
-    }
-}
-
-// The status of parsing a template.
-fn liquid(rt: HostRuntime, text: &str) -> u8 {
-    match parse(rt.alloc(), text) {
-        Ok(_) => 0,
-        Err(ParseError::Fault(_, _)) => REFUSED,
-        Err(ParseError::Memory) => FAILED,
     }
 }
