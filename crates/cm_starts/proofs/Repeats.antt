@@ -96,7 +96,7 @@ pub one_attribute : (text rest : List ℕ) (at n : ℕ) (whole : Option ℕ) →
 one_attribute text rest at n whole e f w =
     let taken : attribute (drop at text) ≡ Some n = ap attribute (sym e) ∙ sym f in
     sym (ap (λ (o : Option ℕ). plus at o) (repeat_goes attribute attribute_goes (drop at text) n taken)
-        ∙ plus_plus at n (repeat attribute (drop n (drop at text))) ∙ ap (λ (t : List ℕ). plus (at + n) (repeat attribute t)) (drop_drop at n text)) ∙ w
+    ∙ plus_plus at n (repeat attribute (drop n (drop at text))) ∙ ap (λ (t : List ℕ). plus (at + n) (repeat attribute t)) (drop_drop at n text)) ∙ w
 
 pub attribute_some : (t rest : List ℕ) (at n : ℕ) → rest ≡ drop at t → Some n ≡ attribute rest → 0 < n
 attribute_some t rest at n e f = (attribute_goes rest n (sym f)).0

@@ -1,5 +1,5 @@
 -- Tags by their names, and tags alone on a line.
-use Rattle.std.proofs.Common.{◌≡◌, ◌∙◌, Bool, List, None, Option, Some, [], ap, arith, drop, false, length, refl, suc, sym, take, true, zero, ℕ, ◌&&◌, ◌+◌, ◌-◌, ◌<◌, ◌==◌, ◌∷◌, ◌≤◌}
+use Rattle.std.proofs.Common.{◌≡◌, ◌∙◌, Bool, List, None, Option, Some, [], ap, arith, drop, false, length, refl, suc, sym, take, true, ℕ, ◌&&◌, ◌+◌, ◌-◌, ◌==◌, ◌∷◌, ◌≤◌}
 use Rattle.std.proofs.lemmas.List.{length-drop}
 use Rattle.markdown_grammar.specs.Bytes.{is_alnum, is_space, lowered}
 use Rattle.markdown_grammar.specs.Fronts.{has, is_empty, run_len}

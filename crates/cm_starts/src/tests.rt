@@ -1,7 +1,7 @@
 // What lines start, by the standard's examples.
 use crate::{
-    Place, Start, closes_fence, fence, heading, html_block, is_thematic_break, line_start, list_mark,
-    underline,
+    Place, Start, closes_fence, fence, heading, html_block, is_thematic_break, line_start,
+    list_mark, underline,
 };
 use std::test::Fail;
 

@@ -1,4 +1,4 @@
-use Rattle.std.proofs.Common.{◌≡◌, ◌-◌, ◌≤◌, drop, length}
+use Rattle.std.proofs.Common.{◌≡◌, ◌-◌, drop, length}
 use Rattle.markdown_grammar.specs.Bytes.{lowered}
 use Rattle.markdown_grammar.specs.Fronts.{same_bytes}
 use Rattle.cm_starts.proofs.names.is_name.Given as goal
