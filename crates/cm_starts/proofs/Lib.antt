@@ -1,1 +1,4 @@
 mod Ends
+mod Repeats
+mod Words
+mod Tagged

@@ -1,19 +1,26 @@
-//! What a line of Markdown starts: thematic breaks, headings, fenced code and list items, each told by
-//! the text of a line behind its white space.
+//! What a line of Markdown starts, told by where it stands, its indent, and its text behind that: quotes,
+//! headings, fenced code, HTML, thematic breaks, list items and indented code.
 #![tactic(auto)]
 
 mod breaks;
+mod classes;
 mod fences;
 mod headings;
+mod html;
 mod items;
 mod kinds;
+mod names;
+mod starts;
+mod tags;
 mod texts;
 
 pub use breaks::is_thematic_break;
 pub use fences::{closes_fence, fence};
 pub use headings::{heading, underline};
+pub use html::html_block;
 pub use items::list_mark;
 pub use kinds::{Place, Start};
+pub use starts::line_start;
 
 #[cfg(test)]
 mod tests;

@@ -1,5 +1,8 @@
 // What lines start, by the standard's examples.
-use crate::{Place, Start, closes_fence, fence, heading, is_thematic_break, list_mark, underline};
+use crate::{
+    Place, Start, closes_fence, fence, heading, html_block, is_thematic_break, line_start,
+    list_mark, underline,
+};
 use std::test::Fail;
 
 const PARAGRAPH: Place = Place::Paragraph { has_text: true };
@@ -116,6 +119,69 @@ fn items_are_told(rt: HostRuntime) -> Result<(), Fail> {
     ];
     for (place, text, start) in rows {
         assert_eq!(rt; list_mark(place, text), start, "{text}");
+    }
+    Ok(())
+}
+
+#[test]
+fn html_is_told(rt: HostRuntime) -> Result<(), Fail> {
+    let rows = [
+        (Place::Fresh, "<script>", 1),
+        (Place::Fresh, "<PRE", 1),
+        (PARAGRAPH, "<!-- a", 2),
+        (PARAGRAPH, "<?php", 3),
+        (PARAGRAPH, "<!DOCTYPE html>", 4),
+        (PARAGRAPH, "<![CDATA[", 5),
+        (PARAGRAPH, "<dIV>", 6),
+        (PARAGRAPH, "</td/>", 6),
+        (PARAGRAPH, "<h1 ", 6),
+        (Place::Fresh, "<a href='b' c=\"d\" e=f g>  ", 7),
+        (Place::Fresh, "<i />", 7),
+        (Place::Fresh, "</ins >", 7),
+    ];
+    for (place, text, kind) in rows {
+        assert_eq!(rt; html_block(place, text), Start::Html { kind }, "{text}");
+    }
+    let others = [
+        (PARAGRAPH, "<a>"),
+        (Place::Beside, "<a>"),
+        (Place::Fresh, "<a> b"),
+        (Place::Fresh, "<a b=>"),
+        (Place::Fresh, "<a b='c'd>"),
+        (Place::Fresh, "</pre>"),
+        (Place::Fresh, "</a b>"),
+        (Place::Fresh, "<divs"),
+        (Place::Fresh, "<33>"),
+        (Place::Fresh, "a"),
+        (Place::Fresh, ""),
+    ];
+    for (place, text) in others {
+        assert_eq!(rt; html_block(place, text), Start::Text, "{text}");
+    }
+    Ok(())
+}
+
+#[test]
+fn marks_are_tried_in_their_order(rt: HostRuntime) -> Result<(), Fail> {
+    let rows = [
+        (Place::Fresh, 0, "", Start::Blank),
+        (Place::Fresh, 9, "", Start::Blank),
+        (PARAGRAPH, 3, "> a", Start::Quote),
+        (PARAGRAPH, 0, "---", Start::Underline { level: 2 }),
+        (Place::Fresh, 0, "---", Start::Break),
+        (Place::Fresh, 0, "- -", numbered('-', 1, 0)),
+        (Place::Fresh, 0, "* * *", Start::Break),
+        (Place::Fresh, 0, "===", Start::Text),
+        (Place::Fresh, 0, "# a", headed(1, "a")),
+        (Place::Fresh, 2, "~~~ a", fenced('~', 3, "a")),
+        (Place::Fresh, 0, "<div>", Start::Html { kind: 6 }),
+        (Place::Fresh, 4, "> a", Start::Indented),
+        (Place::Beside, 4, "> a", Start::Text),
+        (PARAGRAPH, 4, "> a", Start::Text),
+        (Place::Fresh, 0, "a", Start::Text),
+    ];
+    for (place, indent, text, start) in rows {
+        assert_eq!(rt; line_start(place, indent, text), start, "{text}");
     }
     Ok(())
 }

@@ -1,0 +1,145 @@
+// What starts a block of HTML.
+ghost use Rattle.std.specs.Prelude.{◌≡◌, ◌<◌, ◌≤◌, ◌&&◌, codes, length, take, drop};
+ghost use Rattle.markdown_grammar.specs.Fronts.{begins_with, first_byte, has, run_len};
+ghost use Rattle.markdown_grammar.specs.Bytes as bytes;
+ghost use Rattle.markdown_grammar.specs.HtmlStarts as grammar;
+ghost use Rattle.markdown_grammar.specs.Places as places;
+ghost use Rattle.markdown_grammar.specs.Readers.{◌or◌};
+ghost use Rattle.markdown_grammar.specs.Readers as readers;
+ghost use Rattle.cm_starts.specs.Answers.{as_place, as_start};
+ghost use Rattle.cm_starts.specs.HtmlParts.{marked_at, tagged_at};
+
+use crate::classes::{Class, class_run, is_letter};
+use crate::kinds::{Place, Start};
+use crate::names::{is_block, is_verbatim};
+use crate::tags::is_alone;
+use crate::texts::is_space;
+
+/// The block of HTML that a line starts, by its text behind the white space in front, or `Text` where
+/// it starts none. Kind 7, any other tag alone on its line, starts only where no paragraph is open.
+/// CommonMark 0.31.2, section 4.6.
+pub fn html_block<'a>(place: Place, text: &'a str) -> Start<'a>
+    ensures { as_start result ≡ grammar.html_at (as_place place) text.now }
+{
+    let bytes = text.as_bytes();
+    if bytes.len() == 0 || bytes[0] != b'<' {
+        return Start::Text;
+    }
+    if starts_verbatim(&bytes[1..]) {
+        return Start::Html { kind: 1 };
+    }
+    marked(place, bytes)
+}
+
+// Kinds 2 to 5, and those behind them.
+fn marked<'a>(place: Place, text: &'a [u8]) -> Start<'a>
+    requires { 0 < length text.now }
+    ensures { as_start result ≡ marked_at (as_place place) text.now }
+{
+    if begins(text, b"<!--") {
+        return Start::Html { kind: 2 };
+    }
+    if begins(text, b"<?") {
+        return Start::Html { kind: 3 };
+    }
+    if begins(text, b"<!") && is_letter(byte_at(text, 2)) {
+        return Start::Html { kind: 4 };
+    }
+    if begins(text, b"<![CDATA[") {
+        return Start::Html { kind: 5 };
+    }
+    tagged(place, text)
+}
+
+// Kinds 6 and 7.
+fn tagged<'a>(place: Place, text: &'a [u8]) -> Start<'a>
+    requires { 0 < length text.now }
+    ensures { as_start result ≡ tagged_at (as_place place) text.now }
+{
+    let tag = tag_text(text);
+    if starts_listed(tag) {
+        return Start::Html { kind: 6 };
+    }
+    if is_fresh(place) && is_alone(text) && !is_verbatim(name_of(tag)) {
+        return Start::Html { kind: 7 };
+    }
+    Start::Text
+}
+
+fn is_fresh(place: Place) -> bool
+    ensures { result ≡ places.is_fresh (as_place place) }
+{
+    match place {
+        Place::Fresh => true,
+        Place::Beside => false,
+        Place::Paragraph { .. } => false,
+    }
+}
+
+// A byte, or 0 behind the end.
+fn byte_at(text: &[u8], k: usize) -> u8
+    ensures { result ≡ first_byte (drop k text.now) }
+{
+    if k < text.len() { text[k] } else { 0 }
+}
+
+// What stands behind `<` or `</`.
+fn tag_text(text: &[u8]) -> &[u8]
+    requires { 0 < length text.now }
+    ensures { result.now ≡ grammar.tag_text text.now }
+{
+    if text.len() > 1 && text[1] == b'/' {
+        return &text[2..];
+    }
+    &text[1..]
+}
+
+fn name_of(text: &[u8]) -> &[u8]
+    ensures { result.now ≡ take (run_len bytes.is_alnum text.now) text.now }
+{
+    let n = class_run(Class::Alnum, text);
+    &text[..n]
+}
+
+fn starts_verbatim(text: &[u8]) -> bool
+    ensures { result ≡ grammar.starts_verbatim text.now }
+{
+    let name = name_of(text);
+    is_verbatim(name) && ends_name(&text[name.len()..])
+}
+
+fn starts_listed(text: &[u8]) -> bool
+    ensures { result ≡ grammar.starts_listed text.now }
+{
+    let name = name_of(text);
+    is_block(name) && ends_listed(&text[name.len()..])
+}
+
+fn ends_name(text: &[u8]) -> bool
+    ensures { result ≡ has (grammar.tag_end text.now) }
+{
+    text.len() == 0 || is_space(text[0]) || text[0] == b'>'
+}
+
+fn ends_listed(text: &[u8]) -> bool
+    ensures { result ≡ has ((grammar.tag_end or readers.exactly (codes "/>")) text.now) }
+{
+    ends_name(text) || begins(text, b"/>")
+}
+
+// Whether a text begins with a word.
+fn begins(text: &[u8], word: &[u8]) -> bool
+    ensures { result ≡ begins_with word.now text.now }
+{
+    if text.len() < word.len() {
+        return false;
+    }
+    let mut i = 0;
+    while i < word.len() {
+        if text[i] != word[i] {
+            return false;
+        }
+        i += 1;
+    }
+    true
+}
