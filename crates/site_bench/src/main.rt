@@ -2,6 +2,7 @@
 #![tactic(auto)]
 
 use front_yaml::{YamlError, read_yaml};
+use liquid_parse::{ParseError, parse};
 use std::process::ExitCode;
 use std::{env, io};
 
@@ -22,6 +23,7 @@ fn main(rt: HostRuntime) -> ExitCode {
     match arguments.nth(1) {
         Some(word) if word.as_str() == "nothing" => ExitCode::SUCCESS,
         Some(word) if word.as_str() == "yaml" => ExitCode::from(yaml(rt, text.as_str())),
+        Some(word) if word.as_str() == "liquid" => ExitCode::from(liquid(rt, text.as_str())),
         _ => ExitCode::from(USAGE),
     }
 }
@@ -32,5 +34,14 @@ fn yaml(rt: HostRuntime, text: &str) -> u8 {
         Ok(_) => 0,
         Err(YamlError::Fault(_)) => REFUSED,
         Err(YamlError::Memory) => FAILED,
+    }
+}
+
+// The status of parsing a template.
+fn liquid(rt: HostRuntime, text: &str) -> u8 {
+    match parse(rt.alloc(), text) {
+        Ok(_) => 0,
+        Err(ParseError::Fault(_, _)) => REFUSED,
+        Err(ParseError::Memory) => FAILED,
     }
 }
