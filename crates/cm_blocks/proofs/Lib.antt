@@ -1,0 +1,2 @@
+mod LeafSteps
+mod Walking

@@ -1,0 +1,4 @@
+pub mod Leaves
+pub mod Tokens
+pub mod Flat
+pub mod OpenWalk

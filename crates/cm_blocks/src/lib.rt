@@ -1,0 +1,6 @@
+//! The blocks of a Markdown text: containers and leaves, found in one walk over its lines.
+#![tactic(auto)]
+
+mod kinds;
+
+pub use kinds::{Container, Leaf, Token};
