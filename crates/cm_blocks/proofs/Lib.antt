@@ -1,2 +1,3 @@
 mod LeafSteps
 mod Walking
+mod Reaches

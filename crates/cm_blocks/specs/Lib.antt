@@ -2,3 +2,4 @@ pub mod Leaves
 pub mod Tokens
 pub mod Flat
 pub mod OpenWalk
+pub mod Reaching

@@ -2,5 +2,6 @@
 #![tactic(auto)]
 
 mod kinds;
+mod reaching;
 
 pub use kinds::{Container, Leaf, Token};
