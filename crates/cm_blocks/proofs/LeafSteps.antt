@@ -10,7 +10,8 @@ use Rattle.markdown_grammar.specs.Lines.{ended_lines, is_blank, joined_lines, tr
 use Rattle.markdown_grammar.specs.LineStarts.{start_of}
 use Rattle.markdown_grammar.specs.Places.{in_paragraph}
 use Rattle.markdown_grammar.specs.Starts.{Start, atx_start, blank_start, break_start, fence_start, html_start, indented_start, item_start, quote_start, text_start, underline_start}
-use Rattle.cm_blocks.specs.Leaves.{code_on, ended, fence_on, holds_text, html_on, leaf_of, more_of, prose_on, unended}
+use Rattle.cm_blocks.specs.Leaves.{code_on, fence_on, holds_text, html_on, leaf_of, more_of, prose_on}
+use Rattle.cm_blocks.specs.LineTexts.{ended, unended}
 use Rattle.cm_blocks.specs.declared.kinds.Leaf.{Leaf}
 use Rattle.cm_blocks.specs.declared.kinds.Leaf.TheVariants.{Fenced, Html, Indented, Paragraph, Underlined}
 

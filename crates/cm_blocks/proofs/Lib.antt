@@ -1,3 +1,5 @@
 mod LeafSteps
 mod Walking
 mod Reaches
+mod HtmlWords
+mod LeafTaking

@@ -1,6 +1,5 @@
 -- Leaf blocks by their texts, and whether they take one more line: CommonMark 0.31.2, section 4.
-use Rattle.std.specs.Prelude.{Bool, List, None, Option, Some, [], false, if◌then◌else◌, length, nat_lt, not, take, true, ℕ, ◌&&◌, ◌++◌, ◌-◌, ◌∷◌}
-use Rattle.markdown_grammar.specs.Bytes.{line_feed}
+use Rattle.std.specs.Prelude.{Bool, List, None, Option, Some, [], false, if◌then◌else◌, length, nat_lt, not, true, ℕ, ◌&&◌, ◌++◌}
 use Rattle.markdown_grammar.specs.Columns.{Line, indent, lazy_line, line_text, own_line, shifted}
 use Rattle.markdown_grammar.specs.Definitions.{after_definitions}
 use Rattle.markdown_grammar.specs.Fences.{closes_fence}
@@ -10,6 +9,7 @@ use Rattle.markdown_grammar.specs.Lines.{ended_lines, is_blank, trim_front}
 use Rattle.markdown_grammar.specs.Leaves as grammar
 use Rattle.markdown_grammar.specs.Places.{in_paragraph}
 use Rattle.markdown_grammar.specs.Starts.{Start, text_start, underline_start}
+use Rattle.cm_blocks.specs.LineTexts.{ended, unended}
 use Rattle.cm_blocks.specs.declared.kinds.Leaf.{Leaf}
 use Rattle.cm_blocks.specs.declared.kinds.Leaf.TheVariants.{Break, Fenced, Heading, Html, Indented, Paragraph, Underlined}
 
@@ -22,14 +22,6 @@ leaf_of grammar.thematic_break = Break
 leaf_of (grammar.indented_code texts pending) = Indented (ended_lines texts ++ ended_lines pending) (length (ended_lines texts))
 leaf_of (grammar.fenced_code i mark len info texts is_closed) = Fenced i mark len info (ended_lines texts) is_closed
 leaf_of (grammar.html_block kind texts is_closed) = Html kind (ended_lines texts) is_closed
-
--- a line with its end
-abbrev pub ended : List ℕ → List ℕ
-ended t = t ++ line_feed ∷ []
-
--- the text of lines without the last line end
-abbrev pub unended : List ℕ → List ℕ
-unended text = take (length text - 1) text
 
 -- a paragraph has text beside its definitions
 abbrev pub holds_text : List ℕ → Bool

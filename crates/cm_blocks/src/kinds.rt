@@ -1,4 +1,5 @@
 // Containers and leaves as a walk over the lines holds them, and what it makes of them.
+use crate::leaf_lines::LeafLines;
 use site_base::Text;
 
 /// A container: a block quote, or a list item by the column where its content starts behind the place
@@ -14,17 +15,16 @@ pub enum Container {
     },
 }
 
-/// A leaf block with what decides whether it takes one more line. The texts of lines have a line end
-/// behind each. CommonMark 0.31.2, section 4.
+/// A leaf block with what decides whether it takes one more line. CommonMark 0.31.2, section 4.
 #[derive(Drop)]
 pub enum Leaf {
     Paragraph {
-        text: Text,
+        text: LeafLines,
     },
     /// A paragraph that an underline has made a heading.
     Underlined {
         level: u32,
-        text: Text,
+        text: LeafLines,
     },
     /// A heading by `#`.
     Heading {
@@ -34,7 +34,7 @@ pub enum Leaf {
     Break,
     /// Indented code: behind so many bytes, blank lines that are code only where more follows.
     Indented {
-        text: Text,
+        text: LeafLines,
         size: usize,
     },
     Fenced {
@@ -42,12 +42,12 @@ pub enum Leaf {
         mark: char,
         len: usize,
         info: Text,
-        text: Text,
+        text: LeafLines,
         is_closed: bool,
     },
     Html {
         kind: u32,
-        text: Text,
+        text: LeafLines,
         is_closed: bool,
     },
 }

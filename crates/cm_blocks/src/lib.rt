@@ -1,7 +1,11 @@
 //! The blocks of a Markdown text: containers and leaves, found in one walk over its lines.
 #![tactic(auto)]
 
+mod html_ends;
 mod kinds;
+mod leaf_lines;
+mod leaf_more;
 mod reaching;
 
 pub use kinds::{Container, Leaf, Token};
+pub use leaf_lines::LeafLines;
