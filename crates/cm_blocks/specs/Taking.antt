@@ -1,5 +1,5 @@
 -- Whether a leaf has taken one more line.
-use Rattle.std.specs.Prelude.{Bool, List, None, Option, Some, ℕ, ◌≡◌}
+use Rattle.std.specs.Prelude.{Bool, List, None, Option, Some, false, true, ℕ, ◌≡◌}
 use Rattle.markdown_grammar.specs.Columns.{Line}
 use Rattle.markdown_grammar.specs.Starts as starts
 use Rattle.cm_blocks.specs.declared.kinds.Leaf.{Leaf}
@@ -18,3 +18,7 @@ abbrev pub next_of : starts.Start → Next
 next_of starts.text_start = Text
 next_of (starts.underline_start level) = Underline level
 next_of _ = Other
+
+abbrev pub is_underline : Next → Bool
+is_underline (Underline level) = true
+is_underline _ = false

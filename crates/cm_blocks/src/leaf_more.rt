@@ -1,6 +1,6 @@
 // Leaves that take one more line.
-ghost use Rattle.std.specs.Prelude.{◌≡◌, ◌==◌, ◌≤◌, ◌&&◌, false, IfOk, length, nat_le, nat_lt, drop, not};
-ghost use Rattle.markdown_grammar.specs.Definitions.{after_definitions};
+ghost use Rattle.std.specs.Prelude.{◌≡◌, ◌==◌, ◌≤◌, ◌&&◌, false, IfOk, IfSome, option_map, length, nat_le, nat_lt, drop, not};
+ghost use Rattle.markdown_grammar.specs.Definitions.{after_definitions, front_definition};
 ghost use Rattle.markdown_grammar.specs.Fences as fences;
 ghost use Rattle.markdown_grammar.specs.Fronts.{run_len};
 ghost use Rattle.markdown_grammar.specs.HtmlStarts as html;
@@ -8,16 +8,17 @@ ghost use Rattle.markdown_grammar.specs.Lines as lines;
 ghost use Rattle.markdown_grammar.specs.LineStarts.{start_of};
 ghost use Rattle.markdown_grammar.specs.Places.{in_paragraph};
 ghost use Rattle.cm_containers.specs.Spots.{BehindWhite, IsSpot, rest_at, text_at};
+ghost use Rattle.cm_links.specs.Cuts.{IsFront};
 ghost use Rattle.cm_blocks.specs.LineTexts.{unended};
 ghost use Rattle.cm_blocks.specs.Leaves.{code_on, fence_on, holds_text, html_on, more_of, prose_on};
-ghost use Rattle.cm_blocks.specs.Taking.{IsTaken, next_of};
+ghost use Rattle.cm_blocks.specs.Taking.{IsTaken, is_underline, next_of};
 ghost use Rattle.cm_blocks.specs.declared.kinds.Leaf.TheVariants as leaf;
 
 use crate::html_ends::ends_html;
 use crate::kinds::Leaf;
 use crate::leaf_lines::LeafLines;
 use cm_containers::{Spot, behind_white, shift};
-use cm_links::{definition, spaces};
+use cm_links::definition;
 use cm_starts::{Place, Start, line_start};
 use site_base::{Memory, Text};
 use std::alloc::Global;
@@ -96,15 +97,17 @@ fn next_line(
     ensures { IfOk result (λ next. next ≡ next_of (start_of (in_paragraph (holds_text text.now)) spot.column (text_at line.now spot))) }
 {
     let next = next_in(true, line, spot, white);
-    match next {
-        Next::Underline(_) => Ok(next_in(
-            has_text(alloc, text.inside())?,
-            line,
-            spot,
-            white,
-        )),
-        _ => Ok(next),
+    if !is_underline(next) {
+        return Ok(next);
     }
+    let has_text = has_text(alloc, text.inside())?;
+    Ok(next_in(has_text, line, spot, white))
+}
+
+fn is_underline(next: Next) -> bool
+    ensures { result ≡ is_underline next }
+{
+    matches!(next, Next::Underline(_))
 }
 
 fn next_in(has_text: bool, line: &str, spot: Spot, white: Spot) -> Next
@@ -125,11 +128,28 @@ fn has_text(alloc: Global, text: &str) -> Result<bool, Memory>
 {
     let mut rest = text;
     loop {
-        match definition(alloc, rest)? {
-            Some(found) => rest = &rest[found.end..],
-            None => return Ok(spaces(rest) < rest.len()),
+        match definition_end(alloc, rest)? {
+            Some(end) => rest = &rest[end..],
+            None => return Ok(!is_blank(rest)),
         }
     }
+}
+
+// Where the definition ends that a text begins with.
+fn definition_end(alloc: Global, text: &str) -> Result<Option<usize>, Memory>
+    ensures value { IfOk result (λ end. end ≡ option_map (λ found. found.size) (front_definition text.now)) }
+    ensures cut { IfOk result (λ end. IfSome end (IsFront text.now)) }
+{
+    match definition(alloc, text)? {
+        Some(found) => Ok(Some(found.end)),
+        None => Ok(None),
+    }
+}
+
+fn is_blank(text: &str) -> bool
+    ensures { result ≡ lines.is_blank text.now }
+{
+    is_white(text.as_bytes())
 }
 
 // Indented code: blank lines, and those with at least four columns of white space, of which four are
@@ -229,16 +249,16 @@ fn is_closing(mark: char, len: usize, line: &str, spot: Spot) -> bool
     ensures { result ≡ fences.closes_fence mark len spot.column (text_at line.now spot) }
 {
     let white = behind_white(line, spot);
-    white.column - spot.column < 4 && is_run(&line[white.at..], mark, len)
+    let bytes = line.as_bytes();
+    white.column - spot.column < 4 && is_run(&bytes[white.at..], mark, len)
 }
 
 // Whether a text is a run of a mark, at least so many, and white space behind it.
-fn is_run(text: &str, mark: char, least: usize) -> bool
+fn is_run(text: &[u8], mark: char, least: usize) -> bool
     ensures { result ≡ (nat_le least (run_len (λ d. d == mark) text.now) && lines.is_blank (drop (run_len (λ d. d == mark) text.now) text.now)) }
 {
-    let bytes = text.as_bytes();
-    let n = marks(bytes, mark);
-    least <= n && is_white(&bytes[n..])
+    let n = marks(text, mark);
+    least <= n && is_white(&text[n..])
 }
 
 fn marks(text: &[u8], mark: char) -> usize
