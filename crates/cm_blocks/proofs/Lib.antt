@@ -3,3 +3,6 @@ mod Walking
 mod Reaches
 mod HtmlWords
 mod LeafTaking
+mod Marks
+mod OpeningLaws
+mod BeginLaws

@@ -6,3 +6,6 @@ pub mod OpenWalk
 pub mod Reaching
 pub mod HtmlEnds
 pub mod Taking
+pub mod Opening
+pub mod Walks
+pub mod LineCuts

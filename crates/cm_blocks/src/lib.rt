@@ -5,7 +5,12 @@ mod html_ends;
 mod kinds;
 mod leaf_lines;
 mod leaf_more;
+mod lines;
+mod open_walk;
+mod opening;
 mod reaching;
+mod walk;
 
 pub use kinds::{Container, Leaf, Token};
 pub use leaf_lines::LeafLines;
+pub use open_walk::block_tokens;

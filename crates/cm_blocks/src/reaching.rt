@@ -30,7 +30,7 @@ pub(crate) fn go_into(stack: &[Container], is_prose: bool, is_filled: bool, line
     ensures value { reach_of line.now result ≡ reached is_prose is_filled stack.now (own_line 0 line.now) }
     ensures spot { IsSpot line.now result.spot }
     ensures kept { result.kept ≤ length stack.now }
-    ensures lazy { IsTrue result.is_lazy → IsTrue is_prose }
+    ensures lazy { IsTrue result.is_lazy → IsTrue is_prose × (result.kept ≡ length stack.now) }
 {
     let mut spot = Spot {
         at: 0,
@@ -54,8 +54,8 @@ pub(crate) fn go_into(stack: &[Container], is_prose: bool, is_filled: bool, line
     stop(kept, spot, false)
 }
 
-// Whether a container has a block, by whether the innermost has one.
-fn is_filled_at(is_filled: bool, next: usize, count: usize) -> bool
+/// Whether a container has a block, by whether the innermost has one.
+pub(crate) fn is_filled_at(is_filled: bool, next: usize, count: usize) -> bool
     ensures { result ≡ (is_filled || nat_lt next count) }
 {
     is_filled || next < count
