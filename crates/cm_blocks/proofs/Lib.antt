@@ -6,3 +6,5 @@ mod LeafTaking
 mod Marks
 mod OpeningLaws
 mod BeginLaws
+mod LineLaws
+mod WalkedText

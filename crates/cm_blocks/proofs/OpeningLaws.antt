@@ -18,7 +18,7 @@ use Rattle.cm_containers.proofs.Entering.{columns_before}
 use Rattle.cm_blocks.specs.Opening.{IsMark}
 use Rattle.cm_blocks.proofs.Marks.{MarkIn, start_mark}
 
-drop_length : (n : ℕ) (t : List ℕ) → length (drop n t) ≡ length t - n
+pub drop_length : (n : ℕ) (t : List ℕ) → length (drop n t) ≡ length t - n
 drop_length zero t = omega arith
 drop_length (suc n) [] = omega arith
 drop_length (suc n) (c ∷ cs) = omega (arith, drop_length n cs)
@@ -31,7 +31,7 @@ columns_more (suc a) n col [] = let e : suc a + n ≡ suc (a + n) = omega arith 
   nothing (suc n) = refl
 columns_more (suc a) n col (c ∷ cs) = let e : suc a + n ≡ suc (a + n) = omega arith in ap (λ (k : ℕ). column_behind col (take k (c ∷ cs))) e ∙ columns_more a n (behind_byte col c) cs
 
-byte_behind : (a i : ℕ) (t : List ℕ) → get_or (drop a t) i 0 ≡ get_or t (a + i) 0
+pub byte_behind : (a i : ℕ) (t : List ℕ) → get_or (drop a t) i 0 ≡ get_or t (a + i) 0
 byte_behind zero i t = let e : i ≡ 0 + i = omega arith in ap (λ (k : ℕ). get_or t k 0) e
 byte_behind (suc a) i [] = refl
 byte_behind (suc a) i (c ∷ cs) = let e : suc (a + i) ≡ suc a + i = omega arith in byte_behind a i cs ∙ ap (λ (k : ℕ). get_or (c ∷ cs) k 0) e
