@@ -37,7 +37,7 @@ unended_is (x ∷ []) =
     ap (λ (k : ℕ). take k (x ++ 10 ∷ [])) e ∙ take_front x (10 ∷ []) 0 ∙ append-nil x
 unended_is (x ∷ y ∷ ys) =
     let e : length (x ++ 10 ∷ ended_lines (y ∷ ys)) - 1 ≡ length x + suc (length (ended_lines (y ∷ ys)) - 1) =
-        omega (arith, length-append x (10 ∷ ended_lines (y ∷ ys)), length-append y (10 ∷ ended_lines ys)) in
+    omega (arith, length-append x (10 ∷ ended_lines (y ∷ ys)), length-append y (10 ∷ ended_lines ys)) in
     ap (λ (k : ℕ). take k (x ++ 10 ∷ ended_lines (y ∷ ys))) e
     ∙ take_front x (10 ∷ ended_lines (y ∷ ys)) (suc (length (ended_lines (y ∷ ys)) - 1)) ∙ ap (λ (t : List ℕ). x ++ 10 ∷ t) (unended_is (y ∷ ys))
 

@@ -98,11 +98,11 @@ item_mark t =
     (item_if not_in_paragraph (first_byte (drop (run_len is_digit t) t)) (number_in 10 0 (take (run_len is_digit t) t)) (run_len is_digit t) (drop (run_len is_digit t + 1) t)) text_start
     (λ e. either_mark t ((is_empty (drop (run_len is_digit t + 1) t) || is_space (first_byte (drop (run_len is_digit t + 1) t))) && true)
     (item_start (first_byte (drop (run_len is_digit t) t)) (number_in 10 0 (take (run_len is_digit t) t)) (run_len is_digit t)) text_start (λ f. ordered t e) tt) tt) where
-  bullet : (t : List ℕ) → ((first_byte t == 43) || ((first_byte t == 45) || (first_byte t == 42))) ≡ true → IsMark t (0 + 1)
-  bullet t e = let size : 1 ≡ 0 + 1 = omega arith in subst (λ (n : ℕ). IsMark t n) size (bullet_mark t e)
+      bullet : (t : List ℕ) → ((first_byte t == 43) || ((first_byte t == 45) || (first_byte t == 42))) ≡ true → IsMark t (0 + 1)
+      bullet t e = let size : 1 ≡ 0 + 1 = omega arith in subst (λ (n : ℕ). IsMark t n) size (bullet_mark t e)
 
-  ordered : (t : List ℕ) → ((nat_lt 0 (run_len is_digit t) && nat_lt (run_len is_digit t) 10) && ((first_byte (drop (run_len is_digit t) t) == 46) || (first_byte (drop (run_len is_digit t) t) == 41))) ≡ true → IsMark t (run_len is_digit t + 1)
-  ordered t e = let range = delimiter (first_byte (drop (run_len is_digit t) t)) (nat_lt 0 (run_len is_digit t) && nat_lt (run_len is_digit t) 10) e in digits_mark t (first_byte (drop (run_len is_digit t) t)) refl range.0 range.1
+      ordered : (t : List ℕ) → ((nat_lt 0 (run_len is_digit t) && nat_lt (run_len is_digit t) 10) && ((first_byte (drop (run_len is_digit t) t) == 46) || (first_byte (drop (run_len is_digit t) t) == 41))) ≡ true → IsMark t (run_len is_digit t + 1)
+      ordered t e = let range = delimiter (first_byte (drop (run_len is_digit t) t)) (nat_lt 0 (run_len is_digit t) && nat_lt (run_len is_digit t) 10) e in digits_mark t (first_byte (drop (run_len is_digit t) t)) refl range.0 range.1
 
 atx_mark : (t : List ℕ) → MarkIn t (atx_at t)
 atx_mark t = go _ _ where

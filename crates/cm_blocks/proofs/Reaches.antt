@@ -57,9 +57,9 @@ item_cases content col t blank wide = cond blank (goes_in_if_filled (shifted con
 pub kept_item : (b : Bool) (content col : ℕ) (t : List ℕ) → is_blank t ≡ false → kept_line (grammar.item_entry content col t) ≡ kept_by b (grammar.item_entry content col t)
 kept_item b content col t h =
     ap (λ (x : Bool). kept_line (item_cases content col t x (nat_le content (indent col t)))) h ∙ go (nat_le content (indent col t)) ∙ ap (λ (x : Bool). kept_by b (item_cases content col t x (nat_le content (indent col t)))) (sym h) where
-  go : (w : Bool) → kept_line (item_cases content col t false w) ≡ kept_by b (item_cases content col t false w)
-  go true = refl
-  go false = lazily_out b t (start_of beside_paragraph col t)
+      go : (w : Bool) → kept_line (item_cases content col t false w) ≡ kept_by b (item_cases content col t false w)
+      go true = refl
+      go false = lazily_out b t (start_of beside_paragraph col t)
 
 pub blank_item : (content col : ℕ) (t : List ℕ) → is_blank t ≡ true → None ≡ kept_by false (grammar.item_entry content col t)
 blank_item content col t h = sym (ap (λ (x : Bool). kept_by false (item_cases content col t x (nat_le content (indent col t)))) h)
@@ -172,11 +172,11 @@ pub stops_at : (p f : Bool) (ks : List Container) (i : ℕ) (d : Container) (lin
     → more_kept i (reached p f (drop i ks) (rest_at line s)) ≡ whole → reach_of line r ≡ whole
 stops_at p f ks i d line s whole b z r lt e h g a w =
     ap (reach_of line) a ∙ go z ∙ sym (ap (λ (m : Matched). more_kept i m) (ahead p f ks i d (rest_at line s) b lt e ∙ ap (entry_on p f (drop (i + 1) ks) (rest_at line s)) (entry_left p b (get_or ks i d) s.column (text_at line s) h ∙ ap (λ (x : Bool). line_when x (lazy_line (text_at line s))) (sym g)))) ∙ w where
-  go : (z : Bool) → reach_of line (record { kept = cond z (length ks) i; spot = s; is_lazy = z }) ≡ more_kept i (entry_on p f (drop (i + 1) ks) (rest_at line s) (line_when z (lazy_line (text_at line s))))
-  go true =
-      counted (length ks) (i + suc (length (drop (i + 1) ks))) (lazy_line (text_at line s)) (omega (arith, lt, drop_length (i + 1) ks))
-      ∙ sym (ap (λ (m : Matched). more_kept i (one_more_kept m)) (all_lazy p f (drop (i + 1) ks) (text_at line s)))
-  go false = counted i (i + 0) (rest_at line s) (omega arith)
+      go : (z : Bool) → reach_of line (record { kept = cond z (length ks) i; spot = s; is_lazy = z }) ≡ more_kept i (entry_on p f (drop (i + 1) ks) (rest_at line s) (line_when z (lazy_line (text_at line s))))
+      go true =
+          counted (length ks) (i + suc (length (drop (i + 1) ks))) (lazy_line (text_at line s)) (omega (arith, lt, drop_length (i + 1) ks))
+          ∙ sym (ap (λ (m : Matched). more_kept i (one_more_kept m)) (all_lazy p f (drop (i + 1) ks) (text_at line s)))
+      go false = counted i (i + 0) (rest_at line s) (omega arith)
 
 none_left : (i : ℕ) (ks : List Container) → length ks ≤ i → drop i ks ≡ []
 none_left zero [] h = refl

@@ -97,7 +97,7 @@ whole_tokens (none_open before) = append-nil (tokens before)
 whole_tokens (leaf_open before s) = sym (tokens-joined before (leaf s no_blocks))
 whole_tokens (container_open before k inner) =
     let last : closing (container_open before k inner) ≡ closing inner ++ Closes ∷ [] =
-        ap (λ (t : List Token). leaf_tokens (end_leaf inner) ++ t) (replicate-last (length (end_stack inner))) ∙ sym (append_assoc (leaf_tokens (end_leaf inner)) (replicate (length (end_stack inner)) Closes) (Closes ∷ [])) in
+    ap (λ (t : List Token). leaf_tokens (end_leaf inner) ++ t) (replicate-last (length (end_stack inner))) ∙ sym (append_assoc (leaf_tokens (end_leaf inner)) (replicate (length (end_stack inner)) Closes) (Closes ∷ [])) in
     append_assoc (tokens before) (Opens (container_of k) ∷ end_tokens inner) (closing (container_open before k inner))
     ∙ ap (λ (t : List Token). tokens before ++ Opens (container_of k) ∷ (end_tokens inner ++ t)) last
     ∙ ap (λ (t : List Token). tokens before ++ Opens (container_of k) ∷ t) (sym (append_assoc (end_tokens inner) (closing inner) (Closes ∷ [])))
@@ -160,9 +160,9 @@ wrap_step : (P : List Token) (k : Container) (f : Flat) (m : Matched) → step_o
 wrap_step P k f m =
     let test : (suc m.kept == suc (length f.stack)) ≡ (m.kept == length f.stack) = grind arith in
     ap (λ (b : Bool). stepped (wrap P k f) (one_more_kept m) b) test ∙ go (m.kept == length f.stack) where
-  go : (b : Bool) → stepped (wrap P k f) (one_more_kept m) b ≡ wrap P k (stepped f m b)
-  go true = wrap_leaf P k f m.rest (leaf_more f.leaf m.rest)
-  go false = ap (λ (g : Flat). begin g m.rest) (wrap_closed P k f m.kept) ∙ wrap_begin (suc (line_weight m.rest)) P k (closed_to m.kept f) m.rest
+      go : (b : Bool) → stepped (wrap P k f) (one_more_kept m) b ≡ wrap P k (stepped f m b)
+      go true = wrap_leaf P k f m.rest (leaf_more f.leaf m.rest)
+      go false = ap (λ (g : Flat). begin g m.rest) (wrap_closed P k f m.kept) ∙ wrap_begin (suc (line_weight m.rest)) P k (closed_to m.kept f) m.rest
 
 -- ---- one line more
 
@@ -181,7 +181,7 @@ closed_base before k inner =
     let all : (closed_to 0 (flat_of (container_open before k inner))).tokens ≡ tokens (followed_by rules before (container k (whole rules inner) no_blocks)) = finished_is (container_open before k inner) in
     let test : nat_lt 0 (suc (length (end_stack inner))) ≡ true = grind arith in
     let full : (end_filled inner || nat_lt 0 (suc (length (end_stack inner)))) ≡ has_block (followed_by rules before (container k (whole rules inner) no_blocks)) =
-        ap (λ (b : Bool). end_filled inner || b) test ∙ or_true (end_filled inner) ∙ sym (block-joined before (container k (whole rules inner) no_blocks) ∙ or_true (has_block before)) in
+    ap (λ (b : Bool). end_filled inner || b) test ∙ or_true (end_filled inner) ∙ sym (block-joined before (container k (whole rules inner) no_blocks) ∙ or_true (has_block before)) in
     ap (λ (b : Bool). (let f : Flat = record { tokens = (closed_to 0 (flat_of (container_open before k inner))).tokens; stack = []; leaf = None; filled = b } in f)) full
     ∙ retold (closed_to 0 (flat_of (container_open before k inner))).tokens (tokens (followed_by rules before (container k (whole rules inner) no_blocks))) [] None (has_block (followed_by rules before (container k (whole rules inner) no_blocks))) all
 
@@ -195,16 +195,16 @@ step_is (leaf_open before s) h l = ap (λ (o : Option Leaf). leaf_on (flat_of (l
 step_is (container_open before k inner) h l =
     ap (λ (j : grammar.Container). entered_on before k inner l (enters (is_prose (end_leaf inner)) (end_filled inner || not (is_empty (end_stack inner))) (grammar.entry j l))) (same_container k)
     ∙ ap (entered_on before k inner l) (enters_is inner h (grammar.entry k l)) ∙ go (entered rules (λ b. b) (whole rules inner) (grammar.entry k l)) (λ m. step_is inner h m) where
-  none_kept : (0 == suc (length (end_stack inner))) ≡ false
-  none_kept = grind arith
+      none_kept : (0 == suc (length (end_stack inner))) ≡ false
+      none_kept = grind arith
 
-  go : (o : Option Line) → ((m : Line) → step (flat_of inner) m ≡ flat_of (line_step rules inner m)) → entered_on before k inner l o
-      ≡ flat_of (elim o as (λ x. OpenEnd rules) [ Some m ↦ container_open before k (line_step rules inner m) | None ↦ ends.begin rules (followed_by rules before (container k (whole rules inner) no_blocks)) l ])
-  go (Some m) q =
-      wrap_step (tokens before) (container_of k) (flat_of inner) (reached (is_prose (end_leaf inner)) (end_filled inner) (end_stack inner) m) ∙ ap (λ (f : Flat). wrap (tokens before) (container_of k) f) (q m)
-  go None q =
-      ap (λ (b : Bool). stepped (flat_of (container_open before k inner)) (record { kept = 0; rest = l }) b) none_kept
-      ∙ ap (λ (g : Flat). begin g l) (closed_base before k inner) ∙ base_begin (suc (line_weight l)) (followed_by rules before (container k (whole rules inner) no_blocks)) l
+      go : (o : Option Line) → ((m : Line) → step (flat_of inner) m ≡ flat_of (line_step rules inner m)) → entered_on before k inner l o
+          ≡ flat_of (elim o as (λ x. OpenEnd rules) [ Some m ↦ container_open before k (line_step rules inner m) | None ↦ ends.begin rules (followed_by rules before (container k (whole rules inner) no_blocks)) l ])
+      go (Some m) q =
+          wrap_step (tokens before) (container_of k) (flat_of inner) (reached (is_prose (end_leaf inner)) (end_filled inner) (end_stack inner) m) ∙ ap (λ (f : Flat). wrap (tokens before) (container_of k) f) (q m)
+      go None q =
+          ap (λ (b : Bool). stepped (flat_of (container_open before k inner)) (record { kept = 0; rest = l }) b) none_kept
+          ∙ ap (λ (g : Flat). begin g l) (closed_base before k inner) ∙ base_begin (suc (line_weight l)) (followed_by rules before (container k (whole rules inner) no_blocks)) l
 
 steps_from : (end : OpenEnd rules) → IsOpenEnd rules end → (ls : List Line) → steps (flat_of end) ls ≡ flat_of (line_steps rules end ls)
 steps_from end h [] = refl

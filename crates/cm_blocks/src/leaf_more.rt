@@ -39,12 +39,7 @@ enum Next {
 }
 
 /// A leaf with the rest of a line, from a place on, where it takes it. CommonMark 0.31.2, section 4.
-pub(crate) fn take_rest(
-    alloc: Global,
-    leaf: Leaf,
-    line: &str,
-    spot: Spot,
-) -> Result<Taken, Memory>
+pub(crate) fn take_rest(alloc: Global, leaf: Leaf, line: &str, spot: Spot) -> Result<Taken, Memory>
     requires { IsSpot line.now spot }
     ensures { IfOk result (IsTaken (more_of leaf (rest_at line.now spot)) leaf) }
 {

@@ -9,6 +9,8 @@ mod lines;
 mod open_walk;
 mod opening;
 mod reaching;
+#[cfg(test)]
+mod tests;
 mod walk;
 
 pub use kinds::{Container, Leaf, Token};

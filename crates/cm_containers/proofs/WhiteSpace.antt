@@ -36,9 +36,9 @@ white_behind line s t k size from is e =
       rest = sym (text_whole t.start t.at t.column line (omega (arith, whole))) ∙ text;
       whole = whole;
     } where
-  is_whole : text_at line t ≡ trim_front (text_at line s) → (b : Bool) → nat_lt t.start t.column ≡ b → t.start ≡ t.column
-  is_whole text true f =
-      let part : t.start < t.column = lt_true t.start t.column f in
-      let w : tab_width t.column ≡ suc (tab_width t.column - 1) = omega arith in
-      absurd (no_space (text_at line s) (replicate (tab_width t.column - 1) 32 ++ drop (t.at + 1) line) (sym text ∙ text_part t.start t.at t.column line part ∙ ap (λ (n : ℕ). replicate n 32 ++ drop (t.at + 1) line) w))
-  is_whole text false f = let le : t.column ≤ t.start = lt_false t.start t.column f in omega (arith, le, is.order)
+      is_whole : text_at line t ≡ trim_front (text_at line s) → (b : Bool) → nat_lt t.start t.column ≡ b → t.start ≡ t.column
+      is_whole text true f =
+          let part : t.start < t.column = lt_true t.start t.column f in
+          let w : tab_width t.column ≡ suc (tab_width t.column - 1) = omega arith in
+          absurd (no_space (text_at line s) (replicate (tab_width t.column - 1) 32 ++ drop (t.at + 1) line) (sym text ∙ text_part t.start t.at t.column line part ∙ ap (λ (n : ℕ). replicate n 32 ++ drop (t.at + 1) line) w))
+      is_whole text false f = let le : t.column ≤ t.start = lt_false t.start t.column f in omega (arith, le, is.order)

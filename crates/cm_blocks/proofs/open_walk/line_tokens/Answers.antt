@@ -8,7 +8,7 @@ pub loop-rest-preserved : goal.loop-rest-preserved
 loop-rest-preserved c = (
   c.range_from-rest.utf8,
   line_more (shown c.loop-rest.walk) (shown c.take_line.new.self) c.loop-rest.rest.now c.range.result.now c.range_from-rest.result.now c.first_line-cut.result _ c.first_line-cut.ensures
-  (some_left c.loop-rest.rest.now c.is_empty.result c.is_empty.ensures c.loop-rest-test.true) (c.range.ensures.value ∙ front_range c.first_line-cut.result.inside c.loop-rest.rest.now) c.range_from-rest.ensures.value c.in_ok-take_line.ensures c.loop-rest.invariant.1,
+      (some_left c.loop-rest.rest.now c.is_empty.result c.is_empty.ensures c.loop-rest-test.true) (c.range.ensures.value ∙ front_range c.first_line-cut.result.inside c.loop-rest.rest.now) c.range_from-rest.ensures.value c.in_ok-take_line.ensures c.loop-rest.invariant.1,
 )
 
 pub returns : goal.returns
