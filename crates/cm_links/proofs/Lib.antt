@@ -4,3 +4,4 @@ pub mod Boundaries
 pub mod ResolvingLaws
 pub mod Bare
 pub mod Measuring
+pub mod TableLaws
