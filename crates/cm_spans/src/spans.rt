@@ -124,8 +124,8 @@ fn escape<'a>(text: &'a str) -> Taken<'a>
     }
 }
 
-// The byte at a place, or 0 behind the end.
-fn byte_at(text: &str, k: usize) -> u8
+/// The byte at a place of a text, or 0 behind its end.
+pub fn byte_at(text: &str, k: usize) -> u8
     ensures { result ≡ first_byte (drop k text.now) }
 {
     let bytes = text.as_bytes();
