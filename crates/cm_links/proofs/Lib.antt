@@ -5,3 +5,4 @@ pub mod ResolvingLaws
 pub mod Bare
 pub mod Measuring
 pub mod EndLaws
+pub mod TableLaws

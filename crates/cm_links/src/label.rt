@@ -18,12 +18,20 @@ use std::alloc::{AllocError, Global};
 pub fn fold_label(alloc: Global, label: &str) -> Result<Text, Memory>
     ensures { IfOk result (λ folded. folded ≡ encode_utf8_all (label_key label.now)) }
 {
+    let folded = folded_label(alloc, label)?;
+    Ok(Text::from_string(folded))
+}
+
+/// The same as a string.
+pub(crate) fn folded_label(alloc: Global, label: &str) -> Result<String, Memory>
+    ensures { IfOk result (λ folded. string_bytes folded ≡ encode_utf8_all (label_key label.now)) }
+{
     let squeezed = match squeeze(alloc, label) {
         Ok(squeezed) => squeezed,
         Err(_) => return Err(Memory),
     };
     match default_case_fold_str(alloc, squeezed.as_str()) {
-        Ok(folded) => Ok(Text::from_string(folded)),
+        Ok(folded) => Ok(folded),
         Err(_) => Err(Memory),
     }
 }

@@ -6,7 +6,7 @@ ghost use Rattle.site_base.specs.View.{plain};
 ghost use Rattle.data_files.specs.Json.{json, of_data, of_items, set_members, IsRefused};
 
 use crate::refusal::Refusal;
-use site_base::{Hash, List, Text, Value};
+use site_base::{GrowingHash, Hash, List, Text, Value};
 use std::alloc::Global;
 
 /// The value of a JSON text, as RFC 8259 has it: its numbers become `Int`, the keys of an object stand in byte
@@ -67,9 +67,9 @@ fn hash_of(
         (λ hash. set_members (members_view members.now.entries) no_pairs ≡ Some hash)
         (λ error. IsRefused error (set_members (members_view members.now.entries) no_pairs)) }
 {
-    let mut hash = Hash::new(alloc);
+    let mut hash = GrowingHash::new(alloc);
     for (key, value) in members.iter() {
         hash.set(Text::copy(alloc, key.as_str())?, value_of(alloc, value)?)?;
     }
-    Ok(hash)
+    Ok(hash.finish())
 }

@@ -9,7 +9,7 @@ ghost use Rattle.data_files.specs.Tables.{AreRows, IsTable, IsNoTable, fill, has
 
 use crate::refusal::Refusal;
 use csv::{Error, ReaderBuilder, StringRecord};
-use site_base::{Hash, List, Memory, Text, Value};
+use site_base::{GrowingHash, Hash, List, Memory, Text, Value};
 use std::alloc::Global;
 
 /// The value of a text of comma-separated records, as RFC 4180 has them: a list with a hash for each record behind
@@ -93,16 +93,16 @@ fn list_of(alloc: Global, names: &StringRecord, rows: &[StringRecord]) -> Result
 fn hash_of(alloc: Global, names: &StringRecord, row: &StringRecord) -> Result<Hash, Memory>
     ensures { IfOk result (λ hash. hash ≡ fill (fields_of names.now) (fields_of row.now) no_pairs) }
 {
-    let mut hash = Hash::new(alloc);
+    let mut hash = GrowingHash::new(alloc);
     for place in 0..names.len() {
         set_field(alloc, &mut hash, names.get(place), row.get(place))?;
     }
-    Ok(hash)
+    Ok(hash.finish())
 }
 
 fn set_field(
     alloc: Global,
-    hash: &mut Hash,
+    hash: &mut GrowingHash,
     name: Option<&str>,
     field: Option<&str>,
 ) -> Result<(), Memory>

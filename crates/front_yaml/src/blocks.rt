@@ -18,7 +18,7 @@ use crate::leaves::leaf;
 use crate::plain_scalars::starts_plain;
 use crate::scans::{dash_len, front, is_dash, is_empty, starts, tail, white_len};
 use crate::text_lines::TextLine;
-use site_base::{Hash, List, Memory, Text, Value, YamlKind};
+use site_base::{GrowingHash, Hash, List, Memory, Text, Value, YamlKind};
 use std::alloc::Global;
 
 // ---- what a line is to the block around it
@@ -388,7 +388,7 @@ fn mapping<'l, 'a>(
     ensures { ReadsLines result (mapping_pairs depth (block depth) (indent head.now) head.now body.now) }
 {
     let indent = head.indent();
-    let mut pairs = Hash::new(alloc);
+    let mut pairs = GrowingHash::new(alloc);
     let mut first = head;
     let mut rest = body;
     loop {
@@ -399,7 +399,7 @@ fn mapping<'l, 'a>(
         };
         put(&mut pairs, name, value)?;
         if more >= rest.len() {
-            return Ok(pairs);
+            return Ok(pairs.finish());
         }
         first = &rest[more];
         rest = lines_after(rest, more + 1);

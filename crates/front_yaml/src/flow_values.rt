@@ -16,7 +16,7 @@ use crate::plain_scalars::{is_bracket, plain, plain_fault, plain_raw, starts_pla
 use crate::quotes::quoted;
 use crate::scalars::equals;
 use crate::scans::{starts, tail};
-use site_base::{Hash, List, Text, Value, YamlKind};
+use site_base::{GrowingHash, Hash, List, Text, Value, YamlKind};
 use std::alloc::Global;
 
 /// What stands in a flow list up to the next separator, with the bytes before that.
@@ -270,14 +270,14 @@ fn pairs(alloc: Global, depth: u32, text: &[u8]) -> Result<(Hash, usize), PlaceE
     ensures value { ReadsAt result (hash_pairs (node (collection depth)) text.now) }
     ensures within { Fits (length text.now) result }
 {
-    let mut pairs = Hash::new(alloc);
+    let mut pairs = GrowingHash::new(alloc);
     let mut n = 0;
     while n < text.len() {
         match pair_part(alloc, depth, tail(text, n)) {
-            Ok(PairPart::Shut(len)) => return Ok((pairs, n + len + 1)),
+            Ok(PairPart::Shut(len)) => return Ok((pairs.finish(), n + len + 1)),
             Ok(PairPart::Last(name, value, len)) => {
                 put(&mut pairs, name, value)?;
-                return Ok((pairs, n + len + 1));
+                return Ok((pairs.finish(), n + len + 1));
             }
             Ok(PairPart::More(name, value, len)) => {
                 put(&mut pairs, name, value)?;

@@ -7,3 +7,4 @@ pub mod PastLaws
 pub mod Sorting
 pub mod ValueLaws
 pub mod Weights
+pub mod IndexLaws

@@ -3,6 +3,7 @@ pub mod Code
 pub mod Decimal
 pub mod Ends
 pub mod Faults
+pub mod Fingerprints
 pub mod Flat
 pub mod Fronts
 pub mod Lines

@@ -32,7 +32,8 @@ pub use sink::{ByteSink, MemorySink};
 pub use source::{ByteSource, MemoryInput};
 pub use text::Text;
 pub use value::{
-    Hash, List, Pair, Unlike, Value, code, compare, copy, equals, is_true, same_code, value_text,
+    GrowingHash, Hash, List, Pair, Unlike, Value, code, compare, copy, equals, is_true, same_code,
+    value_text,
 };
 pub use words::Words;
 

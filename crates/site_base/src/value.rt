@@ -2,6 +2,7 @@
 mod coding;
 mod copies;
 mod equality;
+mod growing;
 mod growth;
 mod lookups;
 mod matching;
@@ -10,6 +11,7 @@ mod writing;
 pub use coding::code;
 pub use copies::copy;
 pub use equality::{Unlike, compare, equals, is_true};
+pub use growing::GrowingHash;
 pub use matching::same_code;
 pub use writing::value_text;
 

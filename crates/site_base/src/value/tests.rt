@@ -1,7 +1,7 @@
 // What the calls on values answer for rows of them.
 use crate::{
-    Hash, ItemName, List, Memory, SitePath, Text, Unlike, Value, code, compare, copy, equals,
-    is_true, same_code, value_text,
+    GrowingHash, Hash, ItemName, List, Memory, SitePath, Text, Unlike, Value, code, compare, copy,
+    equals, is_true, same_code, value_text,
 };
 use std::alloc::Global;
 use std::cmp::Ordering;
@@ -32,6 +32,24 @@ fn sets_and_gets_by_key(rt: HostRuntime) -> Result<(), Fail> {
     assert_eq!(rt; hash.as_slice().len(), 2);
     assert_eq!(rt; hash.as_slice()[0].key.as_str(), "a");
     assert!(rt; matches!(hash.get("a"), Some(Value::Int(1))));
+    Ok(())
+}
+
+// Forty keys, each set twice, so that the later half of them has an index.
+#[test]
+fn grows_by_many_keys(rt: HostRuntime) -> Result<(), Fail> {
+    let alloc = rt.alloc();
+    let mut growing = GrowingHash::new(alloc);
+    for turn in 0..2 {
+        for number in 0..40 {
+            let key = format!(in alloc; "key {number}")?;
+            growing.set(Text::from_string(key), Value::Int(turn))?;
+        }
+    }
+    let hash = growing.finish();
+    assert_eq!(rt; hash.len(), 40);
+    assert!(rt; matches!(hash.get("key 39"), Some(Value::Int(1))));
+    assert!(rt; matches!(hash.get("key 7"), Some(Value::Int(1))));
     Ok(())
 }
 
