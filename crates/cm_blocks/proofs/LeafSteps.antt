@@ -56,25 +56,20 @@ prose_is xs t break_start = refl
 prose_is xs t (item_start kind number digits) = refl
 prose_is xs t indented_start = refl
 
-code_is : (xs ps : List (List ℕ)) (col : ℕ) (t : List ℕ) → code_on (ended_lines xs ++ ended_lines ps) (length (ended_lines xs)) col t ≡ option_map leaf_of (grammar.code_more xs ps col t)
+code_is : (xs ps : List (List ℕ)) (col : ℕ) (t : List ℕ) → code_on (ended_lines xs) (ended_lines ps) col t ≡ option_map leaf_of (grammar.code_more xs ps col t)
 code_is xs ps col t = go (is_blank t) (nat_lt (indent col t) 4) where
-  u : List ℕ
-  u = line_text (shifted 4 col t)
+  more : ended_lines ps ++ ended (line_text (shifted 4 col t)) ≡ ended_lines (ps ++ line_text (shifted 4 col t) ∷ [])
+  more = one_ended ps (line_text (shifted 4 col t))
 
-  all : (ended_lines xs ++ ended_lines ps) ++ ended (line_text (shifted 4 col t)) ≡ ended_lines xs ++ ended_lines (ps ++ line_text (shifted 4 col t) ∷ [])
-  all = append_assoc (ended_lines xs) (ended_lines ps) (ended (line_text (shifted 4 col t))) ∙ ap (λ (v : List ℕ). ended_lines xs ++ v) (one_ended ps (line_text (shifted 4 col t)))
-
-  whole : (ended_lines xs ++ ended_lines ps) ++ ended (line_text (shifted 4 col t)) ≡ ended_lines (xs ++ (ps ++ line_text (shifted 4 col t) ∷ []))
-  whole = all ∙ sym (ended-append xs (ps ++ line_text (shifted 4 col t) ∷ []))
+  whole : ended_lines xs ++ (ended_lines ps ++ ended (line_text (shifted 4 col t))) ≡ ended_lines (xs ++ (ps ++ line_text (shifted 4 col t) ∷ []))
+  whole = ap (λ (v : List ℕ). ended_lines xs ++ v) more ∙ sym (ended-append xs (ps ++ line_text (shifted 4 col t) ∷ []))
 
   go : (b n : Bool)
-      → (let a : List ℕ = (ended_lines xs ++ ended_lines ps) ++ ended (line_text (shifted 4 col t)) in let w : Option Leaf = cond b (Some (Indented a (length (ended_lines xs)))) (cond n None (Some (Indented a (length a)))) in w)
+      → (let m : List ℕ = ended_lines ps ++ ended (line_text (shifted 4 col t)) in let w : Option Leaf = cond b (Some (Indented (ended_lines xs) m)) (cond n None (Some (Indented (ended_lines xs ++ m) []))) in w)
       ≡ option_map leaf_of (cond b (Some (grammar.indented_code xs (ps ++ line_text (shifted 4 col t) ∷ []))) (cond n None (Some (grammar.indented_code (xs ++ (ps ++ line_text (shifted 4 col t) ∷ [])) []))))
-  go true n = ap (λ (v : List ℕ). Some (Indented v (length (ended_lines xs)))) all
+  go true n = ap (λ (v : List ℕ). Some (Indented (ended_lines xs) v)) more
   go false true = refl
-  go false false =
-      ap (λ (v : List ℕ). Some (Indented v (length v))) whole
-      ∙ ap (λ (v : List ℕ). Some (Indented v (length (ended_lines (xs ++ (ps ++ line_text (shifted 4 col t) ∷ [])))))) (sym (append-nil (ended_lines (xs ++ (ps ++ line_text (shifted 4 col t) ∷ [])))))
+  go false false = ap (λ (v : List ℕ). Some (Indented v [])) whole
 
 fence_is : (i mark len : ℕ) (info : List ℕ) (xs : List (List ℕ)) (closed : Bool) (col : ℕ) (t : List ℕ) → fence_on i mark len info (ended_lines xs) closed col t ≡ option_map leaf_of (grammar.fence_more i mark len info xs closed col t)
 fence_is i mark len info xs true col t = refl

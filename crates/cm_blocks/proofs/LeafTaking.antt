@@ -192,5 +192,5 @@ shorter n t u h e = omega (arith, ap (λ (v : List ℕ). length v) e, drop_short
 pub same_after : (n : ℕ) (t u : List ℕ) (o : Option ℕ) (whole : List ℕ) → o ≡ Some n → o ≡ option_map (λ d. d.size) (front_definition t) → IsFront t n → u ≡ drop n t → after_definitions t ≡ whole → after_definitions u ≡ whole
 same_after n t u o whole e v h r w = ap (λ (x : List ℕ). after_definitions x) r ∙ after_one t n (sym e ∙ v) h.some h.cut.0 ∙ w
 
-pub text_left : (t : List ℕ) (o : Option ℕ) (whole : List ℕ) (b : Bool) → o ≡ None → o ≡ option_map (λ d. d.size) (front_definition t) → after_definitions t ≡ whole → b ≡ is_blank t → not b ≡ not (is_blank whole)
-text_left t o whole b e v w h = ap (λ (x : Bool). not x) h ∙ ap (λ (x : List ℕ). not (is_blank x)) (sym (after_none t (sym e ∙ v)) ∙ w)
+pub text_left : (t : List ℕ) (o : Option ℕ) (whole : List ℕ) → o ≡ None → o ≡ option_map (λ d. d.size) (front_definition t) → after_definitions t ≡ whole → t ≡ whole
+text_left t o whole e v w = sym (after_none t (sym e ∙ v)) ∙ w

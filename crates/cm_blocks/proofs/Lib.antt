@@ -8,3 +8,4 @@ mod OpeningLaws
 mod BeginLaws
 mod LineLaws
 mod WalkedText
+mod MadeLaws

@@ -9,3 +9,8 @@ pub mod Taking
 pub mod Opening
 pub mod Walks
 pub mod LineCuts
+pub mod Documents
+pub mod Layouts
+pub mod Making
+pub mod MadeViews
+pub mod Reads

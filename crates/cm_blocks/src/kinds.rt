@@ -32,10 +32,10 @@ pub enum Leaf {
         text: Text,
     },
     Break,
-    /// Indented code: behind so many bytes, blank lines that are code only where more follows.
+    /// Indented code, and blank lines behind it that are code only where more follows.
     Indented {
         text: LeafLines,
-        size: usize,
+        pending: LeafLines,
     },
     Fenced {
         indent: u128,

@@ -60,6 +60,23 @@ impl LeafLines {
         &text[..text.len() - 1]
     }
 
+    /// The lines as a text; it takes no memory.
+    pub(crate) fn into_text(self) -> Text
+        ensures { result ≡ self }
+    {
+        let LeafLines { text } = self;
+        text
+    }
+
+    /// The lines, and other lines behind them.
+    pub(crate) fn joined(self, others: &LeafLines) -> Result<LeafLines, Memory>
+        ensures { IfOk result (λ lines. lines ≡ self ++ others.now) }
+    {
+        let LeafLines { mut text } = self;
+        text.push_str(others.text.as_str())?;
+        Ok(LeafLines { text })
+    }
+
     /// The lines with one more.
     pub(crate) fn with(self, line: &str) -> Result<LeafLines, Memory>
         ensures { IfOk result (λ lines. lines ≡ self ++ ended line.now) }

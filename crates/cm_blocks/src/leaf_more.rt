@@ -45,7 +45,7 @@ pub(crate) fn take_rest(alloc: Global, leaf: Leaf, line: &str, spot: Spot) -> Re
 {
     match leaf {
         Leaf::Paragraph { text } => prose_taken(alloc, text, line, spot),
-        Leaf::Indented { text, size } => code_taken(text, size, line, spot),
+        Leaf::Indented { text, pending } => code_taken(alloc, text, pending, line, spot),
         Leaf::Html {
             kind,
             text,
@@ -121,11 +121,19 @@ fn next_in(has_text: bool, line: &str, spot: Spot, white: Spot) -> Next
 fn has_text(alloc: Global, text: &str) -> Result<bool, Memory>
     ensures { IfOk result (λ answer. answer ≡ not (lines.is_blank (after_definitions text.now))) }
 {
+    let rest = behind_definitions(alloc, text)?;
+    Ok(!is_blank(rest))
+}
+
+/// What is left of a paragraph's text behind its definitions.
+pub(crate) fn behind_definitions<'a>(alloc: Global, text: &'a str) -> Result<&'a str, Memory>
+    ensures { IfOk result (λ rest. rest.now ≡ after_definitions text.now) }
+{
     let mut rest = text;
     loop {
         match definition_end(alloc, rest)? {
             Some(end) => rest = &rest[end..],
-            None => return Ok(!is_blank(rest)),
+            None => return Ok(rest),
         }
     }
 }
@@ -149,22 +157,30 @@ fn is_blank(text: &str) -> bool
 
 // Indented code: blank lines, and those with at least four columns of white space, of which four are
 // taken away.
-fn code_taken(text: LeafLines, size: usize, line: &str, spot: Spot) -> Result<Taken, Memory>
+fn code_taken(
+    alloc: Global,
+    text: LeafLines,
+    pending: LeafLines,
+    line: &str,
+    spot: Spot,
+) -> Result<Taken, Memory>
     requires { IsSpot line.now spot }
-    ensures { IfOk result (IsTaken (code_on text size spot.column (text_at line.now spot)) (leaf.Indented text size)) }
+    ensures { IfOk result (IsTaken (code_on text pending spot.column (text_at line.now spot)) (leaf.Indented text pending)) }
 {
     let white = behind_white(line, spot);
     let inside = shift(line, spot, 4);
     if white.at == line.len() {
-        let text = text.with_rest(line, inside)?;
-        return Ok(Taken::More(Leaf::Indented { text, size }));
+        let pending = pending.with_rest(line, inside)?;
+        return Ok(Taken::More(Leaf::Indented { text, pending }));
     }
     if white.column - spot.column < 4 {
-        return Ok(Taken::Left(Leaf::Indented { text, size }));
+        return Ok(Taken::Left(Leaf::Indented { text, pending }));
     }
-    let text = text.with_rest(line, inside)?;
-    let size = text.len();
-    Ok(Taken::More(Leaf::Indented { text, size }))
+    let more = pending.with_rest(line, inside)?;
+    Ok(Taken::More(Leaf::Indented {
+        text: text.joined(&more)?,
+        pending: LeafLines::new(alloc),
+    }))
 }
 
 // HTML: up to a line that ends it, or, of kinds 6 and 7, before a blank line.

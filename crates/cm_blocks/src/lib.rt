@@ -5,14 +5,21 @@ mod html_ends;
 mod kinds;
 mod leaf_lines;
 mod leaf_more;
+mod leaf_nodes;
+mod level;
 mod lines;
+mod making;
+mod node;
 mod open_walk;
 mod opening;
 mod reaching;
+mod reading;
 #[cfg(test)]
 mod tests;
 mod walk;
 
 pub use kinds::{Container, Leaf, Token};
 pub use leaf_lines::LeafLines;
+pub use node::{Blocks, Node};
 pub use open_walk::block_tokens;
+pub use reading::read_blocks;

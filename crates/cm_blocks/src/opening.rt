@@ -1,5 +1,5 @@
 // What a line starts that nothing open takes.
-ghost use Rattle.std.specs.Prelude.{◌≡◌, ◌+◌, ◌++◌, ◌≤◌, [], false, IfOk, Some, drop, length};
+ghost use Rattle.std.specs.Prelude.{◌≡◌, ◌+◌, ◌++◌, ◌≤◌, [], false, IfOk, Some, drop};
 ghost use Rattle.markdown_grammar.specs.Columns.{line_text, shifted};
 ghost use Rattle.markdown_grammar.specs.HtmlStarts as html;
 ghost use Rattle.markdown_grammar.specs.Starts.{item_start, quote_start};
@@ -139,7 +139,7 @@ pub(crate) fn leaf_of(
         } => fence(alloc, indent, mark, len, info),
         Start::Html { kind } => html(lines, kind, line, spot),
         Start::Break => Ok(Some(Leaf::Break)),
-        Start::Indented => code(lines, line, spot),
+        Start::Indented => code(alloc, lines, line, spot),
         Start::Text => paragraph(lines, &line[white.at..]),
         _ => Ok(None),
     }
@@ -185,13 +185,20 @@ fn html(lines: LeafLines, kind: u32, line: &str, spot: Spot) -> Result<Option<Le
     }))
 }
 
-fn code(lines: LeafLines, line: &str, spot: Spot) -> Result<Option<Leaf>, Memory>
+fn code(
+    alloc: Global,
+    lines: LeafLines,
+    line: &str,
+    spot: Spot,
+) -> Result<Option<Leaf>, Memory>
     requires spot { IsSpot line.now spot }
-    ensures { IfOk result (λ found. let all = lines ++ ended (line_text (shifted 4 spot.column (text_at line.now spot))) in found ≡ Some (leaf.Indented all (length all))) }
+    ensures { IfOk result (λ found. found ≡ Some (leaf.Indented (lines ++ ended (line_text (shifted 4 spot.column (text_at line.now spot)))) [])) }
 {
     let text = lines.with_rest(line, shift(line, spot, 4))?;
-    let size = text.len();
-    Ok(Some(Leaf::Indented { text, size }))
+    Ok(Some(Leaf::Indented {
+        text,
+        pending: LeafLines::new(alloc),
+    }))
 }
 
 fn paragraph(lines: LeafLines, text: &str) -> Result<Option<Leaf>, Memory>

@@ -2,7 +2,7 @@ use Rattle.std.proofs.Common.{◌≡◌, length}
 use denote.Shadow.{shadow}
 use denote.Text.{Utf8}
 use Rattle.markdown_grammar.specs.Definitions.{after_definitions}
-use Rattle.cm_blocks.proofs.leaf_more.has_text.Given as goal
+use Rattle.cm_blocks.proofs.leaf_more.behind_definitions.Given as goal
 
 abbrev pub invariant-loop-end : goal.invariant-loop-end
 invariant-loop-end l = shadow (Utf8 l.rest) × (after_definitions l.rest ≡ after_definitions l.text)

@@ -1,5 +1,5 @@
 use Rattle.cm_blocks.proofs.LeafTaking.{found_end, same_after, shorter, text_left}
-use Rattle.cm_blocks.proofs.leaf_more.has_text.Goals as goal
+use Rattle.cm_blocks.proofs.leaf_more.behind_definitions.Goals as goal
 
 pub range_from-rest-requires : goal.range_from-rest-requires
 range_from-rest-requires c = λ _. (found_end c.in_ok-end.field-0 c.in-Some.end c.loop-end.rest.now c.in-Some.is c.in_ok-end.ensures.cut).cut
@@ -14,4 +14,4 @@ loop-end-preserved c = (
 )
 
 pub returns-in-None : goal.returns-in-None
-returns-in-None c = text_left c.loop-end.rest.now c.in_ok-end.field-0 _ c.is_blank.result c.in-None.is c.in_ok-end.ensures.value c.loop-end.invariant.1 c.is_blank.ensures
+returns-in-None c = text_left c.loop-end.rest.now c.in_ok-end.field-0 _ c.in-None.is c.in_ok-end.ensures.value c.loop-end.invariant.1

@@ -1,0 +1,16 @@
+-- A document as a flat list of nodes, in which a quote or an item has the number of nodes inside it, which follow it.
+use Rattle.std.specs.Prelude.{List, [], length, ℕ, ◌++◌, ◌∷◌}
+use Rattle.cm_blocks.specs.Documents as document
+use Rattle.cm_blocks.specs.Documents.{Document}
+use Rattle.cm_blocks.specs.declared.node.Node.{Node}
+use Rattle.cm_blocks.specs.declared.node.Node.TheVariants as node
+
+abbrev pub laid_out : Document → List Node
+laid_out document.nothing = []
+laid_out (document.paragraph text rest) = node.Paragraph text ∷ laid_out rest
+laid_out (document.heading level text rest) = node.Heading level text ∷ laid_out rest
+laid_out (document.thematic_break rest) = node.Break ∷ laid_out rest
+laid_out (document.code info text rest) = node.Code info text ∷ laid_out rest
+laid_out (document.html text rest) = node.Html text ∷ laid_out rest
+laid_out (document.quote body rest) = node.Quote (length (laid_out body)) ∷ (laid_out body ++ laid_out rest)
+laid_out (document.item kind number loose more body rest) = node.Item kind number loose more (length (laid_out body)) ∷ (laid_out body ++ laid_out rest)
