@@ -9,3 +9,4 @@ mod BeginLaws
 mod LineLaws
 mod WalkedText
 mod MadeLaws
+mod LinkLaws
