@@ -244,9 +244,9 @@ prose_is texts = ap (λ (t : List ℕ). trim (after_definitions t)) (unended_is 
 back_leaf : (s : leaves.Leaf) (d : Document) → back d ++ nodes_in (leaf_of s) ≡ back (leaf_before s d)
 back_leaf (leaves.paragraph texts) d =
     ap (λ (t : List ℕ). back d ++ cond (is_empty t) [] (node.Paragraph t ∷ [])) (prose_is texts) ∙ go (is_empty (prose_text texts)) where
-  go : (b : Bool) → back d ++ cond b [] (node.Paragraph (prose_text texts) ∷ []) ≡ back (cond b d (document.paragraph (prose_text texts) d))
-  go true = append-nil (back d)
-  go false = refl
+      go : (b : Bool) → back d ++ cond b [] (node.Paragraph (prose_text texts) ∷ []) ≡ back (cond b d (document.paragraph (prose_text texts) d))
+      go true = append-nil (back d)
+      go false = refl
 back_leaf (leaves.setext_heading level texts) d = ap (λ (t : List ℕ). back d ++ node.Heading level t ∷ []) (prose_is texts)
 back_leaf (leaves.atx_heading level line) d = refl
 back_leaf leaves.thematic_break d = refl

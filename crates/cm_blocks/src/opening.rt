@@ -185,12 +185,7 @@ fn html(lines: LeafLines, kind: u32, line: &str, spot: Spot) -> Result<Option<Le
     }))
 }
 
-fn code(
-    alloc: Global,
-    lines: LeafLines,
-    line: &str,
-    spot: Spot,
-) -> Result<Option<Leaf>, Memory>
+fn code(alloc: Global, lines: LeafLines, line: &str, spot: Spot) -> Result<Option<Leaf>, Memory>
     requires spot { IsSpot line.now spot }
     ensures { IfOk result (λ found. found ≡ Some (leaf.Indented (lines ++ ended (line_text (shifted 4 spot.column (text_at line.now spot)))) [])) }
 {

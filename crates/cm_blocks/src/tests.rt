@@ -1,5 +1,5 @@
 // Tokens of texts, by the standard's rules.
-use crate::{Container, Leaf, Token, block_tokens};
+use crate::{Container, Leaf, Node, Token, block_tokens, read_blocks};
 use std::alloc::Global;
 use std::test::Fail;
 
@@ -46,5 +46,56 @@ fn blocks_stand_in_their_containers(rt: HostRuntime) -> Result<(), Fail> {
     for (text, wanted) in rows {
         assert_eq!(rt; signs(rt.alloc(), text)?.as_str(), wanted, "{text}");
     }
+    Ok(())
+}
+
+#[test]
+fn blocks_are_read(rt: HostRuntime) -> Result<(), Fail> {
+    let found = read_blocks(rt.alloc(), "> a\nb\n\n1. c\n\n   d\n")?;
+    assert_eq!(rt; found.nodes.len(), 5);
+    assert!(rt; matches!(&found.nodes[0], Node::Quote { len: 1 }));
+    assert!(rt; is_paragraph(&found.nodes[1], "a\nb"));
+    assert!(rt;
+        matches!(
+            &found.nodes[2],
+            Node::Item {
+                mark: '.',
+                number: 1,
+                is_loose: true,
+                goes_on: false,
+                len: 2
+            }
+        )
+    );
+    assert!(rt; is_paragraph(&found.nodes[3], "c"));
+    assert!(rt; is_paragraph(&found.nodes[4], "d"));
+    Ok(())
+}
+
+fn is_paragraph(node: &Node, wanted: &str) -> bool {
+    match node {
+        Node::Paragraph { text } => text.as_str() == wanted,
+        _ => false,
+    }
+}
+
+fn count(alloc: Global, front: &str, times: usize, behind: &str) -> Result<usize, Fail> {
+    let mut text = String::new(alloc);
+    for _ in 0..times {
+        text.push_str(front)?;
+    }
+    text.push_str(behind)?;
+    Ok(read_blocks(alloc, text.as_str())?.nodes.len())
+}
+
+#[test]
+fn large_texts_are_read_in_seconds(rt: HostRuntime) -> Result<(), Fail> {
+    let alloc = rt.alloc();
+    assert_eq!(rt; count(alloc, "", 0, "")?, 0);
+    assert_eq!(rt; count(alloc, "> ", 10_000, "a")?, 10_001);
+    assert_eq!(rt; count(alloc, "- ", 10_000, "a")?, 10_001);
+    assert_eq!(rt; count(alloc, "a\n", 100_000, "")?, 1);
+    assert_eq!(rt; count(alloc, "- a\n", 100_000, "")?, 200_000);
+    assert_eq!(rt; count(alloc, "[a]: b\n", 10_000, "")?, 0);
     Ok(())
 }
