@@ -1,2 +1,5 @@
 pub mod MachineLaws
 pub mod TargetLaws
+pub mod CellLaws
+pub mod Slots
+pub mod Walk
