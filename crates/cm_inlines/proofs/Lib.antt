@@ -3,3 +3,4 @@ pub mod TargetLaws
 pub mod CellLaws
 pub mod Slots
 pub mod Walk
+pub mod Closing
