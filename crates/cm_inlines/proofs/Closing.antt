@@ -1,9 +1,10 @@
 -- A closing bracket in a list of nodes makes what the grammar makes of the pieces.
-use Rattle.std.proofs.Common.{◌≡◌, ◌∙◌, Bool, List, None, Option, Some, [], add-one, ap, append-nil, append_assoc, arith, cond, drop, false, length, length-append, map, option_map, refl, slice_get, subst, suc, sym, take, true, zero, ℕ, ◌&&◌, ◌++◌, ◌+◌, ◌-◌, ◌<◌, ◌∷◌, ◌≤◌}
+use Rattle.site_base.specs.declared.errors.Memory.{Memory}
+use Rattle.std.proofs.Common.{Err, IfOk, IfSome, IsUtf8, Ok, Result, ◌≡◌, ◌∙◌, Bool, List, None, Option, Some, [], add-one, ap, append-nil, append_assoc, arith, cond, drop, false, length, length-append, map, option_map, refl, slice_get, subst, suc, sym, take, true, zero, ℕ, ◌&&◌, ◌++◌, ◌+◌, ◌-◌, ◌<◌, ◌∷◌, ◌≤◌}
 use Rattle.std.specs.Str.{IsCharBoundary}
 use Rattle.std.proofs.Math.ListN.{set}
 use Rattle.std.proofs.lemmas.List.{length-drop, map-append}
-use Rattle.std.proofs.lemmas.Str.{encode_ascii}
+use Rattle.std.proofs.lemmas.Str.{IsCharBoundary-from_rest, encode_ascii}
 use Rattle.markdown_grammar.specs.Definitions.{Definition, Target}
 use Rattle.markdown_grammar.specs.Emphasis.{Found, last_that, pairs}
 use Rattle.markdown_grammar.specs.Inlines.{image, link, no_inlines}
@@ -28,6 +29,7 @@ use Rattle.cm_inlines.specs.declared.reading.Found as reading
 use Rattle.cm_inlines.specs.declared.targets.Reached.{Reached}
 use Rattle.cm_inlines.proofs.CellLaws.{FoundAt, FoundCell, NodesCase, bracket_matches, bracket_nodes, bracket_test, cell_in, cells-append, cells_found, cells_of-append, frozen, last_cell, last_nodes, last_pieces}
 use Rattle.cm_inlines.proofs.Slots.{after, change_all_front, change_behind, set_there, waiting-append, waiting_frozen}
+use Rattle.cm_inlines.proofs.TargetLaws.{behind_bracket}
 use Rattle.cm_inlines.proofs.Walk.{Walked, walk}
 
 -- ---- the last bracket among the nodes
@@ -407,3 +409,91 @@ sound_unlinked t at to old new f le l s cut e =
         (placed-append t to (l.front ++ node.Bracket i ∷ l.inside) (closing_node ∷ []) (placed-append t to l.front (node.Bracket i ∷ l.inside) (front_placed t at to old f le l s.placed) (tt, inside_placed t at to old f le l s.placed)) (tt, tt));
       cut = cut;
     }
+
+-- ---- a closing bracket
+
+at_least : (t : List ℕ) (at c : ℕ) → slice_get t at ≡ Some c → at < length t
+at_least [] at c h = absurd cc
+at_least (d ∷ ds) zero c h = omega arith
+at_least (d ∷ ds) (suc at) c h = omega (arith, at_least ds at c h)
+
+cut_after : (t : List ℕ) (at n : ℕ) → at < length t → IsCharBoundary (drop (at + 1) t) n → IsCharBoundary t (at + (n + 1))
+cut_after t at n lt h = let e : at + 1 + n ≡ at + (n + 1) = omega arith in subst (IsCharBoundary t) e (IsCharBoundary-from_rest t (at + 1) n (omega (arith, lt)) h)
+
+closes_some : (defs : List Definition) (t : List ℕ) (at : ℕ) (old new : List Node) (f : reading.Found) (r : Reached) (n : ℕ) (i : Bool) → f.opening.is_image ≡ i → at < length t → Sound t at old → (l : Last t old f) → Some (reached_pair r) ≡ reached_by defs t at f.opening
+    → IsCharBoundary (drop (at + 1) t) r.len → new ≡ closed_with f.place i r.target old → n ≡ r.len → Closes defs t at old new n
+closes_some defs t at old new f r n true im lt s l h cut e size =
+    let to = at + (n + 1) in
+    let le : at ≤ to = omega arith in
+    let b = opening_placed t at old f l s.placed in
+    let parts = opening_start l.front l.inside f.opening (ap (waiting 0) (sym l.split) ∙ s.slots) in
+    record {
+      within = omega (arith, size, (cut_after t at r.len lt cut).0);
+      sound = λ ps g.
+        let br = bracket_of t ps old l.front l.inside f.opening g l.found in
+        let i = paired_inside t l.front f.opening l.inside br.found.2 old l.split br.within parts.1 in
+        sound_container t to l.front i.nodes new (node.OpenImage r.target) node.CloseImage parts.0 (front_placed t at to old f le l s.placed) refl refl tt tt
+        (subst (λ (k : ℕ). IsCharBoundary t (at + (k + 1))) (sym size) (cut_after t at r.len lt cut)) (e ∙ image_made t l.front f.opening l.inside br.found.2 old r.target f.place (sym l.size) i);
+      shown = λ ps g. ap (cells t) e ∙ image_way defs t at to old f r lt le im l s.slots s.placed b.0 h ps g;
+      taken = λ ps g. size ∙ taken_way defs t at old f (Some r) lt l b.0 h ps g;
+    }
+closes_some defs t at old new f r n false im lt s l h cut e size =
+    let to = at + (n + 1) in
+    let le : at ≤ to = omega arith in
+    let b = opening_placed t at old f l s.placed in
+    let parts = opening_start l.front l.inside f.opening (ap (waiting 0) (sym l.split) ∙ s.slots) in
+    record {
+      within = omega (arith, size, (cut_after t at r.len lt cut).0);
+      sound = λ ps g.
+        let br = bracket_of t ps old l.front l.inside f.opening g l.found in
+        let i = paired_inside t l.front f.opening l.inside br.found.2 old l.split br.within parts.1 in
+        sound_container t to (map (changed Calm) l.front) i.nodes new (node.OpenLink r.target) node.CloseLink (calm_waiting 0 l.front ∙ parts.0) (calm_placed t to l.front (front_placed t at to old f le l s.placed)) refl refl tt tt
+        (subst (λ (k : ℕ). IsCharBoundary t (at + (k + 1))) (sym size) (cut_after t at r.len lt cut)) (e ∙ link_made t l.front f.opening l.inside br.found.2 old r.target f.place (sym l.size) i);
+      shown = λ ps g. ap (cells t) e ∙ link_way defs t at to old f r lt le im l s.slots s.placed b.0 h ps g;
+      taken = λ ps g. size ∙ taken_way defs t at old f (Some r) lt l b.0 h ps g;
+    }
+
+pub closes_found : (defs : List Definition) (t : List ℕ) (at : ℕ) (old new : List Node) (f : reading.Found) (o : Option Reached) (n : ℕ) → IsUtf8 t → slice_get t at ≡ Some 93 → Sound t at old → last_opening old ≡ Some f → option_map reached_pair o ≡ reached_by defs t at f.opening
+    → IfSome o (λ r. IsCharBoundary (drop (at + 1) t) r.len) → new ≡ closed_nodes f o old → n ≡ taken_by o → Closes defs t at old new n
+closes_found defs t at old new f (Some r) n u br s h m cut e size = closes_some defs t at old new f r n f.opening.is_image refl (at_least t at 93 br) s (last_is t old f h) m cut e size
+closes_found defs t at old new f None n u br s h m cut e size =
+    let l = last_is t old f h in
+    let lt = at_least t at 93 br in
+    let b = opening_placed t at old f l s.placed in
+    let one : at + 1 ≡ at + (n + 1) = omega (arith, size) in
+    let end = subst (IsCharBoundary t) one (behind_bracket t at u br) in
+    record {
+      within = end.0;
+      sound = λ ps g. sound_unlinked t at (at + (n + 1)) old new f (omega arith) l s end e;
+      shown = λ ps g. ap (cells t) e ∙ unlinked_way defs t at old f lt l b.0 m ps g;
+      taken = λ ps g. size ∙ taken_way defs t at old f None lt l b.0 m ps g;
+    }
+
+pub closes_none : (defs : List Definition) (t : List ℕ) (at : ℕ) (old new : List Node) → IsUtf8 t → slice_get t at ≡ Some 93 → Sound t at old → last_opening old ≡ None → new ≡ old ++ closing_node ∷ [] → Closes defs t at old new 0
+closes_none defs t at old new u br s h e =
+    let none = none_is t old h in
+    let one : at + 1 ≡ at + (0 + 1) = omega arith in
+    let to : at ≤ at + (0 + 1) = omega arith in
+    record {
+      within = (subst (IsCharBoundary t) one (behind_bracket t at u br)).0;
+      sound = λ ps g. record {
+        slots = ap (waiting 0) e ∙ waiting-append 0 old (closing_node ∷ []) ∙ ap (λ (o : Option ℕ). after o (closing_node ∷ [])) s.slots;
+        placed = subst (IsPlaced t (at + (0 + 1))) (sym e) (placed-append t (at + (0 + 1)) old (closing_node ∷ []) (placed_later t at (at + (0 + 1)) old to s.placed) (tt, tt));
+        cut = subst (IsCharBoundary t) one (behind_bracket t at u br);
+      };
+      shown = λ ps g.
+        ap (cells t) e ∙ cells-append t old (closing_node ∷ []) ∙ ap (λ (cs : List Cell). cs ++ cells t (closing_node ∷ [])) g ∙ ap (λ (cs : List Cell). cells_of ps ++ cs) (closing_cell t)
+        ∙ sym (ap (λ (o : Option Found). cells_of (bracket_case defs ps (drop (at + 1) t) o).0) (no_bracket t ps old g none) ∙ cells_of-append ps (closing_text ∷ []));
+      taken = λ ps g. sym (ap (λ (o : Option Found). (bracket_case defs ps (drop (at + 1) t) o).1) (no_bracket t ps old g none));
+    }
+
+pub all_closed : (defs : List Definition) (t : List ℕ) (at : ℕ) (old new : List Node) (f : reading.Found) (o : Option Reached) (r : Result ℕ Memory) → ((n : ℕ) → new ≡ closed_nodes f o old → n ≡ taken_by o → Closes defs t at old new n)
+    → IfOk r (λ n. (new ≡ closed_nodes f o old) × (n ≡ taken_by o)) → IfOk r (λ n. Closes defs t at old new n)
+all_closed defs t at old new f o (Ok n) h k = h n k.0 k.1
+all_closed defs t at old new f o (Err e) h k = tt
+
+pub place_within : (t : List ℕ) (ns : List Node) (f : reading.Found) → last_opening ns ≡ Some f → f.place < length ns
+place_within t ns f h = let l = last_is t ns f h in omega (arith, l.size, ap (λ (zs : List Node). length zs) l.split, length-append l.front (node.Opening f.opening ∷ l.inside))
+
+pub bracket_placed : (t : List ℕ) (at : ℕ) (ns : List Node) (f : reading.Found) → last_opening ns ≡ Some f → Sound t at ns → (f.opening.behind ≤ at) × IsCharBoundary t f.opening.behind
+bracket_placed t at ns f h s = opening_placed t at ns f (last_is t ns f h) s.placed

@@ -4,3 +4,5 @@ pub mod CellLaws
 pub mod Slots
 pub mod Walk
 pub mod Closing
+pub mod SpanLaws
+pub mod Whole

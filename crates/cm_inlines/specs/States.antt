@@ -1,5 +1,5 @@
 -- How far the nodes of a text have come.
-use Rattle.std.specs.Prelude.{◌≡◌, ◌<◌, ◌≤◌, Bool, List, None, Option, Some, [], drop, false, reverse, suc, take, true, zero, ℕ, ◌+◌, ◌-◌, ◌∷◌}
+use Rattle.std.specs.Prelude.{◌≡◌, ◌<◌, ◌≤◌, Bool, List, None, Option, Some, [], drop, false, length, reverse, suc, take, true, zero, ℕ, ◌+◌, ◌-◌, ◌∷◌}
 use Rattle.std.specs.Str.{IsCharBoundary}
 use Rattle.markdown_grammar.specs.Definitions.{Definition}
 use Rattle.markdown_grammar.specs.Links as links
@@ -53,11 +53,13 @@ pub record GoesOn (defs : List Definition) (t : List ℕ) (at : ℕ) (before : L
 -- n bytes further
 pub record Reads (defs : List Definition) (t : List ℕ) (at : ℕ) (old new : List Node) (n : ℕ) : Type 0 where
   pub some : 0 < n
-  pub sound : Sound t (at + n) new
+  pub within : at + n ≤ length t
+  pub sound : (before : List Piece) → cells t old ≡ cells_of before → Sound t (at + n) new
   pub goes_on : (before : List Piece) → cells t old ≡ cells_of before → GoesOn defs t at before (at + n) new
 
 -- a closing bracket, and n bytes behind it
 pub record Closes (defs : List Definition) (t : List ℕ) (at : ℕ) (old new : List Node) (n : ℕ) : Type 0 where
-  pub sound : Sound t (at + (n + 1)) new
+  pub within : at + (n + 1) ≤ length t
+  pub sound : (before : List Piece) → cells t old ≡ cells_of before → Sound t (at + (n + 1)) new
   pub shown : (before : List Piece) → cells t old ≡ cells_of before → cells t new ≡ cells_of (links.close_bracket defs before (drop (at + 1) t)).0
   pub taken : (before : List Piece) → cells t old ≡ cells_of before → n ≡ (links.close_bracket defs before (drop (at + 1) t)).1
