@@ -102,18 +102,18 @@ some_cells f = Some f
 pub bracket_of : (t : List ℕ) (before : List Piece) (ns front inside : List Node) (o : Opening) → cells t ns ≡ cells_of before → last_cell bracket_test (cells t ns) ≡ Some (cells t front, cell_of t o, cells t inside) → BracketOf t before (cells t front) o (cells t inside)
 bracket_of t before ns front inside o e h =
     go (last_that is_bracket before) refl (sym (last_pieces is_bracket bracket_test bracket_matches before) ∙ ap (last_cell bracket_test) (sym e) ∙ h) where
-  go : (x : Option Found) → last_that is_bracket before ≡ x → option_map cells_found x ≡ Some (cells t front, cell_of t o, cells t inside) → BracketOf t before (cells t front) o (cells t inside)
-  go None l k = absurd cc
-  go (Some f) l k =
-      let m : some_cells (cells_found f) ≡ some_cells (cells t front, cell_of t o, cells t inside) = k in
-      let same : cells_found f ≡ (cells t front, cell_of t o, cells t inside) = cc in
-      record {
-        found = f;
-        last = l;
-        ahead = sym (ap (λ (x : FoundCell). x.0) same);
-        piece = piece_is f.1 o.is_image o.is_active (drop o.behind t) (ap (λ (x : FoundCell). x.1) same);
-        within = sym (ap (λ (x : FoundCell). x.2) same);
-      }
+      go : (x : Option Found) → last_that is_bracket before ≡ x → option_map cells_found x ≡ Some (cells t front, cell_of t o, cells t inside) → BracketOf t before (cells t front) o (cells t inside)
+      go None l k = absurd cc
+      go (Some f) l k =
+          let m : some_cells (cells_found f) ≡ some_cells (cells t front, cell_of t o, cells t inside) = k in
+          let same : cells_found f ≡ (cells t front, cell_of t o, cells t inside) = cc in
+          record {
+            found = f;
+            last = l;
+            ahead = sym (ap (λ (x : FoundCell). x.0) same);
+            piece = piece_is f.1 o.is_image o.is_active (drop o.behind t) (ap (λ (x : FoundCell). x.1) same);
+            within = sym (ap (λ (x : FoundCell). x.2) same);
+          }
 
 no_bracket : (t : List ℕ) (before : List Piece) (ns : List Node) → cells t ns ≡ cells_of before → last_cell bracket_test (cells t ns) ≡ None → last_that is_bracket before ≡ None
 no_bracket t before ns e h = go (last_that is_bracket before) (sym (last_pieces is_bracket bracket_test bracket_matches before) ∙ ap (last_cell bracket_test) (sym e) ∙ h) where
@@ -234,19 +234,19 @@ paired_inside t front o inside ps ns split e slots =
     let n : length ns - (length front + 1) ≡ length inside = omega (arith, ap (λ (zs : List Node). length zs) whole, length-append p inside, size) in
     let zero_more : length p + (0 + 0) ≡ length front + 1 = omega (arith, size) in
     let made : pair_from (length front + 1) (length front + 1) (length ns - (length front + 1)) ns ≡ front ++ node.Opening o ∷ (w.nodes ++ []) =
-      ap (pair_from (length front + 1) (length front + 1) (length ns - (length front + 1))) whole
-      ∙ ap (λ (k : ℕ). pair_from (length front + 1) (length front + 1) k (p ++ inside)) n
-      ∙ ap (λ (k : ℕ). pair_from k (length front + 1) (length inside) (p ++ inside)) (sym size)
-      ∙ ap (λ (k : ℕ). pair_from (length p) k (length inside) (p ++ inside)) (sym zero_more)
-      ∙ w.made ∙ append_assoc front (node.Opening o ∷ []) w.nodes ∙ ap (λ (zs : List Node). front ++ node.Opening o ∷ zs) (sym (append-nil w.nodes)) in
+    ap (pair_from (length front + 1) (length front + 1) (length ns - (length front + 1))) whole
+    ∙ ap (λ (k : ℕ). pair_from (length front + 1) (length front + 1) k (p ++ inside)) n
+    ∙ ap (λ (k : ℕ). pair_from k (length front + 1) (length inside) (p ++ inside)) (sym size)
+    ∙ ap (λ (k : ℕ). pair_from (length p) k (length inside) (p ++ inside)) (sym zero_more)
+    ∙ w.made ∙ append_assoc front (node.Opening o ∷ []) w.nodes ∙ ap (λ (zs : List Node). front ++ node.Opening o ∷ zs) (sym (append-nil w.nodes)) in
     let paired = pair_from (length front + 1) (length front + 1) (length ns - (length front + 1)) ns in
     let end : length paired ≡ suc (length front + length w.nodes) = omega (arith, ap (λ (zs : List Node). length zs) made, length-append front (node.Opening o ∷ (w.nodes ++ [])), length-append w.nodes []) in
     record {
       nodes = w.nodes;
       made =
-        ap (change_between Freeze (length front + 1) (length paired)) made
-        ∙ change_behind Freeze front (node.Opening o) w.nodes [] (length front + 1) (length paired) (add-one (length front)) end
-        ∙ ap (λ (zs : List Node). front ++ node.Opening o ∷ zs) (append-nil (map (changed Freeze) w.nodes));
+          ap (change_between Freeze (length front + 1) (length paired)) made
+          ∙ change_behind Freeze front (node.Opening o) w.nodes [] (length front + 1) (length paired) (add-one (length front)) end
+          ∙ ap (λ (zs : List Node). front ++ node.Opening o ∷ zs) (append-nil (map (changed Freeze) w.nodes));
       shown = w.shown;
     }
 
@@ -326,7 +326,7 @@ image_way defs t at to old f r lt le im l s p b h ps e =
     ∙ container_cells t l.front i.nodes (node.OpenImage target) node.CloseImage (open_image target.url target.title) close_image (tokens (pairs br.found.2)) refl refl i.shown
     ∙ ap (λ (cs : List Cell). cs ++ (map sealed (open_image target.url target.title ∷ (tokens (pairs br.found.2) ++ close_image ∷ [])) ++ [])) br.ahead
     ∙ sym (ap (λ (c : Closed). cells_of c.0) (closes_as defs t at ps f.opening (cells t l.front) (cells t l.inside) lt b br ∙ ap (λ (o : Option links.Reached). closed_by o f.opening.is_image br.found.0 br.found.2) (sym h) ∙ ap (λ (x : Bool). closed_by (Some (reached_pair r)) x br.found.0 br.found.2) im)
-      ∙ cells_of-append br.found.0 (finished (image target.url target.title (pairs br.found.2) no_inlines) ∷ []))
+    ∙ cells_of-append br.found.0 (finished (image target.url target.title (pairs br.found.2) no_inlines) ∷ []))
 
 link_way : (defs : List Definition) (t : List ℕ) (at to : ℕ) (old : List Node) (f : reading.Found) (r : Reached) → at < length t → at ≤ to → f.opening.is_image ≡ false → (l : Last t old f) → waiting 0 old ≡ Some 0 → IsPlaced t at old → f.opening.behind ≤ at
     → Some (reached_pair r) ≡ reached_by defs t at f.opening → (ps : List Piece) → cells t old ≡ cells_of ps → cells t (link_nodes f.place r.target old) ≡ cells_of (closed_pieces defs t at ps)
@@ -338,7 +338,7 @@ link_way defs t at to old f r lt le im l s p b h ps e =
     ∙ container_cells t (map (changed Calm) l.front) i.nodes (node.OpenLink target) node.CloseLink (open_link target.url target.title) close_link (tokens (pairs br.found.2)) refl refl i.shown
     ∙ ap (λ (cs : List Cell). cs ++ (map sealed (open_link target.url target.title ∷ (tokens (pairs br.found.2) ++ close_link ∷ [])) ++ [])) (calm_nodes t l.front ∙ ap (map calm_cell) br.ahead ∙ calm_pieces br.found.0)
     ∙ sym (ap (λ (c : Closed). cells_of c.0) (closes_as defs t at ps f.opening (cells t l.front) (cells t l.inside) lt b br ∙ ap (λ (o : Option links.Reached). closed_by o f.opening.is_image br.found.0 br.found.2) (sym h) ∙ ap (λ (x : Bool). closed_by (Some (reached_pair r)) x br.found.0 br.found.2) im)
-      ∙ cells_of-append (calmed br.found.0) (finished (link target.url target.title (pairs br.found.2) no_inlines) ∷ []))
+    ∙ cells_of-append (calmed br.found.0) (finished (link target.url target.title (pairs br.found.2) no_inlines) ∷ []))
 
 closing_cell : (t : List ℕ) → cells t (closing_node ∷ []) ≡ cells_of (closing_text ∷ [])
 closing_cell t = ap (λ (b : List ℕ). sealed (text_token b) ∷ []) (encode_ascii 93 (omega arith))
@@ -351,9 +351,9 @@ unlinked_cells t i front inside fs is a b =
     ∙ ap (λ (cs : List Cell). cells_of (fs ++ bracket_piece i ∷ is) ++ cs) (closing_cell t)
     ∙ sym (cells_of-append (fs ++ bracket_piece i ∷ is) (closing_text ∷ []))
     ∙ ap cells_of (append_assoc fs (bracket_piece i ∷ is) (closing_text ∷ [])) where
-  bracket_cells : (j : Bool) → cells t (node.Bracket j ∷ inside) ≡ cells_in (bracket_piece j) ++ cells t inside
-  bracket_cells true = refl
-  bracket_cells false = refl
+      bracket_cells : (j : Bool) → cells t (node.Bracket j ∷ inside) ≡ cells_in (bracket_piece j) ++ cells t inside
+      bracket_cells true = refl
+      bracket_cells false = refl
 
 unlinked_made : (t : List ℕ) (old : List Node) (f : reading.Found) (l : Last t old f) → unlinked_nodes f old ≡ (l.front ++ node.Bracket f.opening.is_image ∷ l.inside) ++ closing_node ∷ []
 unlinked_made t old f l =
@@ -373,9 +373,9 @@ taken_way defs t at old f o lt l b h ps e =
     let br = bracket_of t ps old l.front l.inside f.opening e l.found in
     taken o ∙ ap (λ (x : Option links.Reached). (closed_by x f.opening.is_image br.found.0 br.found.2).1) h
     ∙ sym (ap (λ (c : Closed). c.1) (closes_as defs t at ps f.opening (cells t l.front) (cells t l.inside) lt b br)) where
-  taken : (x : Option Reached) → taken_by x ≡ (closed_by (option_map reached_pair x) f.opening.is_image (bracket_of t ps old l.front l.inside f.opening e l.found).found.0 (bracket_of t ps old l.front l.inside f.opening e l.found).found.2).1
-  taken (Some r) = refl
-  taken None = refl
+      taken : (x : Option Reached) → taken_by x ≡ (closed_by (option_map reached_pair x) f.opening.is_image (bracket_of t ps old l.front l.inside f.opening e l.found).found.0 (bracket_of t ps old l.front l.inside f.opening e l.found).found.2).1
+      taken (Some r) = refl
+      taken None = refl
 
 -- ---- soundness
 
@@ -403,10 +403,10 @@ sound_unlinked t at to old new f le l s cut e =
     let parts = opening_start l.front l.inside f.opening (ap (waiting 0) (sym l.split) ∙ s.slots) in
     record {
       slots =
-        ap (waiting 0) (made ∙ append_assoc l.front (node.Bracket i ∷ l.inside) (closing_node ∷ [])) ∙ waiting-append 0 l.front (node.Bracket i ∷ (l.inside ++ closing_node ∷ []))
-        ∙ ap (λ (o : Option ℕ). after o (node.Bracket i ∷ (l.inside ++ closing_node ∷ []))) parts.0 ∙ waiting-append 0 l.inside (closing_node ∷ []) ∙ ap (λ (o : Option ℕ). after o (closing_node ∷ [])) parts.1;
+          ap (waiting 0) (made ∙ append_assoc l.front (node.Bracket i ∷ l.inside) (closing_node ∷ [])) ∙ waiting-append 0 l.front (node.Bracket i ∷ (l.inside ++ closing_node ∷ []))
+          ∙ ap (λ (o : Option ℕ). after o (node.Bracket i ∷ (l.inside ++ closing_node ∷ []))) parts.0 ∙ waiting-append 0 l.inside (closing_node ∷ []) ∙ ap (λ (o : Option ℕ). after o (closing_node ∷ [])) parts.1;
       placed = subst (IsPlaced t to) (sym made)
-        (placed-append t to (l.front ++ node.Bracket i ∷ l.inside) (closing_node ∷ []) (placed-append t to l.front (node.Bracket i ∷ l.inside) (front_placed t at to old f le l s.placed) (tt, inside_placed t at to old f le l s.placed)) (tt, tt));
+          (placed-append t to (l.front ++ node.Bracket i ∷ l.inside) (closing_node ∷ []) (placed-append t to l.front (node.Bracket i ∷ l.inside) (front_placed t at to old f le l s.placed) (tt, inside_placed t at to old f le l s.placed)) (tt, tt));
       cut = cut;
     }
 
@@ -430,10 +430,10 @@ closes_some defs t at old new f r n true im lt s l h cut e size =
     record {
       within = omega (arith, size, (cut_after t at r.len lt cut).0);
       sound = λ ps g.
-        let br = bracket_of t ps old l.front l.inside f.opening g l.found in
-        let i = paired_inside t l.front f.opening l.inside br.found.2 old l.split br.within parts.1 in
-        sound_container t to l.front i.nodes new (node.OpenImage r.target) node.CloseImage parts.0 (front_placed t at to old f le l s.placed) refl refl tt tt
-        (subst (λ (k : ℕ). IsCharBoundary t (at + (k + 1))) (sym size) (cut_after t at r.len lt cut)) (e ∙ image_made t l.front f.opening l.inside br.found.2 old r.target f.place (sym l.size) i);
+          let br = bracket_of t ps old l.front l.inside f.opening g l.found in
+          let i = paired_inside t l.front f.opening l.inside br.found.2 old l.split br.within parts.1 in
+          sound_container t to l.front i.nodes new (node.OpenImage r.target) node.CloseImage parts.0 (front_placed t at to old f le l s.placed) refl refl tt tt
+          (subst (λ (k : ℕ). IsCharBoundary t (at + (k + 1))) (sym size) (cut_after t at r.len lt cut)) (e ∙ image_made t l.front f.opening l.inside br.found.2 old r.target f.place (sym l.size) i);
       shown = λ ps g. ap (cells t) e ∙ image_way defs t at to old f r lt le im l s.slots s.placed b.0 h ps g;
       taken = λ ps g. size ∙ taken_way defs t at old f (Some r) lt l b.0 h ps g;
     }
@@ -445,10 +445,10 @@ closes_some defs t at old new f r n false im lt s l h cut e size =
     record {
       within = omega (arith, size, (cut_after t at r.len lt cut).0);
       sound = λ ps g.
-        let br = bracket_of t ps old l.front l.inside f.opening g l.found in
-        let i = paired_inside t l.front f.opening l.inside br.found.2 old l.split br.within parts.1 in
-        sound_container t to (map (changed Calm) l.front) i.nodes new (node.OpenLink r.target) node.CloseLink (calm_waiting 0 l.front ∙ parts.0) (calm_placed t to l.front (front_placed t at to old f le l s.placed)) refl refl tt tt
-        (subst (λ (k : ℕ). IsCharBoundary t (at + (k + 1))) (sym size) (cut_after t at r.len lt cut)) (e ∙ link_made t l.front f.opening l.inside br.found.2 old r.target f.place (sym l.size) i);
+          let br = bracket_of t ps old l.front l.inside f.opening g l.found in
+          let i = paired_inside t l.front f.opening l.inside br.found.2 old l.split br.within parts.1 in
+          sound_container t to (map (changed Calm) l.front) i.nodes new (node.OpenLink r.target) node.CloseLink (calm_waiting 0 l.front ∙ parts.0) (calm_placed t to l.front (front_placed t at to old f le l s.placed)) refl refl tt tt
+          (subst (λ (k : ℕ). IsCharBoundary t (at + (k + 1))) (sym size) (cut_after t at r.len lt cut)) (e ∙ link_made t l.front f.opening l.inside br.found.2 old r.target f.place (sym l.size) i);
       shown = λ ps g. ap (cells t) e ∙ link_way defs t at to old f r lt le im l s.slots s.placed b.0 h ps g;
       taken = λ ps g. size ∙ taken_way defs t at old f (Some r) lt l b.0 h ps g;
     }
@@ -482,8 +482,8 @@ closes_none defs t at old new u br s h e =
         cut = subst (IsCharBoundary t) one (behind_bracket t at u br);
       };
       shown = λ ps g.
-        ap (cells t) e ∙ cells-append t old (closing_node ∷ []) ∙ ap (λ (cs : List Cell). cs ++ cells t (closing_node ∷ [])) g ∙ ap (λ (cs : List Cell). cells_of ps ++ cs) (closing_cell t)
-        ∙ sym (ap (λ (o : Option Found). cells_of (bracket_case defs ps (drop (at + 1) t) o).0) (no_bracket t ps old g none) ∙ cells_of-append ps (closing_text ∷ []));
+          ap (cells t) e ∙ cells-append t old (closing_node ∷ []) ∙ ap (λ (cs : List Cell). cs ++ cells t (closing_node ∷ [])) g ∙ ap (λ (cs : List Cell). cells_of ps ++ cs) (closing_cell t)
+          ∙ sym (ap (λ (o : Option Found). cells_of (bracket_case defs ps (drop (at + 1) t) o).0) (no_bracket t ps old g none) ∙ cells_of-append ps (closing_text ∷ []));
       taken = λ ps g. sym (ap (λ (o : Option Found). (bracket_case defs ps (drop (at + 1) t) o).1) (no_bracket t ps old g none));
     }
 

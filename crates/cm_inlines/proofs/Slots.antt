@@ -178,10 +178,10 @@ closed t k r behind some slots = go (nat_lt k r.len) refl (nothings (r.len - 1) 
       record {
         rest = shorter r k ∷ tail;
         made = λ xs place f.
-          ap (λ (b : Bool). cond b (set (set (xs ++ node.Run r ∷ behind) place (close_node k)) (place + 1) (shorter r k)) (set (xs ++ node.Run r ∷ behind) place (close_node k))) e
-          ∙ ap (λ (zs : List Node). set zs (place + 1) (shorter r k)) (set_there xs (node.Run r) behind (close_node k) place f)
-          ∙ ap (λ (zs : List Node). set (xs ++ close_node k ∷ zs) (place + 1) (shorter r k)) all
-          ∙ second xs (close_node k) node.Nothing tail (shorter r k) place f;
+            ap (λ (b : Bool). cond b (set (set (xs ++ node.Run r ∷ behind) place (close_node k)) (place + 1) (shorter r k)) (set (xs ++ node.Run r ∷ behind) place (close_node k))) e
+            ∙ ap (λ (zs : List Node). set zs (place + 1) (shorter r k)) (set_there xs (node.Run r) behind (close_node k) place f)
+            ∙ ap (λ (zs : List Node). set (xs ++ close_node k ∷ zs) (place + 1) (shorter r k)) all
+            ∙ second xs (close_node k) node.Nothing tail (shorter r k) place f;
         shown = ap (λ (zs : List Node). run_cell r.mark (r.len - k) r.first r.opens r.closes ∷ cells t zs) (sym all) ∙ sym (ap (λ (b : Bool). cells_of (cond b (delimiter_run r.mark (r.len - k) r.first r.opens r.closes ∷ []) []) ++ cells t behind) e);
         size = sym (ap (λ (zs : List Node). length zs) all);
         slots = waiting_gaps (r.len - k - 1) (r.len - 2) g.0 (omega (arith, some)) ∙ g.2;
@@ -202,11 +202,11 @@ opened t k r inside some slots = go (nat_lt k r.len) refl (nothings (r.len - 1) 
   go false e g = record {
     nodes = open_node k ∷ map (changed Freeze) inside;
     made = λ xs rest place f.
-      ap (λ (b : Bool). cond b (set (set (xs ++ node.Run r ∷ (map (changed Freeze) inside ++ rest)) place (shorter r k)) (place + (r.len - k)) (open_node k)) (set (xs ++ node.Run r ∷ (map (changed Freeze) inside ++ rest)) place (open_node k))) e
-      ∙ set_there xs (node.Run r) (map (changed Freeze) inside ++ rest) (open_node k) place f;
+        ap (λ (b : Bool). cond b (set (set (xs ++ node.Run r ∷ (map (changed Freeze) inside ++ rest)) place (shorter r k)) (place + (r.len - k)) (open_node k)) (set (xs ++ node.Run r ∷ (map (changed Freeze) inside ++ rest)) place (open_node k))) e
+        ∙ set_there xs (node.Run r) (map (changed Freeze) inside ++ rest) (open_node k) place f;
     shown =
-      ap (λ (cs : List Cell). cs ++ cells t (map (changed Freeze) inside)) (open_cells t k) ∙ ap (λ (cs : List Cell). sealed (open_token k) ∷ cs) (frozen t inside)
-      ∙ sym (ap (λ (b : Bool). cells_of (cond b (delimiter_run r.mark (r.len - k) r.first r.opens r.closes ∷ []) []) ++ sealed (open_token k) ∷ map sealed (plain_tokens (cells t inside))) e);
+        ap (λ (cs : List Cell). cs ++ cells t (map (changed Freeze) inside)) (open_cells t k) ∙ ap (λ (cs : List Cell). sealed (open_token k) ∷ cs) (frozen t inside)
+        ∙ sym (ap (λ (b : Bool). cells_of (cond b (delimiter_run r.mark (r.len - k) r.first r.opens r.closes ∷ []) []) ++ sealed (open_token k) ∷ map sealed (plain_tokens (cells t inside))) e);
     slots = λ rest. ap (λ (m : ℕ). waiting m (map (changed Freeze) inside ++ rest)) (open_room k) ∙ waiting_frozen inside rest;
     size = ap (λ (x : ℕ). suc x) (length-map inside (changed Freeze));
   }
@@ -217,24 +217,24 @@ opened t k r inside some slots = go (nat_lt k r.len) refl (nothings (r.len - 1) 
       let parts : r.len - 1 ≡ a + suc b = omega (arith, lt, some) in
       let tail = map (changed Freeze) g.0 in
       let all : (rest : List Node) → map (changed Freeze) inside ++ rest ≡ gaps a ++ node.Nothing ∷ (gaps b ++ (tail ++ rest)) =
-        λ rest. ap (λ (zs : List Node). map (changed Freeze) zs ++ rest) g.1 ∙ ap (λ (zs : List Node). zs ++ rest) (frozen_gaps (r.len - 1) g.0) ∙ append_assoc (gaps (r.len - 1)) tail rest ∙ ap (λ (m : ℕ). gaps m ++ (tail ++ rest)) parts ∙ gaps_split a b (tail ++ rest) in
+      λ rest. ap (λ (zs : List Node). map (changed Freeze) zs ++ rest) g.1 ∙ ap (λ (zs : List Node). zs ++ rest) (frozen_gaps (r.len - 1) g.0) ∙ append_assoc (gaps (r.len - 1)) tail rest ∙ ap (λ (m : ℕ). gaps m ++ (tail ++ rest)) parts ∙ gaps_split a b (tail ++ rest) in
       let same : cells t inside ≡ cells t g.0 = ap (cells t) g.1 ∙ cells_gaps t (r.len - 1) g.0 in
       record {
         nodes = shorter r k ∷ (gaps a ++ open_node k ∷ (gaps b ++ tail));
         made = λ xs rest place f.
-          let start = xs ++ shorter r k ∷ gaps a in
-          let size : place + (r.len - k) ≡ length start = omega (arith, f, lt, length-append xs (shorter r k ∷ gaps a), length_gaps a) in
-          ap (λ (b : Bool). cond b (set (set (xs ++ node.Run r ∷ (map (changed Freeze) inside ++ rest)) place (shorter r k)) (place + (r.len - k)) (open_node k)) (set (xs ++ node.Run r ∷ (map (changed Freeze) inside ++ rest)) place (open_node k))) e
-          ∙ ap (λ (zs : List Node). set zs (place + (r.len - k)) (open_node k)) (set_there xs (node.Run r) (map (changed Freeze) inside ++ rest) (shorter r k) place f
+            let start = xs ++ shorter r k ∷ gaps a in
+            let size : place + (r.len - k) ≡ length start = omega (arith, f, lt, length-append xs (shorter r k ∷ gaps a), length_gaps a) in
+            ap (λ (b : Bool). cond b (set (set (xs ++ node.Run r ∷ (map (changed Freeze) inside ++ rest)) place (shorter r k)) (place + (r.len - k)) (open_node k)) (set (xs ++ node.Run r ∷ (map (changed Freeze) inside ++ rest)) place (open_node k))) e
+            ∙ ap (λ (zs : List Node). set zs (place + (r.len - k)) (open_node k)) (set_there xs (node.Run r) (map (changed Freeze) inside ++ rest) (shorter r k) place f
             ∙ ap (λ (zs : List Node). xs ++ shorter r k ∷ zs) (all rest) ∙ sym (append_assoc xs (shorter r k ∷ gaps a) (node.Nothing ∷ (gaps b ++ (tail ++ rest)))))
-          ∙ set_there start node.Nothing (gaps b ++ (tail ++ rest)) (open_node k) (place + (r.len - k)) size
-          ∙ simp append_assoc;
+            ∙ set_there start node.Nothing (gaps b ++ (tail ++ rest)) (open_node k) (place + (r.len - k)) size
+            ∙ simp append_assoc;
         shown =
-          ap (λ (cs : List Cell). run_cell r.mark (r.len - k) r.first r.opens r.closes ∷ cs)
-          (cells_gaps t a (open_node k ∷ (gaps b ++ tail)) ∙ ap (λ (cs : List Cell). cs ++ cells t (gaps b ++ tail)) (open_cells t k) ∙ ap (λ (cs : List Cell). sealed (open_token k) ∷ cs) (cells_gaps t b tail ∙ frozen t g.0 ∙ ap (λ (cs : List Cell). map sealed (plain_tokens cs)) (sym same)))
-          ∙ sym (ap (λ (b : Bool). cells_of (cond b (delimiter_run r.mark (r.len - k) r.first r.opens r.closes ∷ []) []) ++ sealed (open_token k) ∷ map sealed (plain_tokens (cells t inside))) e);
+            ap (λ (cs : List Cell). run_cell r.mark (r.len - k) r.first r.opens r.closes ∷ cs)
+            (cells_gaps t a (open_node k ∷ (gaps b ++ tail)) ∙ ap (λ (cs : List Cell). cs ++ cells t (gaps b ++ tail)) (open_cells t k) ∙ ap (λ (cs : List Cell). sealed (open_token k) ∷ cs) (cells_gaps t b tail ∙ frozen t g.0 ∙ ap (λ (cs : List Cell). map sealed (plain_tokens cs)) (sym same)))
+            ∙ sym (ap (λ (b : Bool). cells_of (cond b (delimiter_run r.mark (r.len - k) r.first r.opens r.closes ∷ []) []) ++ sealed (open_token k) ∷ map sealed (plain_tokens (cells t inside))) e);
         slots = λ rest.
-          ap (waiting a) (append_assoc (gaps a) (open_node k ∷ (gaps b ++ tail)) rest) ∙ waiting_gaps a a (open_node k ∷ ((gaps b ++ tail) ++ rest)) (omega arith)
-          ∙ ap (λ (m : ℕ). waiting m ((gaps b ++ tail) ++ rest)) (open_room k) ∙ ap (waiting 0) (append_assoc (gaps b) tail rest) ∙ waiting_gaps 0 b (tail ++ rest) (omega arith) ∙ waiting_frozen g.0 rest;
+            ap (waiting a) (append_assoc (gaps a) (open_node k ∷ (gaps b ++ tail)) rest) ∙ waiting_gaps a a (open_node k ∷ ((gaps b ++ tail) ++ rest)) (omega arith)
+            ∙ ap (λ (m : ℕ). waiting m ((gaps b ++ tail) ++ rest)) (open_room k) ∙ ap (waiting 0) (append_assoc (gaps b) tail rest) ∙ waiting_gaps 0 b (tail ++ rest) (omega arith) ∙ waiting_frozen g.0 rest;
         size = omega (arith, lt, some, length-append (gaps a) (open_node k ∷ (gaps b ++ tail)), length-append (gaps b) tail, length_gaps a, length_gaps b, length-map g.0 (changed Freeze), ap (λ (zs : List Node). length zs) g.1, length-append (gaps (r.len - 1)) g.0, length_gaps (r.len - 1));
       }

@@ -52,8 +52,8 @@ further_is t at zero ps c cs d some = absurd (omega (arith, some))
 further_is t at (suc m) ps c cs d some =
     let less : suc m - 1 ≡ m = omega arith in
     let done : reverse (take m cs) ++ c ∷ reverse (take at t) ≡ reverse (take (at + suc m) t) =
-      sym (ap (λ (x : List ℕ). reverse x) (take_add at (suc m) t ∙ ap (λ (x : List ℕ). take at t ++ take (suc m) x) d) ∙ reverse-append (take at t) (c ∷ take m cs)
-        ∙ ap (λ (x : List ℕ). x ++ reverse (take at t)) (reverse-append (c ∷ []) (take m cs)) ∙ append_assoc (reverse (take m cs)) (c ∷ []) (reverse (take at t))) in
+    sym (ap (λ (x : List ℕ). reverse x) (take_add at (suc m) t ∙ ap (λ (x : List ℕ). take at t ++ take (suc m) x) d) ∙ reverse-append (take at t) (c ∷ take m cs)
+    ∙ ap (λ (x : List ℕ). x ++ reverse (take at t)) (reverse-append (c ∷ []) (take m cs)) ∙ append_assoc (reverse (take m cs)) (c ∷ []) (reverse (take at t))) in
     let left : drop m cs ≡ drop (at + suc m) t = sym (sym (drop-drop (suc m) at t) ∙ ap (drop (suc m)) d) in
     ap (λ (k : ℕ). record { before = ps; done = reverse (take k cs) ++ c ∷ reverse (take at t); left = drop k cs }) less
     ∙ ap (λ (x : List ℕ). record { before = ps; done = x; left = drop m cs }) done ∙ ap (λ (x : List ℕ). record { before = ps; done = reverse (take (at + suc m) t); left = x }) left
@@ -102,12 +102,12 @@ code_few t = go (run_len (λ c. c == 96) t) (before_run (run_len (λ c. c == 96)
 pointed_few : (t : List ℕ) → Few (pointed_at t)
 pointed_few t = go (pointed uri t) (pointed email t) (html_tag t) where
   go : (a b c : Option ℕ) → Few (elim a as (λ x. code.Taken) [
-      | Some n ↦ (to_link [] (between_ends n t), n)
-      | None ↦ elim b as (λ x. code.Taken) [
-        | Some n ↦ (to_link (codes "mailto:") (between_ends n t), n)
-        | None ↦ elim c as (λ x. code.Taken) [ Some n ↦ (finished (raw_html (take n t) no_inlines), n) | None ↦ code.as_textual (codes "<") 1 ]
-      ]
-    ])
+    | Some n ↦ (to_link [] (between_ends n t), n)
+    | None ↦ elim b as (λ x. code.Taken) [
+      | Some n ↦ (to_link (codes "mailto:") (between_ends n t), n)
+      | None ↦ elim c as (λ x. code.Taken) [ Some n ↦ (finished (raw_html (take n t) no_inlines), n) | None ↦ code.as_textual (codes "<") 1 ]
+    ]
+  ])
   go (Some n) b c = tt
   go None (Some n) c = tt
   go None None (Some n) = tt
@@ -212,11 +212,11 @@ reads_span defs t at old new taken lt other s value ends e =
       goes_on = λ before g. record {
         pieces = before ++ piece ∷ [];
         shown = ap (cells t) e ∙ cells-append t old (span_nodes taken.span at) ∙ ap (λ (xs : List Cell). xs ++ cells t (span_nodes taken.span at)) g
-          ∙ ap (λ (xs : List Cell). cells_of before ++ xs) (span_cells t at taken.span ∙ sym (append-nil (cells_in piece))) ∙ sym (cells_of-append before (piece ∷ []));
+            ∙ ap (λ (xs : List Cell). cells_of before ++ xs) (span_cells t at taken.span ∙ sym (append-nil (cells_in piece))) ∙ sym (cells_of-append before (piece ∷ []));
         same = step_at defs t at before c cs d
-          ∙ ap (λ (b : Bool). pieces_from defs (next_case defs before done c cs b)) test
-          ∙ ap (λ (r : code.Taken). pieces_from defs (further (before ++ r.0 ∷ []) r.1 done c cs)) (sym is)
-          ∙ ap (pieces_from defs) (further_is t at n (before ++ piece ∷ []) c cs d ends.some);
+            ∙ ap (λ (b : Bool). pieces_from defs (next_case defs before done c cs b)) test
+            ∙ ap (λ (r : code.Taken). pieces_from defs (further (before ++ r.0 ∷ []) r.1 done c cs)) (sym is)
+            ∙ ap (pieces_from defs) (further_is t at n (before ++ piece ∷ []) c cs d ends.some);
       };
     }
 
@@ -235,8 +235,8 @@ reads_bracket defs t at old new n lt is closes =
         pieces = (close_bracket defs before cs).0;
         shown = closes.shown before g;
         same = step_at defs t at before c cs d
-          ∙ ap (λ (b : Bool). pieces_from defs (next_case defs before done c cs b)) test
-          ∙ ap (λ (k : ℕ). pieces_from defs (further (close_bracket defs before cs).0 (k + 1) done c cs)) (sym (closes.taken before g))
-          ∙ ap (pieces_from defs) (further_is t at (n + 1) (close_bracket defs before cs).0 c cs d (omega arith));
+            ∙ ap (λ (b : Bool). pieces_from defs (next_case defs before done c cs b)) test
+            ∙ ap (λ (k : ℕ). pieces_from defs (further (close_bracket defs before cs).0 (k + 1) done c cs)) (sym (closes.taken before g))
+            ∙ ap (pieces_from defs) (further_is t at (n + 1) (close_bracket defs before cs).0 c cs d (omega arith));
       };
     }

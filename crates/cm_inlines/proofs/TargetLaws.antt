@@ -54,7 +54,7 @@ titled url t u v n g title d e some gap h =
     let place : n + g + title.len ≡ n + (g + title.len) = omega arith in
     let rest : drop (g + title.len) u ≡ drop (n + g + title.len) t = ap (drop (g + title.len)) d ∙ drop-drop (g + title.len) n t ∙ sym (ap (λ (k : ℕ). drop k t) place) in
     sym (ap (λ (x : List ℕ). grammar.with_title url n x) (sym d) ∙ ap (gap_case url n u) gapped ∙ ap (λ (x : List ℕ). title_case url n g u (link_title x)) (sym e) ∙ ap (title_case url n g u) found
-      ∙ ap (grammar.closing_paren (url, Some title.text) (n + g + title.len)) rest)
+    ∙ ap (grammar.closing_paren (url, Some title.text) (n + g + title.len)) rest)
 
 abbrev url_case : List ℕ → ℕ → Option Part → Option grammar.Reached
 url_case t g o = elim o as (λ x. Option grammar.Reached) [ Some d ↦ grammar.with_title d.0 (1 + g + d.1) (drop (1 + g + d.1) t) | None ↦ grammar.closing_paren ([], None) 1 (drop 1 t) ]

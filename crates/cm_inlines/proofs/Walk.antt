@@ -243,7 +243,7 @@ pair_made t xs o inside r behind k place end op cl e f =
     let start = xs ++ node.Run o ∷ fs in
     let size : end ≡ length start = omega (arith, f, length-append xs (node.Run o ∷ fs), length-map inside (changed Freeze)) in
     ap (λ (zs : List Node). open_nodes place o k (close_nodes end r k zs))
-      (change_behind Freeze xs (node.Run o) inside (node.Run r ∷ behind) (suc place) end (omega (arith, e)) f ∙ sym (append_assoc xs (node.Run o ∷ fs) (node.Run r ∷ behind)))
+    (change_behind Freeze xs (node.Run o) inside (node.Run r ∷ behind) (suc place) end (omega (arith, e)) f ∙ sym (append_assoc xs (node.Run o ∷ fs) (node.Run r ∷ behind)))
     ∙ ap (λ (zs : List Node). open_nodes place o k zs) (cl.made start end size ∙ append_assoc xs (node.Run o ∷ fs) (close_node k ∷ cl.rest))
     ∙ op.made xs (close_node k ∷ cl.rest) place e
 
@@ -255,12 +255,12 @@ paired_cells t front k o inside op f a b =
     cells-append t front (op.nodes ++ close_node k ∷ [])
     ∙ ap (λ (cs : List Cell). cs ++ cells t (op.nodes ++ close_node k ∷ [])) a
     ∙ ap (λ (cs : List Cell). cells_of f.0 ++ cs)
-      (cells-append t op.nodes (close_node k ∷ []) ∙ ap (λ (cs : List Cell). cs ++ cells t (close_node k ∷ [])) op.shown
-        ∙ ap (λ (cs : List Cell). (short ++ sealed (open_token k) ∷ map sealed (plain_tokens (cells t inside))) ++ (cs ++ [])) (close_cells t k)
-        ∙ ap (λ (ts : List Token). (short ++ sealed (open_token k) ∷ map sealed ts) ++ sealed (close_token k) ∷ []) body
-        ∙ append_assoc short (sealed (open_token k) ∷ map sealed (tokens (plain f.2))) (sealed (close_token k) ∷ [])
-        ∙ ap (λ (cs : List Cell). short ++ cs) (sym (append-nil (cells_in (stressed k (plain f.2))) ∙ stressed_cells k (plain f.2)))
-        ∙ sym (cells_of-append (shorten k (piece_of_run o)) (stressed k (plain f.2) ∷ [])))
+    (cells-append t op.nodes (close_node k ∷ []) ∙ ap (λ (cs : List Cell). cs ++ cells t (close_node k ∷ [])) op.shown
+    ∙ ap (λ (cs : List Cell). (short ++ sealed (open_token k) ∷ map sealed (plain_tokens (cells t inside))) ++ (cs ++ [])) (close_cells t k)
+    ∙ ap (λ (ts : List Token). (short ++ sealed (open_token k) ∷ map sealed ts) ++ sealed (close_token k) ∷ []) body
+    ∙ append_assoc short (sealed (open_token k) ∷ map sealed (tokens (plain f.2))) (sealed (close_token k) ∷ [])
+    ∙ ap (λ (cs : List Cell). short ++ cs) (sym (append-nil (cells_in (stressed k (plain f.2))) ∙ stressed_cells k (plain f.2)))
+    ∙ sym (cells_of-append (shorten k (piece_of_run o)) (stressed k (plain f.2) ∷ [])))
     ∙ sym (cells_of-append f.0 (shorten k (piece_of_run o) ++ stressed k (plain f.2) ∷ []))
 
 pub record Between (before : List Node) (j : ℕ) (o : Run) : Type 0 where
@@ -292,17 +292,17 @@ pairing t front j o a inside r behind cur rest cl n w b s h made =
       pieces = w.found.0 ++ (shorten k (piece_of_run o) ++ stressed k (plain w.found.2) ∷ []);
       more = shorten k (piece_of_run r) ++ rest;
       made =
-        made ∙ ap (pair_nodes (length front + j) o (length front + length (a ++ node.Run o ∷ inside)) r) whole
-        ∙ pair_made t (front ++ a) o inside r behind k (length front + j) (length front + length (a ++ node.Run o ∷ inside)) op cd place end
-        ∙ simp append_assoc;
+          made ∙ ap (pair_nodes (length front + j) o (length front + length (a ++ node.Run o ∷ inside)) r) whole
+          ∙ pair_made t (front ++ a) o inside r behind k (length front + j) (length front + length (a ++ node.Run o ∷ inside)) op cd place end
+          ∙ simp append_assoc;
       far = omega (arith, length-append a (op.nodes ++ close_node k ∷ []), length-append op.nodes (close_node k ∷ []), op.size, length-append a (node.Run o ∷ inside));
       size = cd.size;
       shown = paired_cells t a k o inside op w.found w.before w.within;
       ahead = cd.shown ∙ ap (λ (cs : List Cell). cells_of (shorten k (piece_of_run r)) ++ cs) b ∙ sym (cells_of-append (shorten k (piece_of_run r)) rest);
       slots =
-        (let flat : (a ++ (op.nodes ++ close_node k ∷ [])) ++ cd.rest ≡ a ++ (op.nodes ++ close_node k ∷ cd.rest) = simp append_assoc in ap (waiting 0) flat)
-        ∙ waiting-append 0 a (op.nodes ++ close_node k ∷ cd.rest) ∙ ap (λ (x : Option ℕ). after x (op.nodes ++ close_node k ∷ cd.rest)) outer.0 ∙ op.slots (close_node k ∷ cd.rest)
-        ∙ ap (λ (m : ℕ). waiting m cd.rest) (close_room k) ∙ cd.slots;
+          (let flat : (a ++ (op.nodes ++ close_node k ∷ [])) ++ cd.rest ≡ a ++ (op.nodes ++ close_node k ∷ cd.rest) = simp append_assoc in ap (waiting 0) flat)
+          ∙ waiting-append 0 a (op.nodes ++ close_node k ∷ cd.rest) ∙ ap (λ (x : Option ℕ). after x (op.nodes ++ close_node k ∷ cd.rest)) outer.0 ∙ op.slots (close_node k ∷ cd.rest)
+          ∙ ap (λ (m : ℕ). waiting m cd.rest) (close_room k) ∙ cd.slots;
       settled = step.0;
       same = step.1;
     }
@@ -351,18 +351,18 @@ turn_some t front before r behind cur rest j cl l fa b d s h =
     let lone : run_cell_of o.0 ∷ [] ≡ fa.cell ∷ [] = ap (cells_at t) (sym o.1) ∙ fa.single in
     let cell : fa.cell ≡ run_cell_of o.0 = cc in
     let found : option_map cells_found (last_that q cur) ≡ some_cells (cells t a, run_cell_of o.0, cells t inside) =
-      sym (last_pieces q qc (opener_matches r.mark r.first r.opens) cur) ∙ ap (last_cell qc) (sym b) ∙ fa.found ∙ ap (λ (x : Cell). some_cells (cells t a, x, cells t inside)) cell in
+    sym (last_pieces q qc (opener_matches r.mark r.first r.opens) cur) ∙ ap (last_cell qc) (sym b) ∙ fa.found ∙ ap (λ (x : Cell). some_cells (cells t a, x, cells t inside)) cell in
     let w = opener_of q cur (cells t a) o.0 (cells t inside) found in
     let start = length front in
     let end = length front + length (a ++ node.Run o.0 ∷ inside) in
     let ns = front ++ ((a ++ node.Run o.0 ∷ inside) ++ node.Run r ∷ behind) in
     let flat : (a ++ node.Run o.0 ∷ inside) ++ node.Run r ∷ behind ≡ a ++ node.Run o.0 ∷ (inside ++ node.Run r ∷ behind) = append_assoc a (node.Run o.0 ∷ inside) (node.Run r ∷ behind) in
     let at : slice_get ns (start + j) ≡ Some (node.Run o.0) =
-      ap (λ (zs : List Node). slice_get (front ++ zs) (start + j)) flat ∙ ap (λ (zs : List Node). slice_get zs (start + j)) (sym (append_assoc front a (node.Run o.0 ∷ (inside ++ node.Run r ∷ behind))))
-      ∙ get_there (front ++ a) (node.Run o.0) (inside ++ node.Run r ∷ behind) (start + j) (omega (arith, length-append front a, fa.size)) in
+    ap (λ (zs : List Node). slice_get (front ++ zs) (start + j)) flat ∙ ap (λ (zs : List Node). slice_get zs (start + j)) (sym (append_assoc front a (node.Run o.0 ∷ (inside ++ node.Run r ∷ behind))))
+    ∙ get_there (front ++ a) (node.Run o.0) (inside ++ node.Run r ∷ behind) (start + j) (omega (arith, length-append front a, fa.size)) in
     let made : pair_at start end ns ≡ pair_nodes (start + j) o.0 end r ns =
-      step_is front (a ++ node.Run o.0 ∷ inside) r behind ∙ ap (closed_at start (last_place (sought_by r) (a ++ node.Run o.0 ∷ inside)) end r ns) cl
-      ∙ ap (λ (x : Option ℕ). pair_last start x end r ns) (ap (last_place (sought_by r)) (sym split) ∙ l) ∙ ap (λ (x : Option Node). pair_found (start + j) (run_at x) end r ns) at in
+    step_is front (a ++ node.Run o.0 ∷ inside) r behind ∙ ap (closed_at start (last_place (sought_by r) (a ++ node.Run o.0 ∷ inside)) end r ns) cl
+    ∙ ap (λ (x : Option ℕ). pair_last start x end r ns) (ap (last_place (sought_by r)) (sym split) ∙ l) ∙ ap (λ (x : Option Node). pair_found (start + j) (run_at x) end r ns) at in
     let slots : waiting 0 (a ++ node.Run o.0 ∷ (inside ++ node.Run r ∷ behind)) ≡ Some 0 = ap (waiting 0) (sym flat ∙ ap (λ (zs : List Node). zs ++ node.Run r ∷ behind) (sym split)) ∙ s in
     subst (λ (zs : List Node). Turn t front zs r behind cur rest) (sym split) (pairing t front j o.0 a inside r behind cur rest cl fa.size w d slots h made)
 
@@ -425,7 +425,7 @@ walk (suc n) t front c s (x ∷ r) cur rest len a b none slots h = go (run_at (S
       let place : start + (length c + length s) + 1 ≡ start + (length c + length (s ++ x ∷ [])) = omega (arith, length-append s (x ∷ [])) in
       let deep : front ++ (c ++ (s ++ x ∷ r)) ≡ front ++ ((c ++ s) ++ x ∷ r) = ap (λ (zs : List Node). front ++ zs) (sym (append_assoc c s (x ∷ r))) in
       let same : pair_at start (start + (length c + length s)) (front ++ (c ++ (s ++ x ∷ r))) ≡ front ++ (c ++ (s ++ x ∷ r)) =
-        ap (pair_at start (start + (length c + length s))) deep ∙ no_run_step front (c ++ s) x r start (start + (length c + length s)) (omega (arith, length-append front (c ++ s), length-append c s)) e ∙ sym deep in
+      ap (pair_at start (start + (length c + length s))) deep ∙ no_run_step front (c ++ s) x r start (start + (length c + length s)) (omega (arith, length-append front (c ++ s), length-append c s)) e ∙ sym deep in
       record {
         nodes = w.nodes;
         made = ap (pair_from start (start + (length c + length s) + 1) n) same ∙ ap (λ (k : ℕ). pair_from start k n (front ++ (c ++ (s ++ x ∷ r)))) place ∙ ap (λ (zs : List Node). pair_from start (start + (length c + length (s ++ x ∷ []))) n (front ++ (c ++ zs))) (sym flat) ∙ w.made;
@@ -447,8 +447,8 @@ walk (suc n) t front c s (x ∷ r) cur rest len a b none slots h = go (run_at (S
       record {
         nodes = w.nodes;
         made =
-          ap (λ (k : ℕ). pair_from start (start + (length c + length s) + 1) n (pair_at start k (front ++ (c ++ (s ++ x ∷ r))))) place
-          ∙ ap (λ (zs : List Node). pair_from start (start + (length c + length s) + 1) n (pair_at start (start + length (c ++ s)) (front ++ zs))) flat
-          ∙ ap (pair_from start (start + (length c + length s) + 1) n) tn.made ∙ ap (λ (k : ℕ). pair_from start k n (front ++ (tn.done ++ tn.left))) next ∙ w.made;
+            ap (λ (k : ℕ). pair_from start (start + (length c + length s) + 1) n (pair_at start k (front ++ (c ++ (s ++ x ∷ r))))) place
+            ∙ ap (λ (zs : List Node). pair_from start (start + (length c + length s) + 1) n (pair_at start (start + length (c ++ s)) (front ++ zs))) flat
+            ∙ ap (pair_from start (start + (length c + length s) + 1) n) tn.made ∙ ap (λ (k : ℕ). pair_from start k n (front ++ (tn.done ++ tn.left))) next ∙ w.made;
         shown = w.shown ∙ sym (ap tokens (ap pairs pieces ∙ tn.same));
       }

@@ -11,3 +11,6 @@ mod targets;
 pub use inlines::Inlines;
 pub use node::{Node, Opening, Run, Target};
 pub use reading::read_inlines;
+
+#[cfg(test)]
+mod tests;

@@ -77,13 +77,7 @@ fn pair_found<'a>(nodes: &mut Vec<Node<'a>>, place: usize, end: usize, closer: R
 }
 
 // An opener and a closer.
-fn pair_nodes<'a>(
-    nodes: &mut Vec<Node<'a>>,
-    place: usize,
-    opener: Run,
-    end: usize,
-    closer: Run,
-)
+fn pair_nodes<'a>(nodes: &mut Vec<Node<'a>>, place: usize, opener: Run, end: usize, closer: Run)
     requires { place < length nodes.old.items }
     ensures value { nodes.new.items ≡ machine.pair_nodes place opener end closer nodes.old.items }
 {

@@ -18,11 +18,7 @@ use site_base::Memory;
 use std::alloc::Global;
 
 /// The inlines of a text, where these definitions of links are known.
-pub fn read_inlines<'a>(
-    alloc: Global,
-    text: &'a str,
-    links: &Links,
-) -> Result<Inlines<'a>, Memory>
+pub fn read_inlines<'a>(alloc: Global, text: &'a str, links: &Links) -> Result<Inlines<'a>, Memory>
     ensures { IfOk result (λ found. found ≡ inlines links.now text.now) }
 {
     let mut nodes = Vec::new(alloc);
@@ -86,11 +82,7 @@ fn push<'a>(nodes: &mut Vec<Node<'a>>, node: Node<'a>) -> Result<(), Memory>
     }
 }
 
-fn push_opening<'a>(
-    nodes: &mut Vec<Node<'a>>,
-    is_image: bool,
-    behind: usize,
-) -> Result<(), Memory>
+fn push_opening<'a>(nodes: &mut Vec<Node<'a>>, is_image: bool, behind: usize) -> Result<(), Memory>
     ensures { OnOk result (nodes.new.items ≡ nodes.old.items ++ opening_node is_image behind ∷ []) }
 {
     let opening = Opening {

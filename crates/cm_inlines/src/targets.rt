@@ -143,12 +143,7 @@ fn is_empty_label(text: &str) -> bool
 }
 
 // A label's target, for which n bytes stand.
-fn defined(
-    alloc: Global,
-    links: &Links,
-    n: usize,
-    name: &str,
-) -> Result<Option<Reached>, Memory>
+fn defined(alloc: Global, links: &Links, n: usize, name: &str) -> Result<Option<Reached>, Memory>
     ensures value { IfOk result (λ found. option_map reached_pair found ≡ grammar.defined links.now n name.now) }
     ensures len { IfOk result (λ found. IfSome found (λ reached. reached.len ≡ n)) }
 {
