@@ -1,5 +1,5 @@
 -- Containers closed one after another, the innermost first.
-use Rattle.std.proofs.Common.{List, [], ap, append_assoc, arith, drop, get_or, length, refl, suc, sym, take, zero, ℕ, ◌+◌, ◌++◌, ◌-◌, ◌<◌, ◌∙◌, ◌∷◌, ◌≡◌, ◌≤◌}
+use Rattle.std.proofs.Common.{List, [], ap, append_assoc, arith, drop, get_or, length, refl, suc, sym, take, zero, ℕ, ◌++◌, ◌-◌, ◌<◌, ◌∙◌, ◌∷◌, ◌≡◌, ◌≤◌}
 use Rattle.std.proofs.lemmas.List.{append-nil}
 use Rattle.cm_blocks.specs.declared.kinds.Container.{Container}
 use Rattle.cm_blocks.specs.declared.kinds.Token.{Token}

@@ -11,3 +11,4 @@ mod LineLaws
 mod WalkedText
 mod MadeLaws
 mod LinkLaws
+mod HtmlLaws

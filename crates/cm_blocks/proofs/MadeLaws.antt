@@ -1,7 +1,7 @@
 -- The nodes made of tokens are the document, laid out.
 use Rattle.std.proofs.Common.{Bool, List, None, Option, Some, [], ap, append_assoc, arith, cond, false, length, length-append, not, refl, reverse, subst, sym, true, ℕ, ◌&&◌, ◌+◌, ◌++◌, ◌-◌, ◌==◌, ◌||◌, ◌∙◌, ◌∷◌, ◌≡◌}
 use Rattle.std.proofs.lemmas.List.{append-nil, length-reverse, reverse-append}
-use Rattle.markdown_grammar.specs.Blocks.{Blocks, blocks_of}
+use Rattle.markdown_grammar.specs.Blocks.{Blocks}
 use Rattle.markdown_grammar.specs.Columns.{Line}
 use Rattle.markdown_grammar.specs.Containers as grammar
 use Rattle.markdown_grammar.specs.Extents.{blank_line, container, has_block, leaf, no_blocks}
@@ -144,7 +144,7 @@ quote_is n m body (container k inner rest) = refl
 
 -- ---- items
 
-next_is : (kind : ℕ) (rest : Blocks) → is_next kind (next_kind rest) ≡ goes_on kind rest
+pub next_is : (kind : ℕ) (rest : Blocks) → is_next kind (next_kind rest) ≡ goes_on kind rest
 next_is kind no_blocks = refl
 next_is kind (blank_line l rest) = next_is kind rest
 next_is kind (leaf s rest) = refl
@@ -281,7 +281,7 @@ item_is n m b c kind number content at body rest on e at' f =
 
 -- ---- the list that comes next is the document's first
 
-abbrev Shape : Option ℕ → ℕ → Bool → Document → Type 0
+abbrev pub Shape : Option ℕ → ℕ → Bool → Document → Type 0
 Shape None number loose d = Unit {0}
 Shape (Some kind) number loose d = (items : Document) × (rest : Document) × (d ≡ document.list kind number loose items rest)
 
@@ -297,7 +297,7 @@ item_shape kind number loose body true (document.list k n l items rest) = (docum
 item_shape kind number loose body true (document.item inner rest) = (document.item body document.nothing, document.item inner rest, refl)
 item_shape kind number loose body false d = (document.item body document.nothing, d, refl)
 
-shape_of : (bs : Blocks) → Shape (next_kind bs) (next_number bs) (next_loose bs) (document_of bs)
+pub shape_of : (bs : Blocks) → Shape (next_kind bs) (next_number bs) (next_loose bs) (document_of bs)
 shape_of no_blocks = tt
 shape_of (blank_line l rest) = shape_of rest
 shape_of (leaf s rest) = tt

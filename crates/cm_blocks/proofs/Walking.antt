@@ -1,10 +1,10 @@
 -- A walk that keeps tokens shows the open end.
-use Rattle.std.proofs.Common.{Bool, List, None, Option, Some, [], ap, append_assoc, arith, drop, false, length, nat_lt, not, option_map, refl, replicate, suc, sym, take, true, zero, ℕ, ◌+◌, ◌++◌, ◌-◌, ◌<◌, ◌==◌, ◌||◌, ◌∙◌, ◌∷◌, ◌≡◌}
+use Rattle.std.proofs.Common.{Bool, List, None, Option, Some, [], ap, append_assoc, arith, drop, false, length, nat_lt, not, option_map, refl, suc, sym, take, true, zero, ℕ, ◌++◌, ◌==◌, ◌||◌, ◌∙◌, ◌∷◌, ◌≡◌}
 use Rattle.std.proofs.lemmas.List.{append-nil}
 use Rattle.markdown_grammar.specs.Blocks.{Blocks, line_weight, opening, rules}
 use Rattle.markdown_grammar.specs.Columns.{Line}
 use Rattle.markdown_grammar.specs.Containers as grammar
-use Rattle.markdown_grammar.specs.Extents.{Entry, Opening, OpensLight, blank_line, container, ends_in_paragraph, entered, goes_in, goes_in_if_filled, goes_in_if_open, has_block, leaf, no_blocks, opens_container, opens_leaf, opens_nothing, stays_out, when}
+use Rattle.markdown_grammar.specs.Extents.{Entry, Opening, blank_line, container, ends_in_paragraph, entered, goes_in, goes_in_if_filled, goes_in_if_open, has_block, leaf, no_blocks, opens_container, opens_leaf, opens_nothing, stays_out, when}
 use Rattle.markdown_grammar.specs.Fronts.{is_empty}
 use Rattle.markdown_grammar.specs.Leaves as leaves
 use Rattle.markdown_grammar.specs.Matching.{Matched, one_more_kept}
@@ -17,8 +17,8 @@ use Rattle.cm_blocks.specs.declared.kinds.Container.{Container}
 use Rattle.cm_blocks.specs.declared.kinds.Leaf.{Leaf}
 use Rattle.cm_blocks.specs.declared.kinds.Token.{Token}
 use Rattle.cm_blocks.specs.declared.kinds.Token.TheVariants.{Blank, Closes, Holds, Opens}
-use Rattle.cm_blocks.specs.Flat.{Flat, begin, begin_by, begun, closed_to, closes, enters, finished, flat_start, gap_put, leaf_closed, leaf_more, leaf_on, leaf_put, leaf_tokens, line_when, opened, reached, step, step_on, stepped, steps}
-use Rattle.cm_blocks.specs.Leaves.{is_prose, leaf_of, more_of}
+use Rattle.cm_blocks.specs.Flat.{Flat, begin, begin_by, begun, closed_to, closes, enters, finished, flat_start, leaf_closed, leaf_more, leaf_on, leaf_tokens, line_when, opened, reached, step, step_on, stepped, steps}
+use Rattle.cm_blocks.specs.Leaves.{is_prose, leaf_of}
 use Rattle.cm_blocks.specs.OpenWalk.{end_filled, end_leaf, end_stack, end_tokens, flat_of}
 use Rattle.cm_blocks.specs.Tokens.{as_container, container_of, tokens}
 use Rattle.cm_blocks.proofs.LeafSteps.{more_is}

@@ -1,5 +1,5 @@
 -- A document as a flat list of nodes, in which quotes, lists and items have the number of nodes inside of them, which follow them.
-use Rattle.std.specs.Prelude.{List, [], length, ℕ, ◌++◌, ◌∷◌}
+use Rattle.std.specs.Prelude.{List, [], length, ◌++◌, ◌∷◌}
 use Rattle.cm_blocks.specs.Documents as document
 use Rattle.cm_blocks.specs.Documents.{Document}
 use Rattle.cm_blocks.specs.declared.node.Node.{Node}
