@@ -1,7 +1,7 @@
 -- Words in lines of HTML.
 use Rattle.std.proofs.Common.{Bool, List, None, Option, Some, [], ap, arith, cond, drop, false, get_or, length, nat_lt, refl, replicate, suc, sym, true, zero, ℕ, ◌++◌, ◌+◌, ◌<◌, ◌==◌, ◌||◌, ◌∙◌, ◌∷◌, ◌≡◌, ◌≤◌, codes}
 use Rattle.std.proofs.lemmas.List.{drop_more}
-use Rattle.markdown_grammar.specs.Bytes.{lower, lowered}
+use Rattle.markdown_grammar.specs.Bytes.{lowered}
 use Rattle.markdown_grammar.specs.Columns.{tab_width}
 use Rattle.markdown_grammar.specs.Fronts.{begins_with, has}
 use Rattle.markdown_grammar.specs.HtmlStarts.{ends_html}

@@ -13,7 +13,7 @@ use Rattle.markdown_grammar.specs.Starts.{Start, atx_start, blank_start, break_s
 use Rattle.cm_blocks.specs.Leaves.{code_on, fence_on, holds_text, html_on, leaf_of, more_of, prose_on}
 use Rattle.cm_blocks.specs.LineTexts.{ended, unended}
 use Rattle.cm_blocks.specs.declared.kinds.Leaf.{Leaf}
-use Rattle.cm_blocks.specs.declared.kinds.Leaf.TheVariants.{Fenced, Html, Indented, Paragraph, Underlined}
+use Rattle.cm_blocks.specs.declared.kinds.Leaf.TheVariants.{Fenced, Html, Indented, Paragraph}
 
 -- ended lines, one after another
 pub ended-append : (xs ys : List (List ℕ)) → ended_lines (xs ++ ys) ≡ ended_lines xs ++ ended_lines ys

@@ -1,12 +1,12 @@
 -- Leaves that take one more line.
-use Rattle.std.proofs.Common.{Bool, IsUtf8, List, IfSome, None, Option, Some, [], ap, arith, cond, drop, false, get_or, length, nat_le, nat_lt, not, option_map, refl, subst, suc, sym, take, true, zero, ℕ, ◌&&◌, ◌++◌, ◌+◌, ◌-◌, ◌<◌, ◌==◌, ◌∙◌, ◌∷◌, ◌≡◌, ◌≤◌}
+use Rattle.std.proofs.Common.{Bool, IsUtf8, List, IfSome, None, Option, Some, [], ap, arith, cond, drop, false, length, nat_le, nat_lt, option_map, refl, subst, suc, sym, take, true, zero, ℕ, ◌&&◌, ◌++◌, ◌+◌, ◌-◌, ◌<◌, ◌==◌, ◌∙◌, ◌∷◌, ◌≡◌, ◌≤◌}
 use Rattle.std.specs.Str.{IsCharBoundary}
 use Rattle.std.proofs.lemmas.Str.{IsCharBoundary-after_ascii}
 use Rattle.markdown_grammar.specs.Columns.{indent}
 use Rattle.markdown_grammar.specs.Fences.{closes_fence}
 use Rattle.markdown_grammar.specs.Fronts.{run_len}
 use Rattle.markdown_grammar.specs.Lines.{is_blank, trim_front}
-use Rattle.markdown_grammar.specs.Definitions.{Definition, after_definitions, definitions, definitions_step, front_definition, total_size}
+use Rattle.markdown_grammar.specs.Definitions.{Definition, after_definitions, definitions, front_definition, total_size}
 use Rattle.markdown_grammar.proofs.TextRecursions.{definitions_is}
 use Rattle.markdown_grammar.specs.Breaks.{break_at}
 use Rattle.markdown_grammar.specs.Fences.{fence_at}
@@ -20,13 +20,10 @@ use Rattle.markdown_grammar.specs.Starts.{Start, ◌elsewise◌}
 use Rattle.cm_blocks.specs.LineTexts.{ended}
 use Rattle.cm_blocks.specs.Leaves.{prose_on}
 use Rattle.cm_blocks.specs.Taking.{is_underline, next_of}
-use Rattle.cm_blocks.specs.declared.kinds.Leaf.{Leaf}
 use Rattle.cm_blocks.specs.declared.kinds.Leaf.TheVariants as leaf
 use Rattle.cm_blocks.specs.declared.leaf_more.Next.{Next}
 use Rattle.cm_blocks.specs.declared.leaf_more.Next.TheVariants.{Other, Text, Underline}
-use Rattle.cm_links.specs.Answers.{link_def}
 use Rattle.cm_links.specs.Cuts.{IsFront}
-use Rattle.cm_links.specs.declared.definitions.LinkDef.{LinkDef}
 use Rattle.cm_containers.specs.Spots.{BehindWhite, IsSpot, text_at}
 use Rattle.cm_containers.specs.declared.spots.Spot.{Spot}
 

@@ -6,7 +6,9 @@ mod LeafTaking
 mod Marks
 mod OpeningLaws
 mod BeginLaws
+mod ClosingLaws
 mod LineLaws
 mod WalkedText
 mod MadeLaws
 mod LinkLaws
+mod HtmlLaws

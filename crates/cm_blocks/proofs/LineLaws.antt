@@ -1,11 +1,10 @@
 -- The lines of a text, one after another.
-use Rattle.std.proofs.Common.{Bool, IfOk, IsUtf8, List, Result, [], ap, append_assoc, arith, cond, drop, false, get_or, length, map, not, refl, subst, suc, sym, take, true, zero, ℕ, ◌&&◌, ◌+◌, ◌++◌, ◌-◌, ◌<◌, ◌==◌, ◌||◌, ◌∙◌, ◌∷◌, ◌≡◌, ◌≤◌}
+use Rattle.std.proofs.Common.{Bool, IsUtf8, List, [], ap, append_assoc, arith, cond, drop, false, get_or, length, map, not, refl, subst, suc, sym, take, true, zero, ℕ, ◌&&◌, ◌+◌, ◌++◌, ◌-◌, ◌<◌, ◌==◌, ◌||◌, ◌∙◌, ◌∷◌, ◌≡◌}
 use Rattle.std.specs.List.{onto_first}
 use Rattle.std.specs.Str.{IsCharBoundary}
-use Rattle.std.proofs.lemmas.Str.{IsCharBoundary-after_ascii, IsCharBoundary-from_rest}
-use Rattle.std.proofs.lemmas.List.{append-nil, drop_more}
+use Rattle.std.proofs.lemmas.Str.{IsCharBoundary-after_ascii}
 use Rattle.site_base.specs.Lines.{begins_lf, ends_line, lines}
-use Rattle.markdown_grammar.specs.Columns.{Line, own_line, whole_lines}
+use Rattle.markdown_grammar.specs.Columns.{own_line, whole_lines}
 use Rattle.markdown_grammar.specs.Fronts.{has_one, run_len}
 use Rattle.markdown_grammar.specs.Lines.{is_line_end, nul_replaced, text_lines, without_end}
 use Rattle.cm_blocks.specs.LineCuts.{IsCut, Replaces, end_size, is_inside, is_nul, is_plain}

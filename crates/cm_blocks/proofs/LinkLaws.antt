@@ -1,5 +1,5 @@
 -- The definitions of a text, one after another.
-use Rattle.std.proofs.Common.{IfSome, List, None, Option, Some, [], ap, append_assoc, arith, drop, length, option_map, refl, subst, suc, sym, zero, ℕ, ◌+◌, ◌++◌, ◌-◌, ◌<◌, ◌∙◌, ◌∷◌, ◌≡◌, ◌≤◌}
+use Rattle.std.proofs.Common.{IfSome, List, None, Option, Some, [], ap, append_assoc, arith, drop, length, option_map, refl, subst, suc, sym, zero, ℕ, ◌++◌, ◌-◌, ◌<◌, ◌∙◌, ◌∷◌, ◌≡◌}
 use Rattle.std.proofs.lemmas.List.{append-nil}
 use Rattle.markdown_grammar.specs.Definitions.{Definition, definitions, front_definition}
 use Rattle.markdown_grammar.proofs.TextRecursions.{definitions_is}

@@ -1,5 +1,5 @@
 -- The marks of quotes and items take one column a byte.
-use Rattle.std.proofs.Common.{Bool, List, [], ap, arith, cond, drop, false, get_or, length, nat_lt, refl, subst, suc, sym, take, true, zero, ℕ, ◌&&◌, ◌+◌, ◌-◌, ◌<◌, ◌==◌, ◌||◌, ◌∙◌, ◌∷◌, ◌≡◌, ◌≤◌}
+use Rattle.std.proofs.Common.{Bool, List, [], ap, arith, cond, drop, false, get_or, nat_lt, refl, subst, suc, sym, take, true, ℕ, ◌&&◌, ◌+◌, ◌-◌, ◌<◌, ◌==◌, ◌||◌, ◌∙◌, ◌∷◌, ◌≡◌}
 use Rattle.markdown_grammar.specs.Breaks.{break_at}
 use Rattle.markdown_grammar.specs.Bytes.{is_digit, is_space}
 use Rattle.markdown_grammar.specs.Columns.{indent, tab_width}

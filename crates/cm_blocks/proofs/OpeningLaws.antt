@@ -1,5 +1,5 @@
 -- Quotes and items that a line opens.
-use Rattle.std.proofs.Common.{Bool, IsUtf8, List, [], ap, append_assoc, arith, cond, drop, false, get_or, length, min, nat_lt, refl, subst, suc, sym, take, true, zero, ℕ, ◌*◌, ◌+◌, ◌++◌, ◌-◌, ◌<◌, ◌==◌, ◌||◌, ◌∙◌, ◌∷◌, ◌≡◌, ◌≤◌}
+use Rattle.std.proofs.Common.{IsUtf8, List, [], ap, arith, drop, get_or, length, refl, subst, suc, sym, take, zero, ℕ, ◌+◌, ◌-◌, ◌<◌, ◌∙◌, ◌∷◌, ◌≡◌, ◌≤◌}
 use Rattle.std.specs.Str.{IsCharBoundary}
 use Rattle.std.proofs.lemmas.Str.{IsCharBoundary-after_ascii}
 use Rattle.markdown_grammar.specs.Blocks.{item_opening, opening, opening_at, opening_of}
@@ -10,7 +10,7 @@ use Rattle.markdown_grammar.specs.Leaves as leaves
 use Rattle.markdown_grammar.specs.Lines.{trim_front}
 use Rattle.markdown_grammar.specs.LineStarts.{start_of}
 use Rattle.markdown_grammar.specs.Places.{not_in_paragraph}
-use Rattle.markdown_grammar.specs.Starts.{Start, item_start}
+use Rattle.markdown_grammar.specs.Starts.{item_start}
 use Rattle.cm_containers.specs.Rests.{behind_byte, column_behind}
 use Rattle.cm_containers.specs.Spots.{BehindWhite, IsSpot, rest_at, text_at}
 use Rattle.cm_containers.specs.declared.spots.Spot.{Spot}

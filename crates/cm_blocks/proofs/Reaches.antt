@@ -1,5 +1,5 @@
 -- How far a line goes into the open containers.
-use Rattle.std.proofs.Common.{Bool, List, None, Option, Some, [], ap, arith, cond, drop, false, get_or, length, nat_le, nat_lt, not, option_map, refl, suc, sym, true, zero, ℕ, ◌&&◌, ◌+◌, ◌-◌, ◌<◌, ◌==◌, ◌||◌, ◌≤◌, ◌∙◌, ◌∷◌, ◌≡◌}
+use Rattle.std.proofs.Common.{Bool, List, None, Option, Some, [], ap, arith, cond, drop, false, get_or, length, nat_le, nat_lt, not, refl, suc, sym, true, zero, ℕ, ◌&&◌, ◌+◌, ◌-◌, ◌<◌, ◌==◌, ◌||◌, ◌≤◌, ◌∙◌, ◌∷◌, ◌≡◌}
 use Rattle.std.proofs.lemmas.List.{drop_more}
 use Rattle.markdown_grammar.specs.Columns.{Line, indent, lazy_line, own_line, shifted}
 use Rattle.markdown_grammar.specs.Containers as grammar
@@ -10,7 +10,7 @@ use Rattle.markdown_grammar.specs.Lines.{is_blank, trim_front}
 use Rattle.markdown_grammar.specs.Matching.{Matched, one_more_kept}
 use Rattle.markdown_grammar.specs.Places.{beside_paragraph}
 use Rattle.markdown_grammar.specs.Starts.{Start, atx_start, blank_start, break_start, fence_start, html_start, indented_start, item_start, quote_start, text_start, underline_start}
-use Rattle.cm_containers.specs.Spots.{IsSpot, kept_line, rest_at, text_at}
+use Rattle.cm_containers.specs.Spots.{kept_line, rest_at, text_at}
 use Rattle.cm_containers.specs.declared.spots.Spot.{Spot}
 use Rattle.cm_containers.proofs.Walking.{more_kept}
 use Rattle.cm_blocks.specs.declared.kinds.Container.{Container}

@@ -4,14 +4,12 @@ use Rattle.markdown_grammar.specs.Blocks.{blocks, blocks_of, rules}
 use Rattle.markdown_grammar.specs.Columns.{Line, own_line, whole_lines}
 use Rattle.markdown_grammar.specs.Extents.{no_blocks}
 use Rattle.markdown_grammar.specs.Lines.{nul_replaced, text_lines}
-use Rattle.markdown_grammar.specs.OpenEnds.{line_steps, none_open, whole}
+use Rattle.markdown_grammar.specs.OpenEnds.{line_steps, none_open}
 use Rattle.markdown_grammar.proofs.LightRules.{machine}
-use Rattle.cm_blocks.specs.declared.kinds.Token.{Token}
 use Rattle.cm_blocks.specs.declared.lines.Cut.{Cut}
 use Rattle.cm_blocks.specs.Flat.{Flat, finished, flat_start, step, steps}
 use Rattle.cm_blocks.specs.LineCuts.{IsCut}
 use Rattle.cm_blocks.specs.Tokens.{tokens}
-use Rattle.cm_blocks.specs.OpenWalk.{flat_of}
 use Rattle.cm_blocks.proofs.LineLaws.{no_lines, whole_next}
 use Rattle.cm_blocks.proofs.Walking.{finished_is, steps_is}
 

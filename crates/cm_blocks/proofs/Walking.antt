@@ -1,10 +1,10 @@
 -- A walk that keeps tokens shows the open end.
-use Rattle.std.proofs.Common.{Bool, List, None, Option, Some, [], ap, append_assoc, arith, false, length, nat_lt, not, option_map, refl, replicate, suc, sym, take, true, zero, ℕ, ◌+◌, ◌++◌, ◌-◌, ◌<◌, ◌==◌, ◌||◌, ◌∙◌, ◌∷◌, ◌≡◌}
+use Rattle.std.proofs.Common.{Bool, List, None, Option, Some, [], ap, append_assoc, arith, drop, false, length, nat_lt, not, option_map, refl, suc, sym, take, true, zero, ℕ, ◌++◌, ◌==◌, ◌||◌, ◌∙◌, ◌∷◌, ◌≡◌}
 use Rattle.std.proofs.lemmas.List.{append-nil}
 use Rattle.markdown_grammar.specs.Blocks.{Blocks, line_weight, opening, rules}
 use Rattle.markdown_grammar.specs.Columns.{Line}
 use Rattle.markdown_grammar.specs.Containers as grammar
-use Rattle.markdown_grammar.specs.Extents.{Entry, Opening, OpensLight, blank_line, container, ends_in_paragraph, entered, goes_in, goes_in_if_filled, goes_in_if_open, has_block, leaf, no_blocks, opens_container, opens_leaf, opens_nothing, stays_out, when}
+use Rattle.markdown_grammar.specs.Extents.{Entry, Opening, blank_line, container, ends_in_paragraph, entered, goes_in, goes_in_if_filled, goes_in_if_open, has_block, leaf, no_blocks, opens_container, opens_leaf, opens_nothing, stays_out, when}
 use Rattle.markdown_grammar.specs.Fronts.{is_empty}
 use Rattle.markdown_grammar.specs.Leaves as leaves
 use Rattle.markdown_grammar.specs.Matching.{Matched, one_more_kept}
@@ -17,8 +17,8 @@ use Rattle.cm_blocks.specs.declared.kinds.Container.{Container}
 use Rattle.cm_blocks.specs.declared.kinds.Leaf.{Leaf}
 use Rattle.cm_blocks.specs.declared.kinds.Token.{Token}
 use Rattle.cm_blocks.specs.declared.kinds.Token.TheVariants.{Blank, Closes, Holds, Opens}
-use Rattle.cm_blocks.specs.Flat.{Flat, begin, begin_by, begun, closed_to, enters, finished, flat_start, gap_put, leaf_closed, leaf_more, leaf_on, leaf_put, leaf_tokens, line_when, opened, reached, step, step_on, stepped, steps}
-use Rattle.cm_blocks.specs.Leaves.{is_prose, leaf_of, more_of}
+use Rattle.cm_blocks.specs.Flat.{Flat, begin, begin_by, begun, closed_to, closes, enters, finished, flat_start, leaf_closed, leaf_more, leaf_on, leaf_tokens, line_when, opened, reached, step, step_on, stepped, steps}
+use Rattle.cm_blocks.specs.Leaves.{is_prose, leaf_of}
 use Rattle.cm_blocks.specs.OpenWalk.{end_filled, end_leaf, end_stack, end_tokens, flat_of}
 use Rattle.cm_blocks.specs.Tokens.{as_container, container_of, tokens}
 use Rattle.cm_blocks.proofs.LeafSteps.{more_is}
@@ -53,7 +53,7 @@ tokens-joined no_blocks ys = refl
 tokens-joined (blank_line l xs) ys = ap (λ (t : List Token). Blank ∷ t) (tokens-joined xs ys)
 tokens-joined (leaf s xs) ys = ap (λ (t : List Token). Holds (leaf_of s) ∷ t) (tokens-joined xs ys)
 tokens-joined (container k body xs) ys =
-    ap (λ (t : List Token). Opens (container_of k) ∷ (tokens body ++ Closes ∷ t)) (tokens-joined xs ys) ∙ ap (λ (t : List Token). Opens (container_of k) ∷ t) (sym (append_assoc (tokens body) (Closes ∷ tokens xs) (tokens ys)))
+    ap (λ (t : List Token). Opens (container_of k) ∷ (tokens body ++ Closes (container_of k) ∷ t)) (tokens-joined xs ys) ∙ ap (λ (t : List Token). Opens (container_of k) ∷ t) (sym (append_assoc (tokens body) (Closes (container_of k) ∷ tokens xs) (tokens ys)))
 
 block-joined : (xs ys : Blocks) → has_block (followed_by rules xs ys) ≡ has_block xs || has_block ys
 block-joined no_blocks ys = refl
@@ -84,29 +84,23 @@ base_begin (suc n) before l = go (opening l) (λ m. base_begin n no_blocks m) wh
 
 -- ---- all that is open, closed
 
-replicate-last : (n : ℕ) → replicate (suc n) Closes ≡ replicate n Closes ++ Closes ∷ []
-replicate-last zero = refl
-replicate-last (suc n) = ap (λ (t : List Token). Closes ∷ t) (replicate-last n)
-
 -- the tokens behind an open end, where all is closed
 abbrev closing : OpenEnd rules → List Token
-closing end = leaf_tokens (end_leaf end) ++ replicate (length (end_stack end)) Closes
+closing end = leaf_tokens (end_leaf end) ++ closes (end_stack end)
 
 whole_tokens : (end : OpenEnd rules) → end_tokens end ++ closing end ≡ tokens (whole rules end)
 whole_tokens (none_open before) = append-nil (tokens before)
 whole_tokens (leaf_open before s) = sym (tokens-joined before (leaf s no_blocks))
 whole_tokens (container_open before k inner) =
-    let last : closing (container_open before k inner) ≡ closing inner ++ Closes ∷ [] =
-    ap (λ (t : List Token). leaf_tokens (end_leaf inner) ++ t) (replicate-last (length (end_stack inner))) ∙ sym (append_assoc (leaf_tokens (end_leaf inner)) (replicate (length (end_stack inner)) Closes) (Closes ∷ [])) in
+    let last : closing (container_open before k inner) ≡ closing inner ++ Closes (container_of k) ∷ [] = sym (append_assoc (leaf_tokens (end_leaf inner)) (closes (end_stack inner)) (Closes (container_of k) ∷ [])) in
     append_assoc (tokens before) (Opens (container_of k) ∷ end_tokens inner) (closing (container_open before k inner))
     ∙ ap (λ (t : List Token). tokens before ++ Opens (container_of k) ∷ (end_tokens inner ++ t)) last
-    ∙ ap (λ (t : List Token). tokens before ++ Opens (container_of k) ∷ t) (sym (append_assoc (end_tokens inner) (closing inner) (Closes ∷ [])))
-    ∙ ap (λ (t : List Token). tokens before ++ Opens (container_of k) ∷ (t ++ Closes ∷ [])) (whole_tokens inner)
-    ∙ sym (tokens-joined before (container k (whole rules inner) no_blocks))
+    ∙ ap (λ (t : List Token). tokens before ++ Opens (container_of k) ∷ t) (sym (append_assoc (end_tokens inner) (closing inner) (Closes (container_of k) ∷ [])))
+    ∙ ap (λ (t : List Token). tokens before ++ Opens (container_of k) ∷ (t ++ Closes (container_of k) ∷ [])) (whole_tokens inner) ∙ sym (tokens-joined before (container k (whole rules inner) no_blocks))
 
 -- a walk that is over has the tokens of all blocks
 pub finished_is : (end : OpenEnd rules) → finished (flat_of end) ≡ tokens (whole rules end)
-finished_is end = ap (λ (n : ℕ). end_tokens end ++ (leaf_tokens (end_leaf end) ++ replicate n Closes)) (omega arith) ∙ whole_tokens end
+finished_is end = whole_tokens end
 
 -- ---- whether a line goes in
 
@@ -150,11 +144,10 @@ wrap_leaf P k f l None =
 
 wrap_closed : (P : List Token) (k : Container) (f : Flat) (n : ℕ) → closed_to (suc n) (wrap P k f) ≡ wrap P k (closed_to n f)
 wrap_closed P k f n =
-    let count : suc (length f.stack) - suc n ≡ length f.stack - n = omega arith in
     let test : nat_lt (suc n) (suc (length f.stack)) ≡ nat_lt n (length f.stack) = grind arith in
-    ap (λ (m : ℕ). (let g : Flat = record { tokens = (P ++ Opens k ∷ f.tokens) ++ (leaf_tokens f.leaf ++ replicate m Closes); stack = k ∷ take n f.stack; leaf = None; filled = f.filled || nat_lt (suc n) (suc (length f.stack)) } in g)) count
-    ∙ ap (λ (b : Bool). (let g : Flat = record { tokens = (P ++ Opens k ∷ f.tokens) ++ (leaf_tokens f.leaf ++ replicate (length f.stack - n) Closes); stack = k ∷ take n f.stack; leaf = None; filled = f.filled || b } in g)) test
-    ∙ retold ((P ++ Opens k ∷ f.tokens) ++ (leaf_tokens f.leaf ++ replicate (length f.stack - n) Closes)) (P ++ Opens k ∷ (f.tokens ++ (leaf_tokens f.leaf ++ replicate (length f.stack - n) Closes))) (k ∷ take n f.stack) None (f.filled || nat_lt n (length f.stack)) (append_assoc P (Opens k ∷ f.tokens) (leaf_tokens f.leaf ++ replicate (length f.stack - n) Closes))
+    ap (λ (b : Bool). (let g : Flat = record { tokens = (P ++ Opens k ∷ f.tokens) ++ (leaf_tokens f.leaf ++ closes (drop n f.stack)); stack = k ∷ take n f.stack; leaf = None; filled = f.filled || b } in g)) test
+    ∙ retold ((P ++ Opens k ∷ f.tokens) ++ (leaf_tokens f.leaf ++ closes (drop n f.stack))) (P ++ Opens k ∷ (f.tokens ++ (leaf_tokens f.leaf ++ closes (drop n f.stack)))) (k ∷ take n f.stack) None (f.filled || nat_lt n (length f.stack))
+    (append_assoc P (Opens k ∷ f.tokens) (leaf_tokens f.leaf ++ closes (drop n f.stack)))
 
 wrap_step : (P : List Token) (k : Container) (f : Flat) (m : Matched) → step_on (wrap P k f) (one_more_kept m) ≡ wrap P k (step_on f m)
 wrap_step P k f m =

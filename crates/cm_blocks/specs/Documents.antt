@@ -1,5 +1,5 @@
 -- What a text's blocks are, as a printer needs them: CommonMark 0.31.2, sections 4 and 5. Blank lines are gone, and so is what only the next line asks for; paragraphs that are definitions alone are none.
-use Rattle.std.specs.Prelude.{Bool, List, [], if◌then◌else◌, ℕ}
+use Rattle.std.specs.Prelude.{Bool, List, [], if◌then◌else◌, true, ℕ}
 use Rattle.markdown_grammar.specs.Blocks.{Blocks}
 use Rattle.markdown_grammar.specs.Containers.{block_quote, list_item}
 use Rattle.markdown_grammar.specs.Extents.{blank_line, container, leaf, no_blocks}
@@ -9,7 +9,7 @@ use Rattle.markdown_grammar.specs.Leaves as leaves
 use Rattle.markdown_grammar.specs.Lines.{ended_lines}
 use Rattle.markdown_grammar.specs.Lists.{goes_on, is_loose}
 
--- blocks, each with those that follow it; a list is its items: each says whether the list is loose from it on, and whether another item of the list follows
+-- blocks, each with those that follow it; a list has items alone in it: the last byte of their marks (which is the list's kind), the first number, and whether it is loose
 pub data Document : Type 0 where
   nothing : Document
   paragraph : (text : List ℕ) → (rest : Document) → Document
@@ -18,7 +18,13 @@ pub data Document : Type 0 where
   code : (info text : List ℕ) → (rest : Document) → Document
   html : (text : List ℕ) → (rest : Document) → Document
   quote : (body rest : Document) → Document
-  item : (kind number : ℕ) → (loose more : Bool) → (body rest : Document) → Document
+  list : (kind number : ℕ) → (loose : Bool) → (items rest : Document) → Document
+  item : (body rest : Document) → Document
+
+-- an item before other blocks: at the front of the list that comes next, where it goes on with it, else in a list of its own
+abbrev pub item_before : (kind number : ℕ) → (loose : Bool) → (body : Document) → (more : Bool) → Document → Document
+item_before kind number loose body true (list k n l items rest) = list kind number loose (item body items) rest
+item_before kind number loose body more d = list kind number loose (item body nothing) d
 
 -- a leaf before other blocks; a paragraph's text stands behind its definitions, and where none is left there is no paragraph
 abbrev pub leaf_before : leaves.Leaf → Document → Document
@@ -37,4 +43,4 @@ document_of (blank_line l rest) = document_of rest
 document_of (leaf s rest) = leaf_before s (document_of rest)
 document_of (container block_quote body rest) = quote (document_of body) (document_of rest)
 document_of (container (list_item kind number content) body rest) =
-    item kind number (is_loose kind (container (list_item kind number content) body rest)) (goes_on kind rest) (document_of body) (document_of rest)
+    item_before kind number (is_loose kind (container (list_item kind number content) body rest)) (document_of body) (goes_on kind rest) (document_of rest)

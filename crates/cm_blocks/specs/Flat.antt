@@ -1,5 +1,5 @@
 -- A walk over the lines that keeps the tokens so far, the containers that are open, and the leaf that is open.
-use Rattle.std.specs.Prelude.{Bool, List, None, Option, Some, [], false, length, nat_lt, not, replicate, suc, take, true, zero, ℕ, ◌++◌, ◌-◌, ◌==◌, ◌||◌, ◌∷◌}
+use Rattle.std.specs.Prelude.{Bool, List, None, Option, Some, [], drop, false, length, nat_lt, not, suc, take, true, zero, ℕ, ◌++◌, ◌==◌, ◌||◌, ◌∷◌}
 use Rattle.markdown_grammar.specs.Blocks.{line_weight, opening}
 use Rattle.markdown_grammar.specs.Columns.{Line}
 use Rattle.markdown_grammar.specs.Containers as grammar
@@ -54,10 +54,15 @@ leaf_tokens (Some s) = Holds s ∷ []
 abbrev pub leaf_closed : Flat → Flat
 leaf_closed f = record { tokens = f.tokens ++ leaf_tokens f.leaf; stack = f.stack; leaf = None; filled = f.filled }
 
+-- the ends of containers, the innermost first
+abbrev pub closes : List Container → List Token
+closes [] = []
+closes (k ∷ ks) = closes ks ++ Closes k ∷ []
+
 -- n containers stay open
 abbrev pub closed_to : ℕ → Flat → Flat
 closed_to n f = record {
-  tokens = f.tokens ++ (leaf_tokens f.leaf ++ replicate (length f.stack - n) Closes);
+  tokens = f.tokens ++ (leaf_tokens f.leaf ++ closes (drop n f.stack));
   stack = take n f.stack;
   leaf = None;
   filled = f.filled || nat_lt n (length f.stack);

@@ -1,5 +1,5 @@
--- A document as a flat list of nodes, in which a quote or an item has the number of nodes inside it, which follow it.
-use Rattle.std.specs.Prelude.{List, [], length, ℕ, ◌++◌, ◌∷◌}
+-- A document as a flat list of nodes, in which quotes, lists and items have the number of nodes inside of them, which follow them.
+use Rattle.std.specs.Prelude.{List, [], length, ◌++◌, ◌∷◌}
 use Rattle.cm_blocks.specs.Documents as document
 use Rattle.cm_blocks.specs.Documents.{Document}
 use Rattle.cm_blocks.specs.declared.node.Node.{Node}
@@ -13,4 +13,5 @@ laid_out (document.thematic_break rest) = node.Break ∷ laid_out rest
 laid_out (document.code info text rest) = node.Code info text ∷ laid_out rest
 laid_out (document.html text rest) = node.Html text ∷ laid_out rest
 laid_out (document.quote body rest) = node.Quote (length (laid_out body)) ∷ (laid_out body ++ laid_out rest)
-laid_out (document.item kind number loose more body rest) = node.Item kind number loose more (length (laid_out body)) ∷ (laid_out body ++ laid_out rest)
+laid_out (document.list kind number loose items rest) = node.List kind number loose (length (laid_out items)) ∷ (laid_out items ++ laid_out rest)
+laid_out (document.item body rest) = node.Item (length (laid_out body)) ∷ (laid_out body ++ laid_out rest)

@@ -14,3 +14,4 @@ pub mod Layouts
 pub mod Making
 pub mod MadeViews
 pub mod Reads
+pub mod DocumentHtml

@@ -1,5 +1,5 @@
 -- Nodes made of tokens from the last to the first, with what is known of the blocks that follow at each open level.
-use Rattle.std.specs.Prelude.{Bool, List, None, Option, Some, [], false, if◌then◌else◌, length, not, true, ℕ, ◌&&◌, ◌++◌, ◌-◌, ◌==◌, ◌||◌, ◌∷◌}
+use Rattle.std.specs.Prelude.{Bool, List, None, Option, Some, [], false, if◌then◌else◌, length, not, reverse, true, ℕ, ◌&&◌, ◌++◌, ◌-◌, ◌==◌, ◌||◌, ◌∷◌}
 use Rattle.markdown_grammar.specs.Definitions.{Definition, after_definitions, definitions}
 use Rattle.markdown_grammar.specs.Fronts.{is_empty}
 use Rattle.markdown_grammar.specs.Lines.{trim}
@@ -51,7 +51,19 @@ links_in (t ∷ ts) = token_links t ++ links_in ts
 
 -- nothing follows; `start` nodes were made before
 abbrev pub fresh : ℕ → Level
-fresh start = record { start = start; is_empty = true; is_blank = false; ends_blank = false; starts_blank = false; has_block = false; is_apart = false; next = None; is_loose = false }
+fresh start = record {
+  start = start;
+  is_empty = true;
+  is_blank = false;
+  ends_blank = false;
+  starts_blank = false;
+  has_block = false;
+  is_apart = false;
+  next = None;
+  number = 0;
+  is_loose = false;
+  list_start = 0;
+}
 
 abbrev pub blank_level : Level → Level
 blank_level l = record {
@@ -63,7 +75,9 @@ blank_level l = record {
   has_block = l.has_block;
   is_apart = l.is_apart;
   next = l.next;
+  number = l.number;
   is_loose = l.is_loose;
+  list_start = l.list_start;
 }
 
 -- a leaf, or a quote
@@ -77,7 +91,9 @@ leaf_level blank l = record {
   has_block = true;
   is_apart = ((blank || l.starts_blank) && l.has_block) || l.is_apart;
   next = None;
+  number = 0;
   is_loose = false;
+  list_start = 0;
 }
 
 -- an item of a kind comes next
@@ -93,8 +109,8 @@ is_open_blank body = not body.is_blank && body.ends_blank
 abbrev pub loose_from : ℕ → Level → Level → Bool
 loose_from kind body l = (body.is_apart || (is_next kind l.next && (is_open_blank body || l.starts_blank))) || (is_next kind l.next && l.is_loose)
 
-abbrev pub item_level : ℕ → Level → Level → Level
-item_level kind body l = record {
+abbrev pub item_level : (kind number : ℕ) → Level → Level → Level
+item_level kind number body l = record {
   start = l.start;
   is_empty = false;
   is_blank = false;
@@ -103,16 +119,46 @@ item_level kind body l = record {
   has_block = true;
   is_apart = (not (is_next kind l.next) && ((is_open_blank body || l.starts_blank) && l.has_block)) || l.is_apart;
   next = Some kind;
+  number = number;
   is_loose = loose_from kind body l;
+  list_start = if is_next kind l.next then l.list_start else body.start;
 }
 
 abbrev pub container_level : Container → Level → Level → Level
 container_level Quote body l = leaf_level false l
-container_level (Item content mark number) body l = item_level mark body l
+container_level (Item content mark number) body l = item_level mark number body l
 
-abbrev pub container_node : Container → ℕ → Level → Level → Node
-container_node Quote len body l = node.Quote len
-container_node (Item content mark number) len body l = node.Item mark number (loose_from mark body l) (is_next mark l.next) len
+abbrev pub container_node : Container → ℕ → Node
+container_node Quote len = node.Quote len
+container_node (Item content mark number) len = node.Item len
+
+-- the list that comes next, where one does, behind its nodes
+abbrev pub list_nodes : Level → ℕ → List Node
+list_nodes l count = elim l.next [ None ↦ [] | Some kind ↦ node.List kind l.number l.is_loose (count - l.list_start) ∷ [] ]
+
+abbrev pub listed : Level → List Node → List Node
+listed l ns = ns ++ list_nodes l (length ns)
+
+-- the same where the list is whole
+abbrev pub unlisted : Level → Level
+unlisted l = record {
+  start = l.start;
+  is_empty = l.is_empty;
+  is_blank = l.is_blank;
+  ends_blank = l.ends_blank;
+  starts_blank = l.starts_blank;
+  has_block = l.has_block;
+  is_apart = l.is_apart;
+  next = None;
+  number = l.number;
+  is_loose = false;
+  list_start = l.list_start;
+}
+
+-- a container is an item of the list that comes next
+abbrev pub goes_with : Container → Level → Bool
+goes_with Quote l = false
+goes_with (Item content mark number) l = is_next mark l.next
 
 -- ---- the nodes so far, the last first, the levels that are open, and the innermost
 
@@ -121,15 +167,25 @@ pub record Made : Type 0 where
   pub outer : List Level
   pub level : Level
 
+-- at the start of a container
 abbrev pub box_made : Container → Made → List Level → Made
 box_made k m [] = m
-box_made k m (l ∷ ls) = record { nodes = m.nodes ++ container_node k (length m.nodes - m.level.start) m.level l ∷ []; outer = ls; level = container_level k m.level l }
+box_made k m (l ∷ ls) = record {
+  nodes = listed m.level m.nodes ++ container_node k (length (listed m.level m.nodes) - m.level.start) ∷ [];
+  outer = ls;
+  level = container_level k m.level l;
+}
+
+-- at the end of a container, by whether it is an item of the list that comes next
+abbrev pub box_ended : Made → Bool → Made
+box_ended m true = record { nodes = m.nodes; outer = m.level ∷ m.outer; level = fresh (length m.nodes) }
+box_ended m false = record { nodes = listed m.level m.nodes; outer = unlisted m.level ∷ m.outer; level = fresh (length (listed m.level m.nodes)) }
 
 -- one token more in front
 abbrev pub token_made : Token → Made → Made
 token_made Blank m = record { nodes = m.nodes; outer = m.outer; level = blank_level m.level }
-token_made (Holds s) m = record { nodes = m.nodes ++ nodes_in s; outer = m.outer; level = leaf_level (reads_blank s) m.level }
-token_made Closes m = record { nodes = m.nodes; outer = m.level ∷ m.outer; level = fresh (length m.nodes) }
+token_made (Holds s) m = record { nodes = listed m.level m.nodes ++ nodes_in s; outer = m.outer; level = leaf_level (reads_blank s) m.level }
+token_made (Closes k) m = box_ended m (goes_with k m.level)
 token_made (Opens k) m = box_made k m m.outer
 
 -- tokens in front, the last first
@@ -139,3 +195,7 @@ all_made (t ∷ ts) m = token_made t (all_made ts m)
 
 abbrev pub made_start : Made
 made_start = record { nodes = []; outer = []; level = fresh 0 }
+
+-- all nodes, in order
+abbrev pub made_nodes : Made → List Node
+made_nodes m = reverse (listed m.level m.nodes)

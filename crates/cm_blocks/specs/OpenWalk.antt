@@ -1,6 +1,6 @@
 -- An open end as a walk shows it.
 use Rattle.std.specs.Prelude.{Bool, List, None, Option, Some, [], true, ◌++◌, ◌∷◌}
-use Rattle.markdown_grammar.specs.Blocks.{Blocks, rules}
+use Rattle.markdown_grammar.specs.Blocks.{rules}
 use Rattle.markdown_grammar.specs.Extents.{has_block}
 use Rattle.markdown_grammar.specs.OpenEnds.{OpenEnd, container_open, leaf_open, none_open}
 use Rattle.cm_blocks.specs.declared.kinds.Container.{Container}

@@ -1,7 +1,7 @@
 -- What a line starts where no leaf takes it, as the walk finds it.
-use Rattle.std.specs.Prelude.{List, None, Option, Some, if◌then◌else◌, length, nat_lt, take, ℕ, ◌+◌, ◌-◌, ◌<◌, ◌==◌, ◌||◌, ◌≡◌, ◌≤◌, slice_index}
+use Rattle.std.specs.Prelude.{List, None, Option, Some, length, take, ℕ, ◌+◌, ◌-◌, ◌<◌, ◌≡◌, ◌≤◌, slice_index}
 use Rattle.markdown_grammar.specs.Blocks.{opening}
-use Rattle.markdown_grammar.specs.Columns.{Line, own_line}
+use Rattle.markdown_grammar.specs.Columns.{Line}
 use Rattle.markdown_grammar.specs.Containers as grammar
 use Rattle.markdown_grammar.specs.Extents.{Opening, opens_container, opens_leaf, opens_nothing}
 use Rattle.markdown_grammar.specs.Leaves as leaves
@@ -11,7 +11,6 @@ use Rattle.cm_containers.specs.Rests.{column_behind}
 use Rattle.cm_containers.specs.Spots.{BehindWhite, IsSpot, rest_at, text_at}
 use Rattle.cm_containers.specs.declared.spots.Spot.{Spot}
 use Rattle.cm_starts.specs.Answers.{as_start}
-use Rattle.cm_blocks.specs.declared.kinds.Container.{Container}
 use Rattle.cm_blocks.specs.declared.kinds.Leaf.{Leaf}
 use Rattle.cm_blocks.specs.declared.opening.Opens.{Opens}
 use Rattle.cm_blocks.specs.declared.opening.Opens.TheVariants.{Box, Other}

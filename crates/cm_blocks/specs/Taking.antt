@@ -1,6 +1,5 @@
 -- Whether a leaf has taken one more line.
-use Rattle.std.specs.Prelude.{Bool, List, None, Option, Some, false, true, ℕ, ◌≡◌}
-use Rattle.markdown_grammar.specs.Columns.{Line}
+use Rattle.std.specs.Prelude.{Bool, None, Option, Some, false, true, ◌≡◌}
 use Rattle.markdown_grammar.specs.Starts as starts
 use Rattle.cm_blocks.specs.declared.kinds.Leaf.{Leaf}
 use Rattle.cm_blocks.specs.declared.leaf_more.Next.{Next}

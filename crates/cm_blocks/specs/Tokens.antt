@@ -22,4 +22,4 @@ abbrev pub tokens : Blocks → List Token
 tokens no_blocks = []
 tokens (blank_line l rest) = Blank ∷ tokens rest
 tokens (leaf s rest) = Holds (leaf_of s) ∷ tokens rest
-tokens (container k body rest) = Opens (container_of k) ∷ (tokens body ++ Closes ∷ tokens rest)
+tokens (container k body rest) = Opens (container_of k) ∷ (tokens body ++ Closes (container_of k) ∷ tokens rest)

@@ -57,7 +57,7 @@ pub enum Leaf {
 #[derive(Drop)]
 pub enum Token {
     Opens(Container),
-    Closes,
+    Closes(Container),
     Holds(Leaf),
     Blank,
 }

@@ -6,8 +6,9 @@ use crate::kinds::Container;
 
 /// What is known of the blocks that follow inside a container, or outside of all: how many nodes were made
 /// before them; whether there are none, blank lines too, or one blank line alone; whether a blank line
-/// ends or starts them; whether there is a block; whether a blank line separates two blocks; the mark of
-/// the item that comes next behind blank lines, and whether its list is loose from there on.
+/// ends or starts them; whether there is a block; whether a blank line separates two blocks; and of the
+/// list that comes next behind blank lines its mark, its first number, whether it is loose, and how many
+/// nodes were made before it.
 #[derive(Clone, Copy)]
 pub(crate) struct Level {
     pub start: usize,
@@ -18,7 +19,9 @@ pub(crate) struct Level {
     pub has_block: bool,
     pub is_apart: bool,
     pub next: Option<char>,
+    pub number: u64,
     pub is_loose: bool,
+    pub list_start: usize,
 }
 
 impl Level {
@@ -35,7 +38,9 @@ impl Level {
             has_block: false,
             is_apart: false,
             next: None,
+            number: 0,
             is_loose: false,
+            list_start: 0,
         }
     }
 
@@ -65,13 +70,15 @@ impl Level {
             has_block: true,
             is_apart: self.separates(is_blank) || self.is_apart,
             next: None,
+            number: 0,
             is_loose: false,
+            list_start: 0,
         }
     }
 
     /// With an item in front, by what is known of its inside.
-    pub fn behind_item(self, mark: char, body: Level) -> Level
-        ensures { result ≡ spec.item_level mark body self }
+    pub fn behind_item(self, mark: char, number: u64, body: Level) -> Level
+        ensures { result ≡ spec.item_level mark number body self }
     {
         let is_blank = body.ends_open();
         Level {
@@ -83,12 +90,36 @@ impl Level {
             has_block: true,
             is_apart: !self.is_next(mark) && self.separates(is_blank) || self.is_apart,
             next: Some(mark),
+            number,
             is_loose: self.is_loose_from(mark, body),
+            list_start: self.list_start_at(mark, body),
         }
     }
 
-    /// Whether an item of a list comes next.
-    pub fn is_next(self, mark: char) -> bool
+    /// The same where the list that comes next is whole.
+    pub fn without_list(self) -> Level
+        ensures { result ≡ spec.unlisted self }
+    {
+        Level {
+            next: None,
+            is_loose: false,
+            ..self
+        }
+    }
+
+    // How many nodes were made before the list of an item in front.
+    fn list_start_at(self, mark: char, body: Level) -> usize
+        ensures { result ≡ (if spec.is_next mark self.next then self.list_start else body.start) }
+    {
+        if self.is_next(mark) {
+            self.list_start
+        } else {
+            body.start
+        }
+    }
+
+    // Whether an item of a list comes next.
+    fn is_next(self, mark: char) -> bool
         ensures { result ≡ spec.is_next mark self.next }
     {
         match self.next {
@@ -97,8 +128,8 @@ impl Level {
         }
     }
 
-    /// Whether a list is loose from an item in front on.
-    pub fn is_loose_from(self, mark: char, body: Level) -> bool
+    // Whether a list is loose from an item in front on.
+    fn is_loose_from(self, mark: char, body: Level) -> bool
         ensures { result ≡ spec.loose_from mark body self }
     {
         let goes_on = self.is_next(mark);
@@ -139,6 +170,16 @@ pub(crate) fn behind_container(held: Container, body: Level, rest: Level) -> Lev
 {
     match held {
         Container::Quote => rest.behind_leaf(false),
-        Container::Item { mark, .. } => rest.behind_item(mark, body),
+        Container::Item { mark, number, .. } => rest.behind_item(mark, number, body),
+    }
+}
+
+/// Whether a container is an item of the list that comes next.
+pub(crate) fn goes_with(held: Container, rest: Level) -> bool
+    ensures { result ≡ spec.goes_with held rest }
+{
+    match held {
+        Container::Quote => false,
+        Container::Item { mark, .. } => rest.is_next(mark),
     }
 }

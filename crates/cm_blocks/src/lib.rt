@@ -3,6 +3,7 @@
 
 mod html_ends;
 mod kinds;
+mod laws;
 mod leaf_lines;
 mod leaf_more;
 mod leaf_nodes;
@@ -19,6 +20,7 @@ mod tests;
 mod walk;
 
 pub use kinds::{Container, Leaf, Token};
+pub use laws::documents_have_the_html_of_their_blocks;
 pub use leaf_lines::LeafLines;
 pub use node::{Blocks, Node};
 pub use open_walk::block_tokens;

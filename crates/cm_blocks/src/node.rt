@@ -2,8 +2,8 @@
 use cm_links::Links;
 use site_base::Text;
 
-/// A block. A quote and an item have the number of the nodes that are inside of them, which follow
-/// them. CommonMark 0.31.2, sections 4 and 5.
+/// A block. Quotes, lists and items have the number of the nodes that are inside of them, which follow
+/// them; a list has items alone. CommonMark 0.31.2, sections 4 and 5.
 #[derive(Drop)]
 pub enum Node {
     Paragraph {
@@ -25,14 +25,15 @@ pub enum Node {
     Quote {
         len: usize,
     },
-    /// A list item: the last character of its mark and its number (1 for a bullet), whether its list is
-    /// loose from this item on, and whether another item of the list follows. A list is the items from
-    /// one behind no such item up to one that no other follows.
-    Item {
+    /// A list: the last character of its items' marks, the number of the first item (1 for bullets), and
+    /// whether a blank line separates two of its items or two blocks in an item.
+    List {
         mark: char,
         number: u64,
         is_loose: bool,
-        goes_on: bool,
+        len: usize,
+    },
+    Item {
         len: usize,
     },
 }

@@ -1,11 +1,10 @@
 // A walk over the lines of a text.
-ghost use Rattle.std.specs.Prelude.{◌≡◌, ◌++◌, ◌∷◌, [], IfOk, OnOk, replicate, true};
+ghost use Rattle.std.specs.Prelude.{◌≡◌, ◌++◌, ◌∷◌, [], IfOk, OnOk, drop, true};
 ghost use Rattle.markdown_grammar.specs.Columns.{own_line};
 ghost use Rattle.cm_containers.specs.Spots.{IsSpot, rest_at, text_at};
 ghost use Rattle.cm_blocks.specs.Flat as flat;
 ghost use Rattle.cm_blocks.specs.Leaves.{is_prose};
 ghost use Rattle.cm_blocks.specs.Walks.{lazily_on, put_in, shown};
-ghost use Rattle.cm_blocks.specs.declared.kinds.Token.TheVariants as token;
 
 use crate::kinds::{Container, Leaf, Token};
 use crate::leaf_more::{Taken, take_rest};
@@ -135,7 +134,7 @@ impl Walk {
     {
         self.close_leaf()?;
         self.is_filled = is_filled_at(self.is_filled, kept, self.stack.len());
-        push_ends(&mut self.tokens, self.stack.len().saturating_sub(kept))?;
+        push_ends(&mut self.tokens, &self.stack, kept)?;
         self.stack.truncate(kept);
         Ok(())
     }
@@ -171,11 +170,14 @@ fn push(tokens: &mut Vec<Token>, token: Token) -> Result<(), Memory>
     Ok(())
 }
 
-fn push_ends(tokens: &mut Vec<Token>, count: usize) -> Result<(), Memory>
-    ensures { OnOk result (tokens.new.items ≡ tokens.old.items ++ replicate count token.Closes) }
+// The ends of all but the outermost containers.
+fn push_ends(tokens: &mut Vec<Token>, stack: &[Container], kept: usize) -> Result<(), Memory>
+    ensures { OnOk result (tokens.new.items ≡ tokens.old.items ++ flat.closes (drop kept stack.now)) }
 {
-    for _i in 0..count {
-        push(tokens, Token::Closes)?;
+    let mut i = stack.len();
+    while i > kept {
+        i -= 1;
+        push(tokens, Token::Closes(stack[i]))?;
     }
     Ok(())
 }

@@ -1,5 +1,5 @@
 use Rattle.std.proofs.Common.{arith, ◌∙◌}
-use Rattle.cm_blocks.proofs.HtmlWords.{other_front, same_front, too_short}
+use Rattle.cm_blocks.proofs.HtmlWords.{same_front, too_short}
 use Rattle.cm_blocks.proofs.html_ends.begins.Goals as goal
 
 pub loop-i-preserved : goal.loop-i-preserved

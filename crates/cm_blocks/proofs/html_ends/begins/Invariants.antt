@@ -1,4 +1,4 @@
-use Rattle.std.proofs.Common.{◌≡◌, ◌-◌, ◌≤◌, drop, length}
+use Rattle.std.proofs.Common.{◌≡◌, ◌-◌, drop, length}
 use Rattle.markdown_grammar.specs.Fronts.{begins_with}
 use Rattle.cm_blocks.specs.HtmlEnds.{seen}
 use Rattle.cm_blocks.proofs.html_ends.begins.Given as goal

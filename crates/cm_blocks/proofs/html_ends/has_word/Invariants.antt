@@ -1,4 +1,4 @@
-use Rattle.std.proofs.Common.{◌≡◌, ◌-◌, ◌≤◌, drop, length}
+use Rattle.std.proofs.Common.{◌≡◌, ◌-◌, drop, length}
 use Rattle.markdown_grammar.specs.Fronts.{has}
 use Rattle.markdown_grammar.specs.Readers.{to}
 use Rattle.cm_blocks.specs.HtmlEnds.{seen}

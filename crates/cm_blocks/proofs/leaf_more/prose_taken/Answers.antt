@@ -4,7 +4,6 @@ use Rattle.markdown_grammar.specs.Places.{in_paragraph}
 use Rattle.cm_containers.specs.Spots.{text_at}
 use Rattle.cm_blocks.specs.Leaves.{holds_text}
 use Rattle.cm_blocks.specs.LineTexts.{ended}
-use Rattle.cm_blocks.specs.declared.kinds.Leaf.{Leaf}
 use Rattle.cm_blocks.specs.declared.kinds.Leaf.TheVariants as leaf
 use Rattle.cm_blocks.proofs.LeafTaking.{prose_other, prose_text, prose_underlined}
 use Rattle.cm_blocks.proofs.leaf_more.prose_taken.Goals as goal

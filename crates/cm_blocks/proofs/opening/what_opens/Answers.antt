@@ -1,6 +1,5 @@
-use Rattle.std.proofs.Common.{arith, ap, sym, ◌∙◌}
+use Rattle.std.proofs.Common.{arith, sym, ◌∙◌}
 use Rattle.cm_containers.specs.Spots.{text_at}
-use Rattle.cm_starts.specs.Answers.{as_start}
 use Rattle.cm_blocks.proofs.OpeningLaws.{item_marked}
 use Rattle.cm_blocks.proofs.opening.what_opens.Goals as goal
 

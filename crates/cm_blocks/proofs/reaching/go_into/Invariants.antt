@@ -1,4 +1,4 @@
-use Rattle.std.proofs.Common.{Bool, drop, length, ◌-◌, ◌≡◌, ◌≤◌}
+use Rattle.std.proofs.Common.{drop, length, ◌-◌, ◌≡◌, ◌≤◌}
 use Rattle.markdown_grammar.specs.Columns.{own_line}
 use Rattle.cm_containers.proofs.Walking.{more_kept}
 use Rattle.cm_containers.specs.Spots.{IsSpot, rest_at}

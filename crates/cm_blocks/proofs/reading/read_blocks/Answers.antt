@@ -1,6 +1,5 @@
-use Rattle.std.proofs.Common.{List, ap, ◌∙◌}
+use Rattle.std.proofs.Common.{ap, ◌∙◌}
 use Rattle.markdown_grammar.specs.Blocks.{blocks_of}
-use Rattle.cm_blocks.specs.declared.kinds.Token.{Token}
 use Rattle.cm_blocks.specs.Making.{links_in}
 use Rattle.cm_blocks.proofs.MadeLaws.{links_is, nodes_are}
 use Rattle.cm_blocks.proofs.reading.read_blocks.Goals as goal
