@@ -6,6 +6,7 @@ mod LeafTaking
 mod Marks
 mod OpeningLaws
 mod BeginLaws
+mod BreakLaws
 mod ClosingLaws
 mod LineLaws
 mod WalkedText

@@ -94,6 +94,8 @@ fn large_texts_are_read_in_seconds(rt: HostRuntime) -> Result<(), Fail> {
     assert_eq!(rt; count(alloc, "", 0, "")?, 0);
     assert_eq!(rt; count(alloc, "> ", 10_000, "a")?, 10_001);
     assert_eq!(rt; count(alloc, "- ", 10_000, "a")?, 20_001);
+    assert_eq!(rt; count(alloc, "* ", 50_000, "a *")?, 100_001);
+    assert_eq!(rt; count(alloc, "* ", 50_000, "*")?, 1);
     assert_eq!(rt; count(alloc, "a\n", 100_000, "")?, 1);
     assert_eq!(rt; count(alloc, "- a\n", 100_000, "")?, 200_001);
     assert_eq!(rt; count(alloc, "[a]: b\n", 10_000, "")?, 0);

@@ -92,11 +92,13 @@ impl Walk {
         ensures { OnOk result (shown self.new ≡ flat.begin (shown self.old) (rest_at line.now spot)) }
     {
         let mut spot = spot;
+        let mut known = None;
         loop {
-            match what_opens(line, spot) {
-                Opens::Box(held, inside) => {
+            match what_opens(line, spot, known) {
+                Opens::Box(held, inside, behind) => {
                     self.open_box(held)?;
                     spot = inside;
+                    known = behind;
                 }
                 Opens::Other(start, white) => {
                     return self.put(leaf_of(alloc, line, spot, start, white)?);

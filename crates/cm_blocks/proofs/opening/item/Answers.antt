@@ -13,4 +13,5 @@ returns c =
       item_opens line s w a c.shift.result c.args.mark c.args.number c.args.digits p _ c.requires.white c.requires.mark c.requires.start is.column is.text c.padding-padding.ensures.value refl c.shift.ensures.rest,
       c.shift.ensures.spot,
       further line s w a c.shift.result (c.args.digits + 1) p c.requires.white (omega arith) is.column c.shift.ensures.rest,
+      c.requires.known,
     )

@@ -1,4 +1,3 @@
-use Rattle.std.proofs.Common.{arith, sym, ◌∙◌}
 use Rattle.cm_containers.specs.Spots.{text_at}
 use Rattle.cm_blocks.proofs.OpeningLaws.{item_marked}
 use Rattle.cm_blocks.proofs.opening.what_opens.Goals as goal
@@ -6,4 +5,4 @@ use Rattle.cm_blocks.proofs.opening.what_opens.Goals as goal
 pub item-requires-clause-mark : goal.item-requires-clause-mark
 item-requires-clause-mark c =
     let t = text_at c.args.line.now c.args.spot in
-    item_marked c.args.spot.column c.behind_white-white.result.at c.in-Item.mark c.in-Item.number c.in-Item.digits t c.args.line.now (c.in-Item.ensures c.args.spot.column t (omega (arith, c.behind_white-white.ensures.column)) (sym (c.range_from.ensures.value ∙ c.behind_white-white.ensures.rest))) c.behind_white-white.ensures.rest
+    item_marked c.args.spot.column c.behind_white-white.result.at c.in-Item.mark c.in-Item.number c.in-Item.digits t c.args.line.now c.in-Item.ensures c.behind_white-white.ensures.rest

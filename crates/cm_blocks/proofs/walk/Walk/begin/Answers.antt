@@ -8,6 +8,7 @@ use Rattle.cm_blocks.proofs.walk.Walk.begin.Goals as goal
 pub loop-held-preserved : goal.loop-held-preserved
 loop-held-preserved c = record {
   spot = c.in-Box.ensures.1;
+  known = c.in-Box.ensures.3;
   so_far =
       box_on (shown c.loop-held.self) (shown c.open_box.new.self) _ (rest_at c.args.line.now c.loop-held.spot) (rest_at c.args.line.now c.in-Box.inside) c.in-Box.held c.in-Box.ensures.0 c.in_ok-open_box-in-Box.ensures
       c.loop-held.invariant.so_far;
