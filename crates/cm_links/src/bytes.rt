@@ -5,7 +5,7 @@ ghost use Rattle.markdown_grammar.specs.Bytes as bytes;
 ghost use Rattle.markdown_grammar.specs.Fronts.{run_len};
 
 /// Whether a byte is ASCII punctuation.
-pub(crate) fn is_punctuation(c: u8) -> bool
+pub fn is_punctuation(c: u8) -> bool
     ensures { result ≡ bytes.is_punct c }
 {
     (33 <= c && c <= 47) || (58 <= c && c <= 64) || (91 <= c && c <= 96) || (123 <= c && c <= 126)

@@ -14,6 +14,7 @@ mod references;
 mod resolving;
 mod titles;
 
+pub use bytes::is_punctuation;
 pub use definitions::{LinkDef, definition};
 pub use destinations::destination;
 pub use gaps::{spaces, white_gap};

@@ -1,5 +1,5 @@
 // Character grammar.
-ghost use Rattle.std.specs.Prelude.{◌≡◌, ◌≤◌, ◌<◌, ◌+◌, ◌^◌, IfSome, drop, length, option_map};
+ghost use Rattle.std.specs.Prelude.{◌≡◌, ◌≤◌, ◌<◌, ◌+◌, ◌-◌, ◌^◌, IfSome, drop, length, option_map};
 ghost use Rattle.std.specs.Str.{IsCharBoundary};
 ghost use Rattle.std.specs.Char.{digit_value};
 ghost use Rattle.cm_links.specs.Answers.{char_ref};
@@ -20,7 +20,8 @@ pub struct CharRef {
 /// The character reference that stands at a place of a text, or none where none stands there.
 pub fn reference(text: &str, at: usize) -> Option<CharRef>
     requires { IsCharBoundary text.now at }
-    ensures { result ≡ option_map (char_ref at) (grammar.front_reference (drop at text.now)) }
+    ensures value { result ≡ option_map (char_ref at) (grammar.front_reference (drop at text.now)) }
+    ensures ends { IfSome result (λ found. HasEnd 0 (drop at text.now) (found.end - at)) }
 {
     let (first, size) = front_reference(&text.as_bytes()[at..])?;
     Some(CharRef {

@@ -37,7 +37,7 @@ small_enough value i h lt = omega (arith, cap_at i h, lt)
 
 -- ---- the end of a text, byte by byte
 
-last_of : (t : List ℕ) (end : ℕ) → 0 < end → end ≤ length t → reverse (take end t) ≡ get_or t (end - 1) 0 ∷ reverse (take (end - 1) t)
+pub last_of : (t : List ℕ) (end : ℕ) → 0 < end → end ≤ length t → reverse (take end t) ≡ get_or t (end - 1) 0 ∷ reverse (take (end - 1) t)
 last_of t zero some within = absurd (omega (arith, some))
 last_of t (suc j) some within =
     let e : suc j - 1 ≡ j = omega arith in

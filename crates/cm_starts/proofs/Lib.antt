@@ -1,4 +1,4 @@
-mod Ends
-mod Repeats
-mod Words
+pub mod Ends
+pub mod Repeats
+pub mod Words
 mod Tagged

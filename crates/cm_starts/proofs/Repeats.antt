@@ -14,7 +14,7 @@ any_is c (d ∷ ds) = go (d == c) (any_is c ds) where
   go false h = h
 
 -- a pattern that takes something, and something of a text that has something
-abbrev Goes : Reader → Type 0
+abbrev pub Goes : Reader → Type 0
 Goes r = (t : List ℕ) (k : ℕ) → r t ≡ Some k → (0 < k) × (0 < length t)
 
 abbrev repeat_case : (ℕ → Option ℕ) → Option ℕ → Option ℕ
@@ -41,14 +41,14 @@ enough r goes (suc m) (suc n) t p q = go (r t) refl (λ k. enough r goes m n (dr
   go None e h = refl
 
 -- one turn more
-repeat_goes : (r : Reader) → Goes r → (t : List ℕ) (k : ℕ) → r t ≡ Some k → repeat r t ≡ plus k (repeat r (drop k t))
+pub repeat_goes : (r : Reader) → Goes r → (t : List ℕ) (k : ℕ) → r t ≡ Some k → repeat r t ≡ plus k (repeat r (drop k t))
 repeat_goes r goes [] k e = absurd (omega (arith, (goes [] k e).1))
 repeat_goes r goes (c ∷ cs) k e =
     let some = (goes (c ∷ cs) k e).0 in
     ap (λ (o : Option ℕ). repeat_case (λ k. repeat_by (length cs) r (drop k (c ∷ cs))) o) e
     ∙ ap (λ (x : Option ℕ). plus k x) (enough r goes (length cs) (length (drop k (c ∷ cs))) (drop k (c ∷ cs)) (omega (arith, length-drop k (c ∷ cs), some)) (omega arith))
 
-repeat_ends : (r : Reader) (t : List ℕ) → r t ≡ None → repeat r t ≡ Some 0
+pub repeat_ends : (r : Reader) (t : List ℕ) → r t ≡ None → repeat r t ≡ Some 0
 repeat_ends r [] e = refl
 repeat_ends r (c ∷ cs) e = ap (λ (o : Option ℕ). repeat_case (λ k. repeat_by (length cs) r (drop k (c ∷ cs))) o) e
 
@@ -77,11 +77,11 @@ attribute_goes (c ∷ cs) k e = (go (some_white_gap (c ∷ cs)) refl e, omega ar
   go None f e = absurd cc
   go (Some g) f e = plus_some g ((attribute_name then (perhaps value_part)) (drop g (c ∷ cs))) k e (gap_some (white_gap (c ∷ cs)) g f)
 
-plus_plus : (i j : ℕ) (o : Option ℕ) → plus i (plus j o) ≡ plus (i + j) o
+pub plus_plus : (i j : ℕ) (o : Option ℕ) → plus i (plus j o) ≡ plus (i + j) o
 plus_plus i j (Some k) = ap (λ (n : ℕ). Some n) (omega arith)
 plus_plus i j None = refl
 
-drop_drop : (i j : ℕ) (t : List ℕ) → drop j (drop i t) ≡ drop (i + j) t
+pub drop_drop : (i j : ℕ) (t : List ℕ) → drop j (drop i t) ≡ drop (i + j) t
 drop_drop zero j t = let e : j ≡ 0 + j = omega arith in ap (λ (n : ℕ). drop n t) e
 drop_drop (suc i) j [] = drop_nil j (suc i + j) where
   drop_nil : (m n : ℕ) → drop m (let e : List ℕ = [] in e) ≡ drop n (let e : List ℕ = [] in e)
@@ -91,12 +91,15 @@ drop_drop (suc i) j [] = drop_nil j (suc i + j) where
   drop_nil (suc m) (suc n) = refl
 drop_drop (suc i) j (c ∷ cs) = drop_drop i j cs ∙ (let e : suc (i + j) ≡ suc i + j = omega arith in ap (λ (n : ℕ). drop n (c ∷ cs)) e)
 
+pub one_more : (r : Reader) → Goes r → (text rest : List ℕ) (at n : ℕ) (whole : Option ℕ) → rest ≡ drop at text → Some n ≡ r rest → plus at (repeat r (drop at text)) ≡ whole → plus (at + n) (repeat r (drop (at + n) text)) ≡ whole
+one_more r goes text rest at n whole e f w =
+    let taken : r (drop at text) ≡ Some n = ap r (sym e) ∙ sym f in
+    sym (ap (λ (o : Option ℕ). plus at o) (repeat_goes r goes (drop at text) n taken)
+    ∙ plus_plus at n (repeat r (drop n (drop at text))) ∙ ap (λ (t : List ℕ). plus (at + n) (repeat r t)) (drop_drop at n text)) ∙ w
+
 pub one_attribute : (text rest : List ℕ) (at n : ℕ) (whole : Option ℕ) → rest ≡ drop at text → Some n ≡ attribute rest → plus at (repeat attribute (drop at text)) ≡ whole
     → plus (at + n) (repeat attribute (drop (at + n) text)) ≡ whole
-one_attribute text rest at n whole e f w =
-    let taken : attribute (drop at text) ≡ Some n = ap attribute (sym e) ∙ sym f in
-    sym (ap (λ (o : Option ℕ). plus at o) (repeat_goes attribute attribute_goes (drop at text) n taken)
-    ∙ plus_plus at n (repeat attribute (drop n (drop at text))) ∙ ap (λ (t : List ℕ). plus (at + n) (repeat attribute t)) (drop_drop at n text)) ∙ w
+one_attribute = one_more attribute attribute_goes
 
 pub attribute_some : (t rest : List ℕ) (at n : ℕ) → rest ≡ drop at t → Some n ≡ attribute rest → 0 < n
 attribute_some t rest at n e f = (attribute_goes rest n (sym f)).0
@@ -113,7 +116,7 @@ then_some r s t u k n d e f = ap (λ (o : Option ℕ). plus k o) (f ∙ ap s d) 
 pub then_none : (r s : Reader) (t u : List ℕ) (k : ℕ) → u ≡ drop k t → Some k ≡ r t → None ≡ s u → None ≡ (r then s) t
 then_none r s t u k d e f = ap (λ (o : Option ℕ). plus k o) (f ∙ ap s d) ∙ ap (λ (o : Option ℕ). then_case (λ k. s (drop k t)) o) e
 
-take_whole : (n : ℕ) (t : List ℕ) → length t ≤ n → take n t ≡ t
+pub take_whole : (n : ℕ) (t : List ℕ) → length t ≤ n → take n t ≡ t
 take_whole zero [] h = refl
 take_whole zero (c ∷ cs) h = absurd (omega (arith, h))
 take_whole (suc n) [] h = refl

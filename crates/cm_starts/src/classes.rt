@@ -45,19 +45,22 @@ fn is_of(class: Class, c: u8) -> bool
     }
 }
 
-pub(crate) fn is_one_of(bytes: &[u8], c: u8) -> bool
+/// Whether a byte is one of these.
+pub fn is_one_of(bytes: &[u8], c: u8) -> bool
     ensures { result ≡ tags.is_one_of bytes.now c }
 {
     bytes.contains(&c)
 }
 
-pub(crate) fn is_letter(c: u8) -> bool
+/// Whether a byte is an ASCII letter.
+pub fn is_letter(c: u8) -> bool
     ensures { result ≡ bytes.is_letter c }
 {
     (65 <= c && c <= 90) || (97 <= c && c <= 122)
 }
 
-fn is_alnum(c: u8) -> bool
+/// Whether a byte is an ASCII letter or digit.
+pub fn is_alnum(c: u8) -> bool
     ensures { result ≡ bytes.is_alnum c }
 {
     is_letter(c) || is_digit(c)

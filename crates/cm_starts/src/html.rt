@@ -127,8 +127,8 @@ fn ends_listed(text: &[u8]) -> bool
     ends_name(text) || begins(text, b"/>")
 }
 
-// Whether a text begins with a word.
-fn begins(text: &[u8], word: &[u8]) -> bool
+/// Whether a text begins with a word.
+pub fn begins(text: &[u8], word: &[u8]) -> bool
     ensures { result ≡ begins_with word.now text.now }
 {
     if text.len() < word.len() {

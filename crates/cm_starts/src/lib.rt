@@ -15,12 +15,15 @@ mod tags;
 mod texts;
 
 pub use breaks::is_thematic_break;
+pub use classes::{is_alnum, is_letter, is_one_of};
 pub use fences::{closes_fence, fence};
 pub use headings::{heading, underline};
-pub use html::html_block;
+pub use html::{begins, html_block};
 pub use items::list_mark;
 pub use kinds::{Place, Start};
 pub use starts::line_start;
+pub use tags::{closing_tag, open_tag};
+pub use texts::run;
 
 #[cfg(test)]
 mod tests;

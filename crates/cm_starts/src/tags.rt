@@ -245,7 +245,7 @@ fn open_name(text: &[u8]) -> Option<usize>
 }
 
 /// How many bytes the open tag takes that a text begins with, or none.
-pub(crate) fn open_tag(text: &[u8]) -> Option<usize>
+pub fn open_tag(text: &[u8]) -> Option<usize>
     ensures value { result ≡ grammar.open_tag text.now }
     ensures within { IfSome result (λ n. n ≤ length text.now) }
 {
@@ -283,7 +283,7 @@ fn closing_marks(text: &[u8]) -> Option<usize>
 }
 
 /// How many bytes the closing tag takes that a text begins with, or none.
-pub(crate) fn closing_tag(text: &[u8]) -> Option<usize>
+pub fn closing_tag(text: &[u8]) -> Option<usize>
     ensures value { result ≡ grammar.closing_tag text.now }
     ensures within { IfSome result (λ n. n ≤ length text.now) }
 {

@@ -21,7 +21,7 @@ pub(crate) fn is_digit(c: u8) -> bool
 }
 
 /// How many of a byte a text begins with.
-pub(crate) fn run(text: &str, c: u8) -> usize
+pub fn run(text: &str, c: u8) -> usize
     requires { c < 128 }
     ensures value { result ≡ run_len (λ d. d == c) text.now }
     ensures cut { IsCharBoundary text.now result }

@@ -1,6 +1,7 @@
 // The fields of a configuration, read from its mapping.
 ghost use Rattle.std.specs.Prelude.{◌≡◌, ◌++◌, [], map, IfOk};
 ghost use Rattle.site_base.specs.View.{plain};
+ghost use Rattle.site_dates.specs.Offset.{IsOffset};
 ghost use Rattle.site_config.specs.Forms.{given};
 ghost use Rattle.site_config.specs.Config.{config, text_or, optional_text, texts_or, flag, count_of, offset_of, pairs_in, excluded};
 
@@ -32,7 +33,8 @@ const EXCLUDED: [&str; 10] = [
 
 /// The configuration that a mapping is, whose values have their forms.
 pub(crate) fn read(alloc: Global, value: Value) -> Result<Config, Memory>
-    ensures { IfOk result (λ made. made ≡ config (plain value)) }
+    ensures made { IfOk result (λ made. made ≡ config (plain value)) }
+    ensures offset { IfOk result (λ made. IsOffset made.timezone) }
 {
     let all = Some(&value);
     let addresses = Addresses::read(alloc, all)?;
@@ -118,7 +120,8 @@ fn count_of(value: Option<&Value>) -> Option<u64>
 }
 
 fn offset_of(value: Option<&Value>) -> i32
-    ensures { result ≡ offset_of (given value.entry) }
+    ensures is { result ≡ offset_of (given value.entry) }
+    ensures range { IsOffset result }
 {
     match value {
         Some(Value::Text(text)) => read_offset(text.as_str()).unwrap_or(0),

@@ -1,7 +1,8 @@
 // Configurations out of texts.
-ghost use Rattle.std.specs.Prelude.{◌≡◌};
+ghost use Rattle.std.specs.Prelude.{◌≡◌, IfOk};
 ghost use Rattle.std.specs.Option.{option_copied};
 ghost use Rattle.front_yaml.specs.Given.{ReadsLines};
+ghost use Rattle.site_dates.specs.Offset.{IsOffset};
 ghost use Rattle.site_config.specs.Texts.{mapping, Configures, IsConfigured};
 
 use crate::config::Config;
@@ -17,7 +18,8 @@ use std::alloc::Global;
 /// `Yaml` comes exactly where the text is no mapping in the YAML subset, with its first fault. `Key` comes exactly
 /// where a key of the table has a value of another form, with the first such key in the table's order.
 pub fn read_config(alloc: Global, text: Option<&str>) -> Result<Config, ConfigError>
-    ensures { Configures (option_copied text.entry) result }
+    ensures read { Configures (option_copied text.entry) result }
+    ensures offset { IfOk result (λ config. IsOffset config.timezone) }
 {
     match mapping_of(alloc, text) {
         Ok(all) => config_in(alloc, all),
@@ -36,7 +38,8 @@ fn mapping_of(alloc: Global, text: Option<&str>) -> Result<Hash, YamlError>
 }
 
 fn config_in(alloc: Global, all: Hash) -> Result<Config, ConfigError>
-    ensures { IsConfigured all result }
+    ensures read { IsConfigured all result }
+    ensures offset { IfOk result (λ config. IsOffset config.timezone) }
 {
     match config_of(alloc, Value::Hash(all)) {
         Ok(config) => Ok(config),

@@ -1,6 +1,7 @@
 // Configurations out of values.
-ghost use Rattle.std.specs.Prelude.{◌≡◌, MatchResult};
+ghost use Rattle.std.specs.Prelude.{◌≡◌, IfOk, MatchResult};
 ghost use Rattle.site_base.specs.View.{plain};
+ghost use Rattle.site_dates.specs.Offset.{IsOffset};
 ghost use Rattle.site_config.specs.Answers.{IsConfig, IsWrong};
 ghost use Rattle.site_config.specs.Config.{is_mapping};
 
@@ -16,7 +17,8 @@ use std::alloc::Global;
 /// A key of the table that is absent or nil has its default; any other value has to have its form. The first key
 /// of the table whose value has not is the answer then.
 pub fn config_of(alloc: Global, value: Value) -> Result<Config, ValueError>
-    ensures { MatchResult result (λ config. IsConfig config (plain value)) (λ error. IsWrong error (plain value)) }
+    ensures read { MatchResult result (λ config. IsConfig config (plain value)) (λ error. IsWrong error (plain value)) }
+    ensures offset { IfOk result (λ config. IsOffset config.timezone) }
 {
     if !is_mapping(&value) {
         return Err(ValueError::NotMapping);

@@ -1,0 +1,4 @@
+pub mod Runs
+pub mod ClosedBy
+pub mod Spaced
+pub mod Beside

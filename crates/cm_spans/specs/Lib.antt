@@ -1,0 +1,4 @@
+pub mod Classes
+pub mod Code
+pub mod Pieces
+pub mod Cuts

@@ -1,0 +1,19 @@
+//! What stands for itself in a line of Markdown: escapes and references, code spans, autolinks, raw
+//! HTML, breaks, runs of emphasis marks, open brackets and plain text, each read from its place on.
+#![tactic(auto)]
+
+mod autolinks;
+mod classes;
+mod code;
+mod flanking;
+mod spans;
+mod tags;
+
+pub use autolinks::{email, uri};
+pub use code::{code_end, code_text};
+pub use flanking::{Marks, char_after, char_before, is_unicode_punctuation, is_unicode_white};
+pub use spans::{Span, Taken, byte_at, span_at};
+pub use tags::html_tag;
+
+#[cfg(test)]
+mod tests;

@@ -1,0 +1,5 @@
+pub mod LastMark
+pub mod Stems
+pub mod Starts
+pub mod Dated
+mod Rows

@@ -1,0 +1,4 @@
+pub mod Choosing
+pub mod Names
+pub mod Places
+pub mod PostNames
