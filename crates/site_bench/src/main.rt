@@ -1,11 +1,13 @@
 // The measured program: reads its standard input, and calls one library on it. `bench/` runs it.
 #![tactic(auto)]
 
+use cm_print::{HtmlError, to_html};
 use data_files::{DataError, read_data};
 use front_yaml::{YamlError, read_yaml};
 use liquid_parse::{ParseError, parse};
 use site_base::SitePath;
 use site_config::{ConfigError, read_config};
+use std::io::Write;
 use std::process::ExitCode;
 use std::{env, io};
 
@@ -39,6 +41,7 @@ fn status(rt: HostRuntime, word: &str, text: &str) -> u8 {
         "csv" => data(rt, "_data/bench.csv", text),
         "tsv" => data(rt, "_data/bench.tsv", text),
         "liquid" => liquid(rt, text),
+        "markdown" => markdown(rt, text),
         _ => USAGE,
     }
 }
@@ -79,5 +82,22 @@ fn liquid(rt: HostRuntime, text: &str) -> u8 {
         Ok(_) => 0,
         Err(ParseError::Fault(_, _)) => REFUSED,
         Err(ParseError::Memory) => FAILED,
+    }
+}
+
+// The status of making the HTML of a Markdown text, which is written.
+fn markdown(rt: HostRuntime, text: &str) -> u8 {
+    match to_html(rt.alloc(), text, u64::MAX) {
+        Ok(html) => written(rt, html.as_str()),
+        Err(HtmlError::TooLong) => REFUSED,
+        Err(HtmlError::Memory) => FAILED,
+    }
+}
+
+fn written(rt: HostRuntime, text: &str) -> u8 {
+    if io::writer(&rt).write_all(text.as_bytes()).is_err() {
+        FAILED
+    } else {
+        0
     }
 }

@@ -1,0 +1,7 @@
+pub mod Escapes
+pub mod InlineLaws
+pub mod NodeLaws
+pub mod WalkLaws
+pub mod Growth
+pub mod Sequences
+pub mod PrinterLaws

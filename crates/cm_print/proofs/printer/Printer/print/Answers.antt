@@ -1,0 +1,14 @@
+use Rattle.std.proofs.Common.{arith}
+use Rattle.cm_print.specs.Printing.{state_of}
+use Rattle.cm_print.proofs.PrinterLaws.{behind_all, finishes, node_exceeds}
+use Rattle.cm_print.proofs.printer.Printer.print.Goals as goal
+
+pub returns-in-Err : goal.returns-in-Err
+returns-in-Err c = λ e.
+    node_exceeds c.args.links.now c.loop-place.place (state_of c.loop-place.self) c.args.nodes.now c.index-nodes-place.result _ c.args.self.now.writer.most (omega arith) c.index-nodes-place.is c.loop-place.invariant.same
+    (rw c.loop-place.invariant.most at (c.in-Err.ensures e))
+
+pub returns : goal.returns
+returns c =
+    finishes c.args.self.now c.loop-place.self c.close.new.self _ _ c.close.result c.close.ensures
+    (behind_all c.args.links.now c.loop-place.place (state_of c.loop-place.self) c.args.nodes.now _ (omega arith) c.loop-place.invariant.same) c.loop-place.invariant.most

@@ -1,0 +1,38 @@
+use Rattle.std.proofs.Common.{◌≡◌, ◌<◌, ◌+◌, length, sym, ◌∙◌, arith, refl, subst}
+use Rattle.std.proofs.lemmas.Str.{IsCharBoundary-after_ascii}
+use Rattle.cm_print.proofs.Escapes.{run_refused, run_ends, step_same, reference_refused, small_byte}
+use Rattle.cm_print.proofs.writer.Writer.push_escaped.Goals as goal
+
+pub returns-in-Err : goal.returns-in-Err
+returns-in-Err c = λ e.
+    run_refused c.args.escape _ c.loop-rest.rest.now _ c.args.self.now.most c.plain_len-plain.result c.plain_len-plain.ensures.value c.loop-rest.invariant.so_far
+    (rw (c.range.ensures.value, c.loop-rest.invariant.most) at (c.in-Err.ensures e))
+
+pub returns-then-plain-rest : goal.returns-then-plain-rest
+returns-then-plain-rest c = record {
+  text = run_ends c.args.escape _ _ c.loop-rest.rest.now _ c.plain_len-plain.result c.plain_len-plain.ensures.value c.if-plain-rest.true c.loop-rest.invariant.so_far (rw c.range.ensures.value at c.in-Ok.ensures.text);
+  most = c.in-Ok.ensures.most ∙ c.loop-rest.invariant.most;
+}
+
+pub returns-in-Err-push : goal.returns-in-Err-push
+returns-in-Err-push c = λ e.
+    let lt : c.plain_len-plain.result < length c.loop-rest.rest.now = let b = c.plain_len-plain.ensures.boundary.0 in omega (arith, b, c.if-plain-rest.false) in
+    reference_refused c.args.escape _ _ c.loop-rest.rest.now _ c.reference.result.now c.args.self.now.most c.plain_len-plain.result c.plain_len-plain.ensures.value lt
+    (rw c.as_bytes.ensures.value at c.reference.ensures) c.loop-rest.invariant.so_far (rw c.range.ensures.value at c.in-Ok.ensures.text)
+    (rw (c.in-Ok.ensures.most ∙ c.loop-rest.invariant.most) at (c.in-Err-push.ensures e))
+
+pub loop-rest-preserved : goal.loop-rest-preserved
+loop-rest-preserved c =
+    let lt : c.plain_len-plain.result < length c.loop-rest.rest.now = let b = c.plain_len-plain.ensures.boundary.0 in omega (arith, b, c.if-plain-rest.false) in
+    record {
+      utf8 = c.range_from-rest.utf8;
+      so_far = rw c.range_from-rest.ensures.value
+          (step_same c.args.escape _ _ _ c.loop-rest.rest.now _ c.reference.result.now c.plain_len-plain.result c.plain_len-plain.ensures.value lt
+          (rw c.as_bytes.ensures.value at c.reference.ensures) c.loop-rest.invariant.so_far (rw c.range.ensures.value at c.in-Ok.ensures.text) c.in-Ok-push.ensures.text);
+      most = c.in-Ok-push.ensures.most ∙ c.in-Ok.ensures.most ∙ c.loop-rest.invariant.most;
+    }
+
+pub range_from-rest-requires : goal.range_from-rest-requires
+range_from-rest-requires c = λ some.
+    let lt : c.plain_len-plain.result < length c.loop-rest.rest.now = let b = c.plain_len-plain.ensures.boundary.0 in omega (arith, b, c.if-plain-rest.false) in
+    IsCharBoundary-after_ascii c.loop-rest.rest.now c.plain_len-plain.result c.loop-rest.invariant.utf8 lt (small_byte c.args.escape _ (c.plain_len-plain.ensures.stop lt))

@@ -1,0 +1,10 @@
+use Rattle.std.proofs.Common.{◌≡◌, ◌++◌, ◌-◌, replicate}
+use Rattle.markdown_grammar.specs.Escaping.{escaped}
+use Rattle.cm_print.specs.Writing.{written}
+use Rattle.cm_print.proofs.writer.Writer.push_marks.Given as goal
+
+abbrev pub invariant-loop-place : goal.invariant-loop-place
+invariant-loop-place l = record {
+  so_far : written l.self ++ escaped (replicate (l.len - l.place) l.mark) ≡ written l.initial.self ++ escaped (replicate l.len l.mark);
+  most : l.self.most ≡ l.initial.self.most;
+}

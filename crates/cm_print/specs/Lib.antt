@@ -1,0 +1,7 @@
+pub mod DocumentHtml
+pub mod Escapes
+pub mod InlineTokens
+pub mod InlineNodes
+pub mod NodeWalk
+pub mod Writing
+pub mod Printing

@@ -1,0 +1,117 @@
+// Code blocks as HTML.
+ghost use Rattle.std.specs.Prelude.{◌≡◌, ◌++◌, IfOk, codes, not, take};
+ghost use Rattle.std.specs.Str.{IsCharBoundary};
+ghost use Rattle.markdown_grammar.specs.Bytes.{is_white};
+ghost use Rattle.markdown_grammar.specs.Escaping.{escaped};
+ghost use Rattle.markdown_grammar.specs.Fronts.{run_len};
+ghost use Rattle.markdown_grammar.specs.LeafHtml.{class_text, info_word};
+ghost use Rattle.cm_blocks.specs.DocumentHtml.{code_html};
+ghost use Rattle.cm_print.specs.DocumentHtml.{code_after};
+ghost use Rattle.cm_print.specs.Writing.{Prints, Reaches, written};
+
+use crate::error::HtmlError;
+use crate::writer::Writer;
+use cm_links::resolved;
+use std::alloc::Global;
+
+impl Writer {
+    /// Adds a code block, whose info string names a language by its first word, or none.
+    pub(crate) fn push_code_block(
+        &mut self,
+        alloc: Global,
+        info: &str,
+        text: &str,
+    ) -> Result<(), HtmlError>
+        ensures { Reaches self.old self.new (code_after info.now text.now (written self.old)) result }
+    {
+        match self.fresh_line() {
+            Ok(()) => (),
+            Err(error) => return Err(error),
+        }
+        self.push_code_tags(alloc, info, text)
+    }
+
+    fn push_code_tags(
+        &mut self,
+        alloc: Global,
+        info: &str,
+        text: &str,
+    ) -> Result<(), HtmlError>
+        ensures { Prints self.old self.new (code_html info.now text.now) result }
+    {
+        match self.push("<pre><code") {
+            Ok(()) => (),
+            Err(error) => return Err(error),
+        }
+        match self.push_language(alloc, info) {
+            Ok(()) => (),
+            Err(error) => return Err(error),
+        }
+        match self.push(">") {
+            Ok(()) => (),
+            Err(error) => return Err(error),
+        }
+        match self.push_text(text) {
+            Ok(()) => (),
+            Err(error) => return Err(error),
+        }
+        self.push("</code></pre>\n")
+    }
+
+    fn push_language(&mut self, alloc: Global, info: &str) -> Result<(), HtmlError>
+        ensures { Prints self.old self.new (class_text (info_word info.now)) result }
+    {
+        let Ok(info) = resolved(alloc, info) else {
+            return Err(HtmlError::Memory);
+        };
+        self.push_class(first_word(info.as_str()))
+    }
+
+    fn push_class(&mut self, language: &str) -> Result<(), HtmlError>
+        ensures { Prints self.old self.new (class_text language.now) result }
+    {
+        if language.is_empty() {
+            return Ok(());
+        }
+        self.push_given_class(language)
+    }
+
+    fn push_given_class(&mut self, language: &str) -> Result<(), HtmlError>
+        ensures { Prints self.old self.new (codes " class=\"language-" ++ (escaped language.now ++ codes "\"")) result }
+    {
+        match self.push(" class=\"language-") {
+            Ok(()) => (),
+            Err(error) => return Err(error),
+        }
+        match self.push_text(language) {
+            Ok(()) => (),
+            Err(error) => return Err(error),
+        }
+        self.push("\"")
+    }
+}
+
+// What stands before the first white space.
+fn first_word(text: &str) -> &str
+    ensures { result.now ≡ take (run_len (λ c. not (is_white c)) text.now) text.now }
+{
+    &text[..word_len(text)]
+}
+
+fn word_len(text: &str) -> usize
+    ensures value { result ≡ run_len (λ c. not (is_white c)) text.now }
+    ensures boundary { IsCharBoundary text.now result }
+{
+    let bytes = text.as_bytes();
+    let mut i = 0;
+    while i < bytes.len() && !is_white(bytes[i]) {
+        i += 1;
+    }
+    i
+}
+
+fn is_white(byte: u8) -> bool
+    ensures { result ≡ is_white byte }
+{
+    matches!(byte, b' ' | b'\t' | b'\n' | b'\r')
+}

@@ -1,0 +1,129 @@
+// Leaf blocks as HTML.
+ghost use Rattle.std.specs.Prelude.{◌≡◌, ◌++◌, ◌∷◌, ◌+◌, codes};
+ghost use Rattle.markdown_grammar.specs.InlineHtml.{inline_html};
+ghost use Rattle.markdown_grammar.specs.LeafHtml.{heading_name, paragraph_onto, tagged};
+ghost use Rattle.markdown_grammar.specs.ListTags.{fresh_line};
+ghost use Rattle.cm_print.specs.DocumentHtml.{heading_after, paragraph_after, prose};
+ghost use Rattle.cm_print.specs.Writing.{Prints, Reaches, written};
+
+use crate::error::HtmlError;
+use crate::writer::Writer;
+use cm_inlines::{Inlines, read_inlines};
+use cm_links::Links;
+use std::alloc::Global;
+
+impl Writer {
+    /// Begins a line, unless one has begun.
+    pub(crate) fn fresh_line(&mut self) -> Result<(), HtmlError>
+        ensures { Reaches self.old self.new (fresh_line (written self.old)) result }
+    {
+        match self.text.as_bytes().last() {
+            None | Some(b'\n') => Ok(()),
+            Some(_) => self.push("\n"),
+        }
+    }
+
+    /// Adds a paragraph, unless its text is empty: in a tight list its inlines alone.
+    pub(crate) fn push_paragraph(
+        &mut self,
+        alloc: Global,
+        links: &Links,
+        is_tight: bool,
+        text: &str,
+    ) -> Result<(), HtmlError>
+        ensures { Reaches self.old self.new (paragraph_onto is_tight text.now (prose links.now text.now) (written self.old)) result }
+    {
+        if text.is_empty() {
+            return Ok(());
+        }
+        match read_inlines(alloc, text, links) {
+            Ok(body) => self.push_paragraph_of(is_tight, &body),
+            Err(_) => Err(HtmlError::Memory),
+        }
+    }
+
+    fn push_paragraph_of(&mut self, is_tight: bool, body: &Inlines<'_>) -> Result<(), HtmlError>
+        ensures { Reaches self.old self.new (paragraph_after is_tight (inline_html body.now) (written self.old)) result }
+    {
+        if is_tight {
+            return self.push_inlines(body);
+        }
+        match self.fresh_line() {
+            Ok(()) => (),
+            Err(error) => return Err(error),
+        }
+        self.push_tagged_paragraph(body)
+    }
+
+    fn push_tagged_paragraph(&mut self, body: &Inlines<'_>) -> Result<(), HtmlError>
+        ensures { Prints self.old self.new (tagged (codes "p") (inline_html body.now)) result }
+    {
+        match self.push("<p>") {
+            Ok(()) => (),
+            Err(error) => return Err(error),
+        }
+        match self.push_inlines(body) {
+            Ok(()) => (),
+            Err(error) => return Err(error),
+        }
+        self.push("</p>\n")
+    }
+
+    /// Adds a heading.
+    pub(crate) fn push_heading(
+        &mut self,
+        alloc: Global,
+        links: &Links,
+        level: usize,
+        text: &str,
+    ) -> Result<(), HtmlError>
+        ensures { Reaches self.old self.new (heading_after level (prose links.now text.now) (written self.old)) result }
+    {
+        match read_inlines(alloc, text, links) {
+            Ok(body) => self.push_heading_of(level, &body),
+            Err(_) => Err(HtmlError::Memory),
+        }
+    }
+
+    fn push_heading_of(&mut self, level: usize, body: &Inlines<'_>) -> Result<(), HtmlError>
+        ensures { Reaches self.old self.new (heading_after level (inline_html body.now) (written self.old)) result }
+    {
+        match self.fresh_line() {
+            Ok(()) => (),
+            Err(error) => return Err(error),
+        }
+        self.push_tagged_heading(level, body)
+    }
+
+    fn push_tagged_heading(&mut self, level: usize, body: &Inlines<'_>) -> Result<(), HtmlError>
+        ensures { Prints self.old self.new (tagged (heading_name level) (inline_html body.now)) result }
+    {
+        match self.push_heading_tag("<h", level, ">") {
+            Ok(()) => (),
+            Err(error) => return Err(error),
+        }
+        match self.push_inlines(body) {
+            Ok(()) => (),
+            Err(error) => return Err(error),
+        }
+        self.push_heading_tag("</h", level, ">\n")
+    }
+
+    fn push_heading_tag(&mut self, start: &str, level: usize, end: &str) -> Result<(), HtmlError>
+        ensures { Prints self.old self.new (start.now ++ ((48 + level) ∷ end.now)) result }
+    {
+        // No heading has a level with more than one digit.
+        if level > 9 {
+            return Err(HtmlError::Memory);
+        }
+        match self.push(start) {
+            Ok(()) => (),
+            Err(error) => return Err(error),
+        }
+        match self.push_ascii(b'0' + level as u8) {
+            Ok(()) => (),
+            Err(error) => return Err(error),
+        }
+        self.push(end)
+    }
+}

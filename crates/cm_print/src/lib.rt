@@ -1,0 +1,23 @@
+//! Markdown as HTML.
+#![tactic(auto)]
+
+mod code_html;
+mod error;
+mod escape;
+mod escaping;
+mod inline_html;
+mod inline_place;
+mod leaf_html;
+mod level;
+mod list_html;
+mod printer;
+mod urls;
+mod writer;
+
+pub use error::HtmlError;
+pub use printer::to_html;
+
+#[cfg(test)]
+mod rows;
+#[cfg(test)]
+mod tests;
