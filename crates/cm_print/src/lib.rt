@@ -2,6 +2,7 @@
 #![tactic(auto)]
 
 mod code_html;
+mod convert;
 mod error;
 mod escape;
 mod escaping;
@@ -14,6 +15,7 @@ mod printer;
 mod urls;
 mod writer;
 
+pub use convert::{CommonMark, Convert};
 pub use error::HtmlError;
 pub use printer::to_html;
 
