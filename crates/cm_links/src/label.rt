@@ -117,8 +117,8 @@ fn label_len(text: &str) -> Option<usize>
     None
 }
 
-// At most 999 characters, one of which is not white space.
-fn is_label(text: &str) -> bool
+/// Whether a text is that of a label: at most 999 characters, one of which is not white space.
+pub fn is_label(text: &str) -> bool
     ensures { result ≡ grammar.is_label text.now }
 {
     is_short(text) && has_other(text)

@@ -18,7 +18,7 @@ pub use bytes::is_punctuation;
 pub use definitions::{LinkDef, definition};
 pub use destinations::destination;
 pub use gaps::{spaces, white_gap};
-pub use label::{fold_label, link_label};
+pub use label::{fold_label, is_label, link_label};
 pub use link_table::Links;
 pub use parts::LinkPart;
 pub use references::{CharRef, reference};

@@ -1,0 +1,12 @@
+use Rattle.std.proofs.Common.{[], length, ◌-◌}
+use Rattle.cm_inlines.specs.States.{GoesOn, Sound}
+use Rattle.cm_inlines.proofs.reading.read_inlines.Given as goal
+
+abbrev pub invariant-loop-at : goal.invariant-loop-at
+invariant-loop-at l = record {
+  sound : Sound l.text l.at l.nodes.items;
+  goes_on : GoesOn l.links l.text 0 [] l.at l.nodes.items;
+}
+
+abbrev pub decreases-loop-at : goal.decreases-loop-at
+decreases-loop-at l = length l.text - l.at

@@ -1,0 +1,16 @@
+//! The inlines of a text of Markdown: code spans, links, emphasis and what stands between them.
+#![tactic(auto)]
+
+mod changes;
+mod inlines;
+mod node;
+mod pairing;
+mod reading;
+mod targets;
+
+pub use inlines::Inlines;
+pub use node::{Node, Opening, Run, Target};
+pub use reading::read_inlines;
+
+#[cfg(test)]
+mod tests;

@@ -1,0 +1,264 @@
+// Inlines, read from left to right.
+ghost use Rattle.std.specs.Prelude.{◌≡◌, ◌+◌, ◌<◌, ◌≤◌, ◌-◌, ◌^◌, Some, [], ◌∷◌, ◌++◌, IfOk, IfSome, OnOk, drop, length, option_map, replicate, slice_get};
+ghost use Rattle.std.specs.Str.{IsCharBoundary};
+ghost use Rattle.markdown_grammar.specs.Reading.{inlines};
+ghost use Rattle.cm_inlines.specs.States.{Closes, Reads, Sound};
+ghost use Rattle.cm_inlines.specs.Targets.{reached_pair};
+ghost use Rattle.cm_inlines.specs.Steps.{closed_nodes, image_nodes, inside_paired, last_opening, link_nodes, opening_node, opening_of, reached_by, run_node, run_nodes, span_nodes, taken_by};
+ghost use Rattle.cm_inlines.specs.declared.node.Node.TheVariants.{Nothing};
+
+use crate::changes::{Change, change_between, put};
+use crate::inlines::Inlines;
+use crate::node::{Node, Opening, Run, Target};
+use crate::pairing::{Sought, last_place, pair_from};
+use crate::targets::{Reached, target_of};
+use cm_links::Links;
+use cm_spans::{Marks, Span, span_at};
+use site_base::Memory;
+use std::alloc::Global;
+
+/// The inlines of a text, where these definitions of links are known.
+pub fn read_inlines<'a>(alloc: Global, text: &'a str, links: &Links) -> Result<Inlines<'a>, Memory>
+    ensures { IfOk result (λ found. found ≡ inlines links.now text.now) }
+{
+    let mut nodes = Vec::new(alloc);
+    let mut at = 0;
+    while at < text.len() {
+        match read_piece(alloc, &mut nodes, text, at, links) {
+            Ok(n) => at += n,
+            Err(_) => return Err(Memory),
+        }
+    }
+    pair_from(&mut nodes, 0);
+    Ok(Inlines::from_nodes(nodes))
+}
+
+// The piece at a place: how many bytes it takes.
+fn read_piece<'a>(
+    alloc: Global,
+    nodes: &mut Vec<Node<'a>>,
+    text: &'a str,
+    at: usize,
+    links: &Links,
+) -> Result<usize, Memory>
+    requires inside { at < length text.now }
+    requires sound { Sound text.now at nodes.old.items }
+    ensures { IfOk result (λ n. Reads links.now text.now at nodes.old.items nodes.new.items n) }
+{
+    if text.as_bytes()[at] == b']' {
+        let n = close_bracket(alloc, nodes, text, at, links)?;
+        return Ok(n + 1);
+    }
+    let taken = span_at(text, at);
+    push_span(nodes, taken.span, at)?;
+    Ok(taken.len)
+}
+
+fn push_span<'a>(nodes: &mut Vec<Node<'a>>, span: Span<'a>, at: usize) -> Result<(), Memory>
+    requires { at + 2 < 2 ^ 64 }
+    ensures { OnOk result (nodes.new.items ≡ nodes.old.items ++ span_nodes span.entry at) }
+{
+    match span {
+        Span::Text(text) => push(nodes, Node::Text(text)),
+        Span::Character(c) => push(nodes, Node::Character(c)),
+        Span::SoftBreak => push(nodes, Node::SoftBreak),
+        Span::HardBreak => push(nodes, Node::HardBreak),
+        Span::Code(text) => push(nodes, Node::Code(text)),
+        Span::Html(text) => push(nodes, Node::Html(text)),
+        Span::Uri(text) => push(nodes, Node::Uri(text)),
+        Span::Email(text) => push(nodes, Node::Email(text)),
+        Span::Run(marks) => push_run(nodes, marks),
+        Span::Bracket => push_opening(nodes, false, at + 1),
+        Span::ImageBracket => push_opening(nodes, true, at + 2),
+    }
+}
+
+fn push<'a>(nodes: &mut Vec<Node<'a>>, node: Node<'a>) -> Result<(), Memory>
+    ensures { OnOk result (nodes.new.items ≡ nodes.old.items ++ node.entry ∷ []) }
+{
+    match nodes.push(node) {
+        Ok(()) => Ok(()),
+        Err(_) => Err(Memory),
+    }
+}
+
+fn push_opening<'a>(nodes: &mut Vec<Node<'a>>, is_image: bool, behind: usize) -> Result<(), Memory>
+    ensures { OnOk result (nodes.new.items ≡ nodes.old.items ++ opening_node is_image behind ∷ []) }
+{
+    let opening = Opening {
+        is_image,
+        is_active: true,
+        behind,
+    };
+    push(nodes, Node::Opening(opening))
+}
+
+// A run of marks, with a place for each that may come to open or close something.
+fn push_run<'a>(nodes: &mut Vec<Node<'a>>, marks: Marks) -> Result<(), Memory>
+    ensures { OnOk result (nodes.new.items ≡ nodes.old.items ++ run_nodes marks) }
+{
+    push(nodes, run_node(marks))?;
+    push_nothing(nodes, marks.len)
+}
+
+fn run_node<'a>(marks: Marks) -> Node<'a>
+    ensures { result ≡ run_node marks }
+{
+    Node::Run(Run {
+        mark: marks.mark,
+        len: marks.len,
+        first: marks.len,
+        opens: marks.opens,
+        closes: marks.closes,
+    })
+}
+
+// One place less than a run has marks.
+fn push_nothing<'a>(nodes: &mut Vec<Node<'a>>, len: usize) -> Result<(), Memory>
+    ensures { OnOk result (nodes.new.items ≡ nodes.old.items ++ replicate (len - 1) Nothing) }
+{
+    let mut left = len;
+    while left > 1 {
+        push(nodes, Node::Nothing)?;
+        left -= 1;
+    }
+    Ok(())
+}
+
+// A closing bracket: how many bytes behind it are taken.
+fn close_bracket<'a>(
+    alloc: Global,
+    nodes: &mut Vec<Node<'a>>,
+    text: &'a str,
+    at: usize,
+    links: &Links,
+) -> Result<usize, Memory>
+    requires bracket { slice_get text.now at ≡ Some 93 }
+    requires sound { Sound text.now at nodes.old.items }
+    ensures { IfOk result (λ n. Closes links.now text.now at nodes.old.items nodes.new.items n) }
+{
+    match last_opening(nodes.as_slice()) {
+        Some(found) => {
+            let reached = reached(alloc, text, at, links, found.opening)?;
+            close_at(nodes, found, reached)
+        }
+        None => {
+            push(nodes, Node::Character(']'))?;
+            Ok(0)
+        }
+    }
+}
+
+/// A bracket, and where it stands.
+#[derive(Clone, Copy)]
+struct Found {
+    place: usize,
+    opening: Opening,
+}
+
+// The last bracket that may begin a link or an image.
+fn last_opening(nodes: &[Node]) -> Option<Found>
+    ensures { result ≡ last_opening nodes.now }
+{
+    let place = last_place(nodes, Sought::Bracket)?;
+    let opening = opening_at(nodes, place)?;
+    Some(Found { place, opening })
+}
+
+fn opening_at(nodes: &[Node], place: usize) -> Option<Opening>
+    ensures { result ≡ opening_of (slice_get nodes.now place) }
+{
+    if place < nodes.len() {
+        opening_of(&nodes[place])
+    } else {
+        None
+    }
+}
+
+fn opening_of(node: &Node) -> Option<Opening>
+    ensures { result ≡ opening_of (Some node.now) }
+{
+    match node {
+        Node::Opening(opening) => Some(*opening),
+        _ => None,
+    }
+}
+
+// Where the brackets go that begin there and end here.
+fn reached(
+    alloc: Global,
+    text: &str,
+    at: usize,
+    links: &Links,
+    opening: Opening,
+) -> Result<Option<Reached>, Memory>
+    requires bracket { slice_get text.now at ≡ Some 93 }
+    requires order { opening.behind ≤ at }
+    requires start { IsCharBoundary text.now opening.behind }
+    requires end { IsCharBoundary text.now at }
+    ensures value { IfOk result (λ found. option_map reached_pair found ≡ reached_by links.now text.now at opening) }
+    ensures cut { IfOk result (λ found. IfSome found (λ reached. IsCharBoundary (drop (at + 1) text.now) reached.len)) }
+{
+    if opening.is_active {
+        target_of(alloc, links, &text[opening.behind..at], &text[at + 1..])
+    } else {
+        Ok(None)
+    }
+}
+
+// The brackets become a link or an image, or text.
+fn close_at<'a>(
+    nodes: &mut Vec<Node<'a>>,
+    found: Found,
+    reached: Option<Reached>,
+) -> Result<usize, Memory>
+    requires { found.place < length nodes.old.items }
+    ensures { IfOk result (λ n. (nodes.new.items ≡ closed_nodes found reached nodes.old.items) × (n ≡ taken_by reached)) }
+{
+    match reached {
+        Some(reached) => {
+            let len = reached.len;
+            if found.opening.is_image {
+                make_image(nodes, found.place, reached.target)?;
+            } else {
+                make_link(nodes, found.place, reached.target)?;
+            }
+            Ok(len)
+        }
+        None => {
+            put(nodes, found.place, Node::Bracket(found.opening.is_image));
+            push(nodes, Node::Character(']'))?;
+            Ok(0)
+        }
+    }
+}
+
+fn make_image<'a>(nodes: &mut Vec<Node<'a>>, place: usize, target: Target) -> Result<(), Memory>
+    requires { place < length nodes.old.items }
+    ensures { OnOk result (nodes.new.items ≡ image_nodes place target nodes.old.items) }
+{
+    pair_inside(nodes, place);
+    put(nodes, place, Node::OpenImage(target));
+    push(nodes, Node::CloseImage)
+}
+
+// No link stands in a link: the brackets before it open none.
+fn make_link<'a>(nodes: &mut Vec<Node<'a>>, place: usize, target: Target) -> Result<(), Memory>
+    requires { place < length nodes.old.items }
+    ensures { OnOk result (nodes.new.items ≡ link_nodes place target nodes.old.items) }
+{
+    pair_inside(nodes, place);
+    put(nodes, place, Node::OpenLink(target));
+    change_between(nodes, 0, place, Change::Calm);
+    push(nodes, Node::CloseLink)
+}
+
+// What stands behind a place is paired, and paired no more.
+fn pair_inside<'a>(nodes: &mut Vec<Node<'a>>, place: usize)
+    requires { place < length nodes.old.items }
+    ensures value { nodes.new.items ≡ inside_paired place nodes.old.items }
+{
+    pair_from(nodes, place + 1);
+    let end = nodes.len();
+    change_between(nodes, place + 1, end, Change::Freeze);
+}

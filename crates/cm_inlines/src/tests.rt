@@ -1,0 +1,174 @@
+// Inlines as the standard's examples have them.
+use crate::{Node, Target, read_inlines};
+use cm_links::{Links, definition};
+use std::alloc::{AllocError, Global};
+use std::test::Fail;
+
+fn push_target(out: &mut String, mark: &str, target: &Target) -> Result<(), AllocError> {
+    out.push_str(mark)?;
+    out.push_str(target.url.as_str())?;
+    match &target.title {
+        Some(title) => {
+            out.push('|')?;
+            out.push_str(title.as_str())?;
+        }
+        None => (),
+    }
+    out.push('>')
+}
+
+fn push_marks(out: &mut String, mark: u8, len: usize) -> Result<(), AllocError> {
+    for _ in 0..len {
+        out.push(mark as char)?;
+    }
+    Ok(())
+}
+
+fn push_between(out: &mut String, front: &str, text: &str, end: &str) -> Result<(), AllocError> {
+    out.push_str(front)?;
+    out.push_str(text)?;
+    out.push_str(end)
+}
+
+fn push_bracket(out: &mut String, is_image: bool) -> Result<(), AllocError> {
+    out.push_str(if is_image { "![" } else { "[" })
+}
+
+fn push_node(out: &mut String, node: &Node) -> Result<(), AllocError> {
+    match node {
+        Node::Text(text) => out.push_str(text),
+        Node::Character(c) => out.push(*c),
+        Node::SoftBreak => out.push('\n'),
+        Node::HardBreak => out.push_str("<br>"),
+        Node::Code(text) => push_between(out, "<code>", text, "</code>"),
+        Node::Html(text) => push_between(out, "{", text, "}"),
+        Node::Uri(text) => push_between(out, "<uri ", text, ">"),
+        Node::Email(text) => push_between(out, "<email ", text, ">"),
+        Node::OpenEmphasis => out.push_str("<em>"),
+        Node::CloseEmphasis => out.push_str("</em>"),
+        Node::OpenStrong => out.push_str("<strong>"),
+        Node::CloseStrong => out.push_str("</strong>"),
+        Node::OpenLink(target) => push_target(out, "<a ", target),
+        Node::CloseLink => out.push_str("</a>"),
+        Node::OpenImage(target) => push_target(out, "<img ", target),
+        Node::CloseImage => out.push_str("</img>"),
+        Node::Marks(mark, len) => push_marks(out, *mark, *len),
+        Node::Bracket(is_image) => push_bracket(out, *is_image),
+        Node::Run(run) => push_marks(out, run.mark, run.len),
+        Node::Opening(opening) => push_bracket(out, opening.is_image),
+        Node::Nothing => Ok(()),
+    }
+}
+
+fn known(alloc: Global) -> Result<Links, Fail> {
+    let mut links = Links::new(alloc);
+    for text in ["[foo]: /url 'title'", "[bar]: /bar", "[ref[]: /uri"] {
+        match definition(alloc, text)? {
+            Some(found) => links.add(alloc, found)?,
+            None => (),
+        }
+    }
+    Ok(links)
+}
+
+fn shown(alloc: Global, text: &str) -> Result<String, Fail> {
+    let links = known(alloc)?;
+    let mut out = String::new(alloc);
+    match read_inlines(alloc, text, &links) {
+        Ok(inlines) => {
+            for node in inlines.nodes() {
+                push_node(&mut out, node)?;
+            }
+        }
+        Err(_) => out.push_str("no memory")?,
+    }
+    Ok(out)
+}
+
+#[test]
+fn empty(rt: HostRuntime) -> Result<(), Fail> {
+    let links = Links::new(rt.alloc());
+    match read_inlines(rt.alloc(), "", &links) {
+        Ok(inlines) => assert_eq!(rt; inlines.nodes().len(), 0),
+        Err(_) => assert!(rt; false),
+    }
+    Ok(())
+}
+
+#[test]
+fn emphasis(rt: HostRuntime) -> Result<(), Fail> {
+    let rows = [
+        ("*foo bar*", "<em>foo bar</em>"),
+        ("a * foo bar*", "a * foo bar*"),
+        ("foo_bar_", "foo_bar_"),
+        ("foo*bar*", "foo<em>bar</em>"),
+        ("foo-_(bar)_", "foo-<em>(bar)</em>"),
+        ("**foo bar**", "<strong>foo bar</strong>"),
+        ("***foo***", "<em><strong>foo</strong></em>"),
+        ("*foo**bar*", "<em>foo**bar</em>"),
+        ("*foo**bar**baz*", "<em>foo<strong>bar</strong>baz</em>"),
+        ("***foo** bar*", "<em><strong>foo</strong> bar</em>"),
+        ("*foo **bar***", "<em>foo <strong>bar</strong></em>"),
+        ("foo***bar***baz", "foo<em><strong>bar</strong></em>baz"),
+        (
+            "foo******bar*********baz",
+            "foo<strong><strong><strong>bar</strong></strong></strong>***baz",
+        ),
+        ("**foo*", "*<em>foo</em>"),
+        ("*foo**", "<em>foo</em>*"),
+        ("****foo*", "***<em>foo</em>"),
+        ("*foo _bar* baz_", "<em>foo _bar</em> baz_"),
+        ("**foo **bar baz**", "**foo <strong>bar baz</strong>"),
+        ("*\u{a0}a\u{a0}*", "*\u{a0}a\u{a0}*"),
+    ];
+    for (text, html) in rows {
+        assert_eq!(rt; shown(rt.alloc(), text)?.as_str(), html);
+    }
+    Ok(())
+}
+
+#[test]
+fn links(rt: HostRuntime) -> Result<(), Fail> {
+    let rows = [
+        ("[link](/uri \"title\")", "<a /uri|title>link</a>"),
+        ("[link]()", "<a >link</a>"),
+        ("[link](</my uri>)", "<a /my uri>link</a>"),
+        ("[link](/my uri)", "[link](/my uri)"),
+        ("[link](foo(and(bar)))", "<a foo(and(bar))>link</a>"),
+        ("[a [b](c) d](e)", "[a <a c>b</a> d](e)"),
+        ("![a [b](c) d](e)", "<img e>a <a c>b</a> d</img>"),
+        ("[a ![b](c) d](e)", "<a e>a <img c>b</img> d</a>"),
+        ("*foo [bar* baz]", "<em>foo [bar</em> baz]"),
+        ("*foo [bar*](u)", "*foo <a u>bar*</a>"),
+        ("[foo`](/uri)`", "[foo<code>](/uri)</code>"),
+        ("[Foo]", "<a /url|title>Foo</a>"),
+        ("[foo][]", "<a /url|title>foo</a>"),
+        ("[x][foo]", "<a /url|title>x</a>"),
+        ("[foo][bar]", "<a /bar>foo</a>"),
+        ("[foo][baz]", "[foo][baz]"),
+        ("[foo](not a link)", "<a /url|title>foo</a>(not a link)"),
+        ("![foo]", "<img /url|title>foo</img>"),
+        ("\\[foo]", "[foo]"),
+    ];
+    for (text, html) in rows {
+        assert_eq!(rt; shown(rt.alloc(), text)?.as_str(), html);
+    }
+    Ok(())
+}
+
+#[test]
+fn spans(rt: HostRuntime) -> Result<(), Fail> {
+    let rows = [
+        ("`` foo ` bar ``", "<code>foo ` bar</code>"),
+        ("`foo`bar`", "<code>foo</code>bar`"),
+        ("<http://a.b>c", "<uri http://a.b>c"),
+        ("<a@b.c>", "<email a@b.c>"),
+        ("a<b c='d'>", "a{<b c='d'>}"),
+        ("a  \nb\nc\\\nd", "a<br>b\nc<br>d"),
+        ("&amp;\\*&x;", "&*&x;"),
+    ];
+    for (text, html) in rows {
+        assert_eq!(rt; shown(rt.alloc(), text)?.as_str(), html);
+    }
+    Ok(())
+}
