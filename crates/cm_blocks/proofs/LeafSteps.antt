@@ -23,7 +23,7 @@ ended-append (x ∷ xs) ys = ap (λ (t : List ℕ). x ++ 10 ∷ t) (ended-append
 one_ended : (xs : List (List ℕ)) (u : List ℕ) → ended_lines xs ++ ended u ≡ ended_lines (xs ++ u ∷ [])
 one_ended xs u = sym (ended-append xs (u ∷ []))
 
-take_front : (x y : List ℕ) (n : ℕ) → take (length x + n) (x ++ y) ≡ x ++ take n y
+pub take_front : (x y : List ℕ) (n : ℕ) → take (length x + n) (x ++ y) ≡ x ++ take n y
 take_front [] y n = ap (λ (k : ℕ). take k y) (omega arith)
 take_front (c ∷ cs) y n =
     let e : suc (length cs) + n ≡ suc (length cs + n) = omega arith in

@@ -12,4 +12,5 @@ mod LineLaws
 mod WalkedText
 mod MadeLaws
 mod LinkLaws
+mod ProseLaws
 mod HtmlLaws

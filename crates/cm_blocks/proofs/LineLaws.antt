@@ -118,7 +118,7 @@ run_front p (c ∷ cs) m = go (p c) refl (run_front p cs m) where
       ap (λ (n : ℕ). run_len p (take n (c ∷ cs))) e ∙ ap (λ (b : Bool). elim b as (λ x. ℕ) [ true ↦ suc (run_len p (take (run_len p cs + m) cs)) | false ↦ 0 ]) h ∙ ap (λ (n : ℕ). suc n) q
   go false h q = none (0 + m) h
 
-take_both : (n m : ℕ) (t : List ℕ) → take n (take (n + m) t) ≡ take n t
+pub take_both : (n m : ℕ) (t : List ℕ) → take n (take (n + m) t) ≡ take n t
 take_both zero m t = refl
 take_both (suc n) m [] = let e : suc n + m ≡ suc (n + m) = omega arith in ap (λ (k : ℕ). take (suc n) (take k [])) e
 take_both (suc n) m (c ∷ cs) = let e : suc n + m ≡ suc (n + m) = omega arith in ap (λ (k : ℕ). take (suc n) (take k (c ∷ cs))) e ∙ ap (λ (t : List ℕ). c ∷ t) (take_both n m cs)

@@ -1,5 +1,6 @@
 // The lines of a leaf as one text.
-ghost use Rattle.std.specs.Prelude.{◌≡◌, ◌++◌, [], IfOk, length, replicate};
+ghost use Rattle.std.specs.Prelude.{◌≡◌, ◌++◌, [], IfOk, length, replicate, take};
+ghost use Rattle.std.specs.Str.{IsCharBoundary};
 ghost use Rattle.markdown_grammar.specs.Columns.{tab_width};
 ghost use Rattle.cm_containers.specs.Spots.{IsSpot, text_at};
 ghost use Rattle.cm_blocks.specs.LineTexts.{ended, unended};
@@ -12,18 +13,19 @@ use std::marker::Model;
 /// Lines with a line end behind each.
 #[derive(Drop)]
 pub struct LeafLines {
-    text: Text,
+    text: String,
 }
 
 impl Model for LeafLines {
     ghost use Rattle.std.specs.Prelude.{List, ℕ};
+    ghost use Rattle.std.specs.String.{string_bytes};
     ghost use Rattle.cm_blocks.specs.LineTexts.{EndsLine};
 
     ghost Value = { List ℕ };
 
-    ghost view = { λ lines. lines.text };
+    ghost view = { λ lines. string_bytes lines.text };
 
-    ghost invariant = { λ lines. EndsLine lines.text };
+    ghost invariant = { λ lines. EndsLine (string_bytes lines.text) };
 }
 
 impl LeafLines {
@@ -32,7 +34,7 @@ impl LeafLines {
         ensures { result ≡ [] }
     {
         LeafLines {
-            text: Text::new(alloc),
+            text: String::new(alloc),
         }
     }
 
@@ -65,7 +67,17 @@ impl LeafLines {
         ensures { result ≡ self }
     {
         let LeafLines { text } = self;
-        text
+        Text::from_string(text)
+    }
+
+    /// The first bytes as a text; it takes no memory.
+    pub(crate) fn into_front(self, count: usize) -> Text
+        requires { IsCharBoundary self count }
+        ensures { result ≡ take count self }
+    {
+        let LeafLines { mut text } = self;
+        text.truncate(count);
+        Text::from_string(text)
     }
 
     /// The lines, and other lines behind them.
@@ -82,6 +94,7 @@ impl LeafLines {
         ensures { IfOk result (λ lines. lines ≡ self ++ ended line.now) }
     {
         let LeafLines { mut text } = self;
+        text.reserve(line.len() + 1)?;
         text.push_str(line)?;
         text.push_str("\n")?;
         Ok(LeafLines { text })

@@ -10,7 +10,7 @@ use crate::kinds::{Leaf, Token};
 use crate::leaf_lines::LeafLines;
 use crate::leaf_more::behind_definitions;
 use crate::node::Node;
-use cm_links::{Links, definition};
+use cm_links::{Links, definition, spaces};
 use cm_starts::trim;
 use site_base::{Memory, Text};
 use std::alloc::Global;
@@ -20,10 +20,10 @@ pub(crate) fn leaf_node(alloc: Global, leaf: Leaf) -> Result<Option<Node>, Memor
     ensures { IfOk result (λ found. option_to_list found ≡ nodes_in leaf) }
 {
     match leaf {
-        Leaf::Paragraph { text } => paragraph(alloc, &text),
+        Leaf::Paragraph { text } => paragraph(alloc, text),
         Leaf::Underlined { level, text } => Ok(Some(Node::Heading {
             level: level as usize,
-            text: prose(alloc, &text)?,
+            text: prose(alloc, text)?,
         })),
         Leaf::Heading { level, text } => Ok(Some(Node::Heading { level, text })),
         Leaf::Break => Ok(Some(Node::Break)),
@@ -41,8 +41,8 @@ pub(crate) fn leaf_node(alloc: Global, leaf: Leaf) -> Result<Option<Node>, Memor
     }
 }
 
-fn paragraph(alloc: Global, lines: &LeafLines) -> Result<Option<Node>, Memory>
-    ensures { IfOk result (λ found. option_to_list found ≡ (if is_empty (prose_of lines.now) then [] else node.Paragraph (prose_of lines.now) ∷ [])) }
+fn paragraph(alloc: Global, lines: LeafLines) -> Result<Option<Node>, Memory>
+    ensures { IfOk result (λ found. option_to_list found ≡ (if is_empty (prose_of lines) then [] else node.Paragraph (prose_of lines) ∷ [])) }
 {
     let text = prose(alloc, lines)?;
     if text.len() == 0 {
@@ -51,12 +51,19 @@ fn paragraph(alloc: Global, lines: &LeafLines) -> Result<Option<Node>, Memory>
     Ok(Some(Node::Paragraph { text }))
 }
 
-// The text of a paragraph behind its definitions, without white space at its ends.
-fn prose(alloc: Global, lines: &LeafLines) -> Result<Text, Memory>
-    ensures { IfOk result (λ text. text ≡ prose_of lines.now) }
+// The text of a paragraph behind its definitions, without white space at its ends. It is copied only
+// where something stands before it.
+fn prose(alloc: Global, lines: LeafLines) -> Result<Text, Memory>
+    ensures { IfOk result (λ text. text ≡ prose_of lines) }
 {
+    let all = lines.as_str();
     let rest = behind_definitions(alloc, lines.inside())?;
-    Text::copy(alloc, trim(rest))
+    let text = trim(rest);
+    if rest.len() + 1 == all.len() && spaces(rest) == 0 {
+        let count = text.len();
+        return Ok(lines.into_front(count));
+    }
+    Text::copy(alloc, text)
 }
 
 /// Whether a leaf has read blank lines that are none of its own.
