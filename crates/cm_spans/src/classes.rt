@@ -1,6 +1,7 @@
 // Classes of bytes in inlines, and the runs of them at the front of a text.
 ghost use Rattle.std.specs.Prelude.{◌≡◌, ◌≤◌, length};
 ghost use Rattle.markdown_grammar.specs.Fronts.{run_len};
+ghost use Rattle.markdown_grammar.specs.Spans.{is_special};
 ghost use Rattle.cm_spans.specs.Classes.{is_in};
 
 use cm_starts::{is_alnum, is_one_of};
@@ -35,6 +36,15 @@ fn is_of(class: Class, c: u8) -> bool
         Class::Address => !(c == b' ' || (c < 32 || c == 127 || is_one_of(b"<>", c))),
         Class::Mailbox => is_alnum(c) || is_one_of(b".!#$%&'*+/=?^_`{|}~-", c),
         Class::Host => is_alnum(c) || c == b'-',
-        Class::Textual => !is_one_of(b"\\&`<*_![] \n", c),
+        Class::Textual => !is_special(c),
     }
+}
+
+fn is_special(c: u8) -> bool
+    ensures { result ≡ is_special c }
+{
+    matches!(
+        c,
+        b'\\' | b'&' | b'`' | b'<' | b'*' | b'_' | b'!' | b'[' | b']' | b' ' | b'\n'
+    )
 }
