@@ -1,6 +1,7 @@
-mod Texts
-mod Steps
-mod Shifting
-mod Entering
-mod Walking
+pub mod Texts
+pub mod Steps
+pub mod Shifting
+pub mod Entering
+pub mod Walking
+pub mod WhiteSpace
 mod Rows

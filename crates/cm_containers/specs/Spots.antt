@@ -1,8 +1,9 @@
 -- Places in a line, and how a place goes further.
-use Rattle.std.specs.Prelude.{◌≡◌, List, None, Option, Some, if◌then◌else◌, length, slice_index, suc, take, ℕ, ◌+◌, ◌*◌, ◌%◌, ◌<◌, ◌==◌, ◌≤◌}
+use Rattle.std.specs.Prelude.{◌≡◌, List, None, Option, Some, if◌then◌else◌, drop, length, slice_index, suc, take, ℕ, ◌+◌, ◌*◌, ◌%◌, ◌<◌, ◌==◌, ◌≤◌}
 use Rattle.std.specs.Str.{IsCharBoundary}
-use Rattle.markdown_grammar.specs.Columns.{Line, own_line, shifted, tab_width}
+use Rattle.markdown_grammar.specs.Columns.{Line, indent, own_line, shifted, tab_width}
 use Rattle.markdown_grammar.specs.Extents.{Entry, goes_in, goes_in_if_filled, goes_in_if_open, stays_out}
+use Rattle.markdown_grammar.specs.Lines.{trim_front}
 use Rattle.cm_containers.specs.Rests.{column_behind, text_from}
 use Rattle.cm_containers.specs.declared.spots.Spot.{Spot}
 
@@ -23,6 +24,13 @@ pub record IsSpot (line : List ℕ) (s : Spot) : Type 0 where
   pub near : s.column < s.start + 4
   pub cut : IsCharBoundary line s.at
   pub in_tab : s.start < s.column → (s.at < length line) × (slice_index line s.at ≡ 9) × (s.column < s.start + tab_width s.start)
+
+-- a place stands behind all white space that follows another
+pub record BehindWhite (line : List ℕ) (s t : Spot) : Type 0 where
+  pub spot : IsSpot line t
+  pub column : t.column ≡ s.column + indent s.column (text_at line s)
+  pub rest : drop t.at line ≡ trim_front (text_at line s)
+  pub whole : t.start ≡ t.column
 
 -- one column of the tab at a place is taken
 abbrev pub further_in_tab : Spot → Spot

@@ -6,7 +6,8 @@ mod matching;
 mod spots;
 
 pub use kinds::{Container, Matched};
-pub use matching::match_line;
+pub use matching::{enter_item, enter_quote, match_line};
+pub use spots::{Spot, behind, behind_white, shift};
 
 #[cfg(test)]
 mod tests;

@@ -60,8 +60,9 @@ fn enter(line: &str, spot: Spot, held: Container) -> Option<Spot>
     }
 }
 
-// Behind `>` and one space, which may be left out.
-fn enter_quote(line: &str, spot: Spot) -> Option<Spot>
+/// The place inside a block quote, where the rest of a line goes on with it: behind up to three columns
+/// of white space, `>`, and one space, which may be left out. CommonMark 0.31.2, section 5.1.
+pub fn enter_quote(line: &str, spot: Spot) -> Option<Spot>
     requires { IsSpot line.now spot }
     ensures rest { option_map (rest_at line.now) result ≡ kept_line (grammar.entry grammar.block_quote (rest_at line.now spot)) }
     ensures inside { IfSome result (IsSpot line.now) }
@@ -74,8 +75,9 @@ fn enter_quote(line: &str, spot: Spot) -> Option<Spot>
     Some(shift(line, behind(mark.at, mark.column), 1))
 }
 
-// Behind white space as wide as an item's indent, or at the end of a blank line.
-fn enter_item(line: &str, spot: Spot, indent: u128) -> Option<Spot>
+/// The place inside a list item, where the rest of a line goes on with it: behind white space as wide as
+/// the item's indent, or on a blank line. CommonMark 0.31.2, section 5.2.
+pub fn enter_item(line: &str, spot: Spot, indent: u128) -> Option<Spot>
     requires { IsSpot line.now spot }
     ensures rest { option_map (rest_at line.now) result ≡ kept_line (grammar.item_entry indent spot.column (text_at line.now spot)) }
     ensures inside { IfSome result (IsSpot line.now) }

@@ -1,19 +1,19 @@
 // Places in a line, by byte and column.
 ghost use Rattle.std.specs.Prelude.{◌≡◌, ◌<◌, ◌^◌, ◌+◌};
 ghost use Rattle.markdown_grammar.specs.Columns.{shifted};
-ghost use Rattle.cm_containers.specs.Spots.{IsSpot, TakesColumn, further_in_tab, rest_at, text_at};
+ghost use Rattle.cm_containers.specs.Spots.{BehindWhite, IsSpot, TakesColumn, further_in_tab, rest_at, text_at};
 
 /// A place in a line: a byte, its column, and the column up to which it is taken, which lies behind
 /// that of the byte only where this is a tab.
 #[derive(Clone, Copy)]
-pub(crate) struct Spot {
-    pub(crate) at: usize,
-    pub(crate) start: u128,
-    pub(crate) column: u128,
+pub struct Spot {
+    pub at: usize,
+    pub start: u128,
+    pub column: u128,
 }
 
-/// The place behind up to so many columns of white space.
-pub(crate) fn shift(line: &str, from: Spot, columns: u128) -> Spot
+/// The place behind up to so many columns of white space. CommonMark 0.31.2, section 2.2.
+pub fn shift(line: &str, from: Spot, columns: u128) -> Spot
     requires { IsSpot line.now from }
     ensures rest { rest_at line.now result ≡ shifted columns from.column (text_at line.now from) }
     ensures spot { IsSpot line.now result }
@@ -32,6 +32,15 @@ pub(crate) fn shift(line: &str, from: Spot, columns: u128) -> Spot
     spot
 }
 
+/// The place behind all white space.
+pub fn behind_white(line: &str, from: Spot) -> Spot
+    requires { IsSpot line.now from }
+    ensures { BehindWhite line.now from result }
+{
+    let more_than_all = line.len() as u128 * 4 + 8;
+    shift(line, from, more_than_all)
+}
+
 // One column further, where white space stands.
 fn next_column(line: &str, spot: Spot) -> Option<Spot>
     requires { IsSpot line.now spot }
@@ -48,8 +57,8 @@ fn next_column(line: &str, spot: Spot) -> Option<Spot>
     }
 }
 
-// Behind a byte of one column.
-pub(crate) fn behind(at: usize, column: u128) -> Spot
+/// The place behind a byte of one column that stands at a place.
+pub fn behind(at: usize, column: u128) -> Spot
     requires room { at < 2 ^ 63 }
     requires small { column < 2 ^ 66 }
     ensures { result ≡ record { at = at + 1; start = column + 1; column = column + 1 } }

@@ -4,4 +4,5 @@ pub mod Boundaries
 pub mod ResolvingLaws
 pub mod Bare
 pub mod Measuring
+pub mod EndLaws
 pub mod TableLaws

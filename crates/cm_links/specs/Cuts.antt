@@ -19,3 +19,13 @@ pub record IsLabelled (text : List ℕ) (n : ℕ) : Type 0 where
   pub start : IsCharBoundary text 1
   pub inside : IsCharBoundary (drop 1 text) (n - 2)
   pub end : IsCharBoundary text n
+
+-- n bytes before a text, and more of the text itself, up to a place where it may be cut
+pub record IsEnd (n : ℕ) (text : List ℕ) (end : ℕ) : Type 0 where
+  pub behind : n ≤ end
+  pub cut : IsCharBoundary text (end - n)
+
+-- a text may be cut behind bytes at its front, which are not none
+pub record IsFront (text : List ℕ) (end : ℕ) : Type 0 where
+  pub some : 0 < end
+  pub cut : IsCharBoundary text end

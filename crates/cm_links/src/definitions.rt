@@ -3,7 +3,7 @@ ghost use Rattle.std.specs.Prelude.{◌≡◌, ◌+◌, ◌≤◌, ◌<◌, ◌^
 ghost use Rattle.std.specs.Str.{IsCharBoundary};
 ghost use Rattle.markdown_grammar.specs.Definitions as grammar;
 ghost use Rattle.cm_links.specs.Answers.{link_part, link_def};
-ghost use Rattle.cm_links.specs.Cuts.{IsLabelled};
+ghost use Rattle.cm_links.specs.Cuts.{IsEnd, IsFront, IsLabelled};
 
 use crate::destinations::destination;
 use crate::gaps::{begins, line_rest, white_gap};
@@ -25,7 +25,8 @@ pub struct LinkDef {
 
 /// The link reference definition at the front of a paragraph's text, or none where none stands there.
 pub fn definition(alloc: Global, text: &str) -> Result<Option<LinkDef>, Memory>
-    ensures { IfOk result (λ found. found ≡ option_map link_def (grammar.front_definition text.now)) }
+    ensures value { IfOk result (λ found. found ≡ option_map link_def (grammar.front_definition text.now)) }
+    ensures cut { IfOk result (λ found. IfSome found (λ definition. IsFront text.now definition.end)) }
 {
     match link_label(text) {
         Some(n) => behind_label(alloc, text, n),
@@ -36,7 +37,8 @@ pub fn definition(alloc: Global, text: &str) -> Result<Option<LinkDef>, Memory>
 // Behind a label of n bytes.
 fn behind_label(alloc: Global, text: &str, n: usize) -> Result<Option<LinkDef>, Memory>
     requires { IsLabelled text.now n }
-    ensures { IfOk result (λ found. found ≡ option_map link_def (grammar.behind_label text.now n)) }
+    ensures value { IfOk result (λ found. found ≡ option_map link_def (grammar.behind_label text.now n)) }
+    ensures cut { IfOk result (λ found. IfSome found (λ definition. IsFront text.now definition.end)) }
 {
     let rest = &text[n..];
     if begins(rest, b':') {
@@ -50,7 +52,8 @@ fn behind_label(alloc: Global, text: &str, n: usize) -> Result<Option<LinkDef>, 
 // Behind the colon, where n bytes stand.
 fn pointing(alloc: Global, label: &str, n: usize, text: &str) -> Result<Option<LinkDef>, Memory>
     requires { n + length text.now < 2 ^ 63 }
-    ensures { IfOk result (λ found. found ≡ option_map link_def (grammar.pointing label.now n text.now)) }
+    ensures value { IfOk result (λ found. found ≡ option_map link_def (grammar.pointing label.now n text.now)) }
+    ensures cut { IfOk result (λ found. IfSome found (λ definition. IsEnd n text.now definition.end)) }
 {
     let gap = white_gap(text);
     let rest = &text[gap..];
@@ -69,7 +72,8 @@ fn titled(
     text: &str,
 ) -> Result<Option<LinkDef>, Memory>
     requires { n + length text.now < 2 ^ 63 }
-    ensures { IfOk result (λ found. found ≡ option_map link_def (grammar.titled label.now url n text.now)) }
+    ensures value { IfOk result (λ found. found ≡ option_map link_def (grammar.titled label.now url n text.now)) }
+    ensures cut { IfOk result (λ found. IfSome found (λ definition. IsEnd n text.now definition.end)) }
 {
     match line_title(alloc, text)? {
         Some(title) => Ok(Some(LinkDef {
@@ -91,7 +95,8 @@ fn untitled(
     text: &str,
 ) -> Result<Option<LinkDef>, Memory>
     requires { n + length text.now < 2 ^ 63 }
-    ensures { IfOk result (λ found. found ≡ option_map link_def (grammar.untitled label.now url n text.now)) }
+    ensures value { IfOk result (λ found. found ≡ option_map link_def (grammar.untitled label.now url n text.now)) }
+    ensures cut { IfOk result (λ found. IfSome found (λ definition. IsEnd n text.now definition.end)) }
 {
     match line_rest(text) {
         Some(rest) => Ok(Some(LinkDef {
@@ -108,6 +113,7 @@ fn untitled(
 fn line_title(alloc: Global, text: &str) -> Result<Option<LinkPart>, Memory>
     ensures value { IfOk result (λ found. found ≡ option_map link_part (grammar.line_title text.now)) }
     ensures within { IfOk result (λ found. IfSome found (λ title. title.len ≤ length text.now)) }
+    ensures cut { IfOk result (λ found. IfSome found (λ title. IsCharBoundary text.now title.len)) }
 {
     let gap = white_gap(text);
     if gap == 0 {
@@ -121,6 +127,7 @@ fn title_behind(alloc: Global, gap: usize, text: &str) -> Result<Option<LinkPart
     requires { gap + length text.now < 2 ^ 63 }
     ensures value { IfOk result (λ found. found ≡ option_map link_part (grammar.title_behind gap text.now)) }
     ensures within { IfOk result (λ found. IfSome found (λ title. title.len ≤ gap + length text.now)) }
+    ensures cut { IfOk result (λ found. IfSome found (λ title. IsEnd gap text.now title.len)) }
 {
     match link_title(alloc, text)? {
         Some(title) => Ok(ending_line(gap, title, text)),
@@ -133,6 +140,7 @@ fn ending_line(gap: usize, title: LinkPart, text: &str) -> Option<LinkPart>
     requires cut { IsCharBoundary text.now title.len }
     ensures value { result ≡ option_map (λ k. record { text = title.text; len = gap + title.len + k }) (grammar.line_rest (drop title.len text.now)) }
     ensures within { IfSome result (λ ended. ended.len ≤ gap + length text.now) }
+    ensures cut { IfSome result (λ ended. IsEnd gap text.now ended.len) }
 {
     let rest = line_rest(&text[title.len..])?;
     Some(LinkPart {

@@ -75,7 +75,7 @@ pub(crate) fn is_apart(text: &str) -> bool
 }
 
 /// A text without the spaces and tabs at both ends.
-pub(crate) fn trim(text: &str) -> &str
+pub fn trim(text: &str) -> &str
     ensures { result.now ≡ lines.trim text.now }
 {
     let front = spaces(text);

@@ -1,9 +1,9 @@
 -- Records, one after another, and their fields.
-use Rattle.std.proofs.Common.{◌≡◌, ℕ, zero, suc, ◌+◌, ◌<◌, ◌≤◌, ◌==◌, true, cond, List, [], ◌∷◌, drop, length, get_or, add-one, drop-cons, Some, None, refl, ap, sym, ◌∙◌, eq-eqb, map, arith}
+use Rattle.std.proofs.Common.{◌≡◌, ℕ, zero, suc, ◌+◌, ◌<◌, ◌≤◌, ◌==◌, cond, List, [], ◌∷◌, drop, length, get_or, add-one, drop-cons, Some, None, refl, ap, ◌∙◌, eq-eqb, map, arith}
 use Rattle.std.proofs.lemmas.List.{drop_all}
-use Rattle.std.specs.Prelude.{Option, option_map}
+use Rattle.std.specs.Prelude.{option_map}
 use Rattle.csv.specs.Records.{Row, fields_of, field_at}
-use Rattle.site_base.specs.Plain.{Plain, text, hash, Items, no_items, item, Pairs, no_pairs, onto, set}
+use Rattle.site_base.specs.Plain.{hash, Items, no_items, item, Pairs, no_pairs, onto}
 use Rattle.data_files.specs.Tables.{fill, hashes, with_field}
 use Rattle.data_files.proofs.JsonLaws.{map_onto, onto_nothing}
 

@@ -2,8 +2,6 @@
 use Rattle.std.specs.Prelude.{◌≡◌, ℕ, List, Option, Some, None, option_and_then, option_map}
 use Rattle.site_base.specs.Plain.{Plain, nil, bool, int, text, list, hash, no_pairs, set}
 use Rattle.site_base.specs.Plain as plain
-use Rattle.site_base.specs.View as view
-use Rattle.site_base.specs.declared.value.Value.{Value}
 use Rattle.serde_json.specs.Data.{Data, null, boolean, number, string, array, object, Items, no_items, item, Members, no_members, member}
 use Rattle.serde_json.specs.Find.{as_i64}
 use Rattle.serde_json.specs.Read.{read}

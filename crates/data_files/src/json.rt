@@ -20,36 +20,36 @@ pub fn read_json(alloc: Global, text: &str) -> Result<Value, Refusal>
         (λ error. IsRefused error (json text.now)) }
 {
     match serde_json::Value::from_str(alloc, text) {
-        Ok(value) => value_of(alloc, &value),
+        Ok(value) => value_of(alloc, value),
         Err(error) if error.is_memory() => Err(Refusal::Memory),
         Err(_) => Err(Refusal::Refused),
     }
 }
 
 #[cycle(json)]
-fn value_of(alloc: Global, value: &serde_json::Value) -> Result<Value, Refusal>
+fn value_of(alloc: Global, value: serde_json::Value) -> Result<Value, Refusal>
     ensures { MatchResult result
-        (λ made. of_data (view value.now) ≡ Some (plain made))
-        (λ error. IsRefused error (of_data (view value.now))) }
+        (λ made. of_data (view value) ≡ Some (plain made))
+        (λ error. IsRefused error (of_data (view value))) }
 {
     match value {
         serde_json::Value::Null => Ok(Value::Nil),
-        serde_json::Value::Bool(is_set) => Ok(Value::Bool(*is_set)),
+        serde_json::Value::Bool(is_set) => Ok(Value::Bool(is_set)),
         serde_json::Value::Number(number) => match number.as_i64() {
             Some(number) => Ok(Value::Int(number)),
             None => Err(Refusal::Refused),
         },
-        serde_json::Value::String(text) => Ok(Value::Text(Text::copy(alloc, text.as_str())?)),
-        serde_json::Value::Array(items) => Ok(Value::List(list_of(alloc, items.as_slice())?)),
+        serde_json::Value::String(text) => Ok(Value::Text(Text::from_string(text))),
+        serde_json::Value::Array(items) => Ok(Value::List(list_of(alloc, items)?)),
         serde_json::Value::Object(members) => Ok(Value::Hash(hash_of(alloc, members)?)),
     }
 }
 
 #[cycle(json)]
-fn list_of(alloc: Global, items: &[serde_json::Value]) -> Result<List, Refusal>
+fn list_of(alloc: Global, items: Vec<serde_json::Value>) -> Result<List, Refusal>
     ensures { MatchResult result
-        (λ list. of_items (items_view items.now) ≡ Some list)
-        (λ error. IsRefused error (of_items (items_view items.now))) }
+        (λ list. of_items (items_view items.items) ≡ Some list)
+        (λ error. IsRefused error (of_items (items_view items.items))) }
 {
     let mut list = List::new(alloc);
     for item in items {
@@ -61,15 +61,15 @@ fn list_of(alloc: Global, items: &[serde_json::Value]) -> Result<List, Refusal>
 #[cycle(json)]
 fn hash_of(
     alloc: Global,
-    members: &serde_json::Map<String, serde_json::Value>,
+    members: serde_json::Map<String, serde_json::Value>,
 ) -> Result<Hash, Refusal>
     ensures { MatchResult result
-        (λ hash. set_members (members_view members.now.entries) no_pairs ≡ Some hash)
-        (λ error. IsRefused error (set_members (members_view members.now.entries) no_pairs)) }
+        (λ hash. set_members (members_view members.entries) no_pairs ≡ Some hash)
+        (λ error. IsRefused error (set_members (members_view members.entries) no_pairs)) }
 {
     let mut hash = GrowingHash::new(alloc);
-    for (key, value) in members.iter() {
-        hash.set(Text::copy(alloc, key.as_str())?, value_of(alloc, value)?)?;
+    for (key, value) in members {
+        hash.set(Text::from_string(key), value_of(alloc, value)?)?;
     }
     Ok(hash.finish())
 }

@@ -8,3 +8,4 @@ pub mod TokenLoop
 pub mod Wholes
 pub mod SpanLaws
 pub mod NameLaws
+pub mod BracePlaces

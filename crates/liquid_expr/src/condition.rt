@@ -9,7 +9,7 @@ use crate::ahead::{behind, comparison, is_assign, joint, word_at};
 use crate::reading::{FromTokens, Repeats, many};
 use crate::stop::Stop;
 use crate::token::Token;
-use liquid_grammar::{Condition, Expr, Joined, Operand, Parameter, Params, Test};
+use liquid_grammar::{Boxed, Condition, Expr, Joined, Operand, Parameter, Params, Test};
 use site_base::Text;
 use std::alloc::Global;
 
@@ -21,6 +21,7 @@ fn compared(alloc: Global, first: Operand, tokens: &[Token]) -> Result<(Test, us
     match comparison(tokens) {
         Some(how) => {
             let (second, len) = Operand::read(alloc, behind(tokens, 1))?;
+            let second = Boxed::new(alloc, second)?;
             Ok((Test::Compares(first, how, second), 1 + len))
         }
         None => Ok((Test::Holds(first), 0)),

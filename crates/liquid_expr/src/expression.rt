@@ -9,12 +9,34 @@ use crate::operand::operand;
 use crate::reading::{FromTokens, Repeats, many};
 use crate::stop::Stop;
 use crate::token::Token;
-use liquid_grammar::{Expr, Filter, Operand, Several};
+use liquid_grammar::{Expr, Filter, Mark, Operand, Several};
 use site_base::Text;
 use std::alloc::Global;
 
 /// No more brackets than these may be open.
 const MOST_BRACKETS: u32 = 100;
+
+// How many steps the operand at the front has, or somewhat more: as many as its names, literals and brackets, which no mark
+// of a filter, a comparison or a list stands between.
+fn step_count(tokens: &[Token]) -> usize {
+    tokens
+        .iter()
+        .take_while(|token| !ends_operand(token))
+        .filter(|token| makes_step(token))
+        .count()
+}
+
+fn ends_operand(token: &Token) -> bool {
+    matches!(
+        token,
+        Token::Mark(Mark::Bar | Mark::Colon | Mark::Comma | Mark::Assign | Mark::Compare(_))
+    )
+}
+
+fn makes_step(token: &Token) -> bool {
+    !matches!(token, Token::Mark(_))
+        || matches!(token, Token::Mark(Mark::OpenBracket | Mark::OpenRange))
+}
 
 impl FromTokens for Operand {
     type Value = Operand;
@@ -22,7 +44,7 @@ impl FromTokens for Operand {
     ghost reading = { operand };
 
     fn read(alloc: Global, tokens: &[Token]) -> Result<(Operand, usize), Stop> {
-        let mut steps = Vec::new(alloc);
+        let mut steps = Vec::with_capacity(alloc, step_count(tokens))?;
         let len = operand(alloc, tokens, MOST_BRACKETS, &mut steps)?;
         Ok((Operand::from_steps(steps), len))
     }

@@ -3,6 +3,8 @@ ghost use Rattle.std.specs.Prelude.{◌≡◌, ◌+◌, ◌≤◌, length, drop,
 ghost use Rattle.std.specs.List.{suffix_len};
 ghost use Rattle.liquid_grammar.specs.Pieces.{first_place, begins, opens, is_tag, is_white, white_len, after_white, after_dash, line_ends};
 
+use memchr::memchr;
+
 /// What follows a place.
 pub(crate) fn tail(bytes: &[u8], at: usize) -> &[u8]
     requires { at ≤ length bytes.now }
@@ -41,10 +43,25 @@ pub(crate) fn find_open(text: &[u8]) -> usize
     ensures { result ≡ first_place opens text.now }
 {
     let mut i = 0;
-    while i < text.len() && !opens(&text[i..]) {
-        i += 1;
+    while i < text.len() {
+        let rest = tail(text, i);
+        if opens(rest) {
+            return i;
+        }
+        i += 1 + brace_place(tail(rest, 1));
     }
     i
+}
+
+// The first place of a `{`, or the text's length. No piece starts before it.
+fn brace_place(text: &[u8]) -> usize
+    ensures within { result ≤ length text.now }
+    ensures skips { result + first_place opens (drop result text.now) ≡ first_place opens text.now }
+{
+    match memchr(b'{', text) {
+        Some(place) => place,
+        None => text.len(),
+    }
 }
 
 /// The first place from `at` on at which a tag of this one word stands, or the text's length.

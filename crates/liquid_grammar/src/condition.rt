@@ -1,11 +1,11 @@
 // Conditions.
-use crate::{Comparison, Joint, Operand, Several};
+use crate::{Boxed, Comparison, Joint, Operand, Several};
 
 /// A test of one operand, or of two that are compared.
 #[derive(Drop)]
 pub enum Test {
     Holds(Operand),
-    Compares(Operand, Comparison, Operand),
+    Compares(Operand, Comparison, Boxed<Operand>),
 }
 
 /// A test, and how it is joined to what stands before it.

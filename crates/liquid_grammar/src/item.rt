@@ -1,5 +1,5 @@
 // What the pieces of a template say.
-use crate::{Assign, Condition, Cycle, Expr, Include, Loop, NamePart, Operand, Several};
+use crate::{Assign, Boxed, Condition, Cycle, Expr, Include, Loop, NamePart, Operand, Several};
 use site_base::{FaultKind, Text};
 
 /// What holds nothing else.
@@ -7,9 +7,9 @@ use site_base::{FaultKind, Text};
 pub enum Leaf {
     Text(Text),
     Output(Expr),
-    Assign(Assign),
+    Assign(Boxed<Assign>),
     /// The text of the tag, and what it says.
-    Cycle(Text, Cycle),
+    Cycle(Text, Boxed<Cycle>),
     Increment(Text),
     Decrement(Text),
     Break,
@@ -26,8 +26,8 @@ pub enum Block {
     If,
     Unless,
     Case(Expr),
-    For(Loop),
-    TableRow(Loop),
+    For(Boxed<Loop>),
+    TableRow(Boxed<Loop>),
     Capture(Text),
     /// The language that is named.
     Highlight(Text),

@@ -3,6 +3,7 @@
 //! The definitions stand in `specs/`; the types here are those that they and the readers share.
 #![tactic(auto)]
 
+mod boxed;
 mod condition;
 mod expression;
 mod item;
@@ -14,6 +15,7 @@ mod several;
 mod step;
 mod tag;
 
+pub use boxed::Boxed;
 pub use condition::{Condition, Joined, Test};
 pub use expression::{Expr, Filter, Parameter, Params};
 pub use item::{Block, BlockName, Item, Leaf, Move, Part, Verbatim};

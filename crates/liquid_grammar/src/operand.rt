@@ -28,10 +28,11 @@ impl Model for Operand {
 
 impl Operand {
     /// The operand that has these steps.
-    pub fn from_steps(steps: Vec<Step>) -> Operand
+    pub fn from_steps(mut steps: Vec<Step>) -> Operand
         requires { AreOfOperand steps.items }
         ensures { result ≡ operand_of steps.items }
     {
+        steps.shrink_to_fit();
         Operand { steps }
     }
 

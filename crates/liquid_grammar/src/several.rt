@@ -18,9 +18,10 @@ impl<T> Model for Several<T> {
 }
 
 impl<T> Several<T> {
-    pub fn from_vec(list: Vec<T>) -> Several<T>
+    pub fn from_vec(mut list: Vec<T>) -> Several<T>
         ensures { result ≡ list.items }
     {
+        list.shrink_to_fit();
         Several { list }
     }
 

@@ -9,7 +9,7 @@ use liquid_expr::{
     read_assign, read_condition, read_cycle, read_expr, read_include, read_language, read_loop,
     read_name, read_nothing, read_path, read_values, tag_text,
 };
-use liquid_grammar::{Block, BlockName, Item, Leaf, LoopKind, Part, PieceKind};
+use liquid_grammar::{Block, BlockName, Boxed, Item, Leaf, LoopKind, Part, PieceKind};
 use site_base::{FaultKind, Text};
 use std::alloc::Global;
 
@@ -78,11 +78,11 @@ fn opening(alloc: Global, block: BlockName, rest: &str) -> Result<Item, ItemErro
         )),
         BlockName::Case => Ok(Item::Opens(Block::Case(read_expr(alloc, rest)?), Part::Body)),
         BlockName::For => Ok(Item::Opens(
-            Block::For(read_loop(alloc, LoopKind::For, rest)?),
+            Block::For(Boxed::new(alloc, read_loop(alloc, LoopKind::For, rest)?)?),
             Part::Body,
         )),
         BlockName::TableRow => Ok(Item::Opens(
-            Block::TableRow(read_loop(alloc, LoopKind::TableRow, rest)?),
+            Block::TableRow(Boxed::new(alloc, read_loop(alloc, LoopKind::TableRow, rest)?)?),
             Part::Body,
         )),
         BlockName::Capture => Ok(Item::Opens(Block::Capture(read_name(alloc, rest)?), Part::Body)),
@@ -135,10 +135,10 @@ fn plain_tag(alloc: Global, text: &str, name: &str, rest: &str) -> Result<Item, 
     ensures { GivesItem result (plain_tag text.now name.now rest.now) }
 {
     if name == "assign" {
-        return Ok(Item::Leaf(Leaf::Assign(read_assign(alloc, rest)?)));
+        return Ok(Item::Leaf(Leaf::Assign(Boxed::new(alloc, read_assign(alloc, rest)?)?)));
     }
     if name == "cycle" {
-        let cycle = read_cycle(alloc, rest)?;
+        let cycle = Boxed::new(alloc, read_cycle(alloc, rest)?)?;
         return Ok(Item::Leaf(Leaf::Cycle(Text::copy(alloc, text)?, cycle)));
     }
     if name == "increment" {

@@ -124,7 +124,7 @@ module _ {Line Leaf Container : Type 0} (r : Rules Line Leaf Container) where
       go (Some m) h = ap (λ (b : Bl). followed_by r before (container k b no_blocks)) (h m)
       go None h = begin_blocks (suc (r.weight l)) (followed_by r before (container k (whole r inner) no_blocks)) l (omega arith)
 
-    step_spine : (s : OpenEnd r) (l : Line) → IsOpenEnd r s → IsOpenEnd r (line_step r s l)
+    pub step_spine : (s : OpenEnd r) (l : Line) → IsOpenEnd r s → IsOpenEnd r (line_step r s l)
     step_spine (none_open before) l h = begin_spine (suc (r.weight l)) before l (omega arith)
     step_spine (leaf_open before s) l h = go (r.more s l) where
       go : (o : Option Leaf) → IsOpenEnd r (leaf_on r before s l o)

@@ -1,8 +1,11 @@
 // The measured program: reads its standard input, and calls one library on it. `bench/` runs it.
 #![tactic(auto)]
 
+use data_files::{DataError, read_data};
 use front_yaml::{YamlError, read_yaml};
 use liquid_parse::{ParseError, parse};
+use site_base::SitePath;
+use site_config::{ConfigError, read_config};
 use std::process::ExitCode;
 use std::{env, io};
 
@@ -21,10 +24,22 @@ fn main(rt: HostRuntime) -> ExitCode {
         return ExitCode::from(FAILED);
     };
     match arguments.nth(1) {
-        Some(word) if word.as_str() == "nothing" => ExitCode::SUCCESS,
-        Some(word) if word.as_str() == "yaml" => ExitCode::from(yaml(rt, text.as_str())),
-        Some(word) if word.as_str() == "liquid" => ExitCode::from(liquid(rt, text.as_str())),
-        _ => ExitCode::from(USAGE),
+        Some(word) => ExitCode::from(status(rt, word.as_str(), text.as_str())),
+        None => ExitCode::from(USAGE),
+    }
+}
+
+// The status of what a word asks for.
+fn status(rt: HostRuntime, word: &str, text: &str) -> u8 {
+    match word {
+        "nothing" => 0,
+        "yaml" => yaml(rt, text),
+        "config" => config(rt, text),
+        "json" => data(rt, "_data/bench.json", text),
+        "csv" => data(rt, "_data/bench.csv", text),
+        "tsv" => data(rt, "_data/bench.tsv", text),
+        "liquid" => liquid(rt, text),
+        _ => USAGE,
     }
 }
 
@@ -34,6 +49,27 @@ fn yaml(rt: HostRuntime, text: &str) -> u8 {
         Ok(_) => 0,
         Err(YamlError::Fault(_)) => REFUSED,
         Err(YamlError::Memory) => FAILED,
+    }
+}
+
+// The status of reading a configuration.
+fn config(rt: HostRuntime, text: &str) -> u8 {
+    match read_config(rt.alloc(), Some(text)) {
+        Ok(_) => 0,
+        Err(ConfigError::Memory) => FAILED,
+        Err(_) => REFUSED,
+    }
+}
+
+// The status of reading a data file.
+fn data(rt: HostRuntime, path: &str, text: &str) -> u8 {
+    let Ok(path) = SitePath::read(rt.alloc(), path) else {
+        return FAILED;
+    };
+    match read_data(rt.alloc(), &path, text) {
+        Ok(Some(_)) => 0,
+        Err(DataError::Memory) => FAILED,
+        _ => REFUSED,
     }
 }
 

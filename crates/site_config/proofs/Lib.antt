@@ -1,3 +1,4 @@
 pub mod ListLaws
 pub mod TableLaws
 pub mod ConfigLaws
+pub mod SeenLaws

@@ -1,5 +1,5 @@
 -- Tests of the items and pairs of values, one after another.
-use Rattle.std.proofs.Common.{◌≡◌, ℕ, Bool, ◌&&◌, ◌||◌, List, [], ◌∷◌, refl, ap, sym, ◌∙◌}
+use Rattle.std.proofs.Common.{◌≡◌, ℕ, Bool, ◌&&◌, ◌||◌, List, [], ◌∷◌, refl, ap, ◌∙◌}
 use Rattle.std.specs.List.{list_all, list_any}
 use Rattle.site_base.specs.Plain.{Plain, Items, Pairs, item_list}
 use Rattle.site_base.specs.View.{plain, items_of, pairs_of}

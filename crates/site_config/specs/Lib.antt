@@ -5,3 +5,4 @@ pub mod Lists
 pub mod Parts
 pub mod Table
 pub mod Texts
+pub mod Seen

@@ -6,6 +6,7 @@ ghost use Rattle.site_config.specs.Forms.{given};
 use crate::collection::Collection;
 use site_base::{Hash, List, Memory, Value};
 use std::alloc::Global;
+use std::collections::BTreeSet;
 use std::marker::Model;
 
 /// Collections in their order.
@@ -24,7 +25,8 @@ impl Model for Collections {
 }
 
 impl Collections {
-    ghost use Rattle.site_config.specs.Config.{collections_of, add, named, is_named};
+    ghost use Rattle.site_config.specs.Config.{collections_of, add, named};
+    ghost use Rattle.site_config.specs.Seen.{HasNames};
 
     /// The collections that a configuration names, and the posts before them.
     pub(crate) fn read(alloc: Global, value: Option<&Value>) -> Result<Collections, Memory>
@@ -43,9 +45,10 @@ impl Collections {
     fn with_names(mut self, alloc: Global, names: &List) -> Result<Collections, Memory>
         ensures { IfOk result (λ made. made ≡ fold add self (named (list names.now))) }
     {
+        let mut seen = self.names(alloc)?;
         for name in names.as_slice() {
             if let Value::Text(name) = name {
-                self.add(alloc, name.as_str(), None)?;
+                self.add(alloc, &mut seen, name.as_str(), None)?;
             }
         }
         Ok(self)
@@ -54,27 +57,42 @@ impl Collections {
     fn with_pairs(mut self, alloc: Global, pairs: &Hash) -> Result<Collections, Memory>
         ensures { IfOk result (λ made. made ≡ fold add self (named (hash pairs.now))) }
     {
+        let mut seen = self.names(alloc)?;
         for pair in pairs.as_slice() {
-            self.add(alloc, pair.key.as_str(), Some(&pair.value))?;
+            self.add(alloc, &mut seen, pair.key.as_str(), Some(&pair.value))?;
         }
         Ok(self)
     }
 
-    // Adds a collection, unless one of its name is there.
-    fn add(&mut self, alloc: Global, name: &str, value: Option<&Value>) -> Result<(), Memory>
-        ensures { OnOk result (self.new ≡ add self.old (name.now, given value.entry)) }
+    // Adds a collection, unless its name is among those that are seen, which all have.
+    fn add(
+        &mut self,
+        alloc: Global,
+        seen: &mut BTreeSet<String>,
+        name: &str,
+        value: Option<&Value>,
+    ) -> Result<(), Memory>
+        requires { HasNames seen.old self.old }
+        ensures ok { OnOk result (self.new ≡ add self.old (name.now, given value.entry)) }
+        ensures seen { OnOk result (HasNames seen.new self.new) }
     {
-        if self.is_named(name) {
+        if seen.contains(name) {
             return Ok(());
         }
         self.list.push(Collection::read(alloc, name, value)?)?;
+        let _ = seen.insert(String::from_str(alloc, name)?)?;
         Ok(())
     }
 
-    fn is_named(&self, name: &str) -> bool
-        ensures { result ≡ is_named name.now self.now }
+    // The names that there are.
+    fn names(&self, alloc: Global) -> Result<BTreeSet<String>, Memory>
+        ensures { IfOk result (λ seen. HasNames seen self.now) }
     {
-        self.list.iter().any(|other| other.name.as_str() == name)
+        let mut seen = BTreeSet::new(alloc);
+        for collection in &self.list {
+            let _ = seen.insert(String::from_str(alloc, collection.name.as_str())?)?;
+        }
+        Ok(seen)
     }
 
     /// The collections in their order: posts first, each name once.

@@ -1,4 +1,4 @@
-use Rattle.std.proofs.Common.{◌≡◌, List, ℕ, arith, ◌+◌, ◌∙◌, ap, sym, drop, length, map}
+use Rattle.std.proofs.Common.{◌≡◌, arith, ◌+◌, ◌∙◌, ap, sym, drop, length, map}
 use Rattle.std.specs.Prelude.{option_map}
 use Rattle.csv.specs.Records.{Row, fields_of}
 use Rattle.site_base.specs.Plain.{Items, onto, no_pairs}

@@ -1,4 +1,4 @@
-use Rattle.std.proofs.Common.{◌≡◌, ℕ, Bool, not, List, [], ◌∷◌, ◌∙◌, ap, sym, rules, tests, refl, Some}
+use Rattle.std.proofs.Common.{ℕ, Bool, not, List, ◌∙◌, ap, sym, rules, tests, refl}
 use Rattle.std.specs.Prelude.{map}
 use Rattle.std.specs.Slice.Iter.{iter_rest}
 use Rattle.std.specs.Option.{option_map}

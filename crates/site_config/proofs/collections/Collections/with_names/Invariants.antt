@@ -3,7 +3,8 @@ use Rattle.std.specs.Prelude.{fold}
 use Rattle.site_base.specs.Plain.{list}
 use Rattle.site_base.specs.View.{items_of}
 use Rattle.site_config.specs.Config.{add, named}
+use Rattle.site_config.specs.Seen.{HasNames}
 use Rattle.site_config.proofs.collections.Collections.with_names.Given as goal
 
 abbrev pub invariant-loop-name : goal.invariant-loop-name
-invariant-loop-name l = fold add l.self (named (list (items_of (drop l.name-index l.name-items)))) ≡ fold add l.initial.self (named (list (items_of l.name-items)))
+invariant-loop-name l = record { told : fold add l.self (named (list (items_of (drop l.name-index l.name-items)))) ≡ fold add l.initial.self (named (list (items_of l.name-items))); seen : HasNames l.seen l.self }

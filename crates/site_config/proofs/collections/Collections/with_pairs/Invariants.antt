@@ -3,7 +3,8 @@ use Rattle.std.specs.Prelude.{fold}
 use Rattle.site_base.specs.Plain.{hash}
 use Rattle.site_base.specs.View.{pairs_of}
 use Rattle.site_config.specs.Config.{add, named}
+use Rattle.site_config.specs.Seen.{HasNames}
 use Rattle.site_config.proofs.collections.Collections.with_pairs.Given as goal
 
 abbrev pub invariant-loop-pair : goal.invariant-loop-pair
-invariant-loop-pair l = fold add l.self (named (hash (pairs_of (drop l.pair-index l.pair-items)))) ≡ fold add l.initial.self (named (hash (pairs_of l.pair-items)))
+invariant-loop-pair l = record { told : fold add l.self (named (hash (pairs_of (drop l.pair-index l.pair-items)))) ≡ fold add l.initial.self (named (hash (pairs_of l.pair-items))); seen : HasNames l.seen l.self }

@@ -1,0 +1,119 @@
+-- Words in lines of HTML.
+use Rattle.std.proofs.Common.{Bool, List, None, Option, Some, [], ap, arith, cond, drop, false, get_or, length, nat_lt, refl, replicate, suc, sym, true, zero, ℕ, ◌++◌, ◌+◌, ◌<◌, ◌==◌, ◌||◌, ◌∙◌, ◌∷◌, ◌≡◌, ◌≤◌, codes}
+use Rattle.std.proofs.lemmas.List.{drop_more}
+use Rattle.markdown_grammar.specs.Bytes.{lowered}
+use Rattle.markdown_grammar.specs.Columns.{tab_width}
+use Rattle.markdown_grammar.specs.Fronts.{begins_with, has}
+use Rattle.markdown_grammar.specs.HtmlStarts.{ends_html}
+use Rattle.markdown_grammar.specs.Readers.{plus, to}
+use Rattle.cm_containers.specs.Spots.{IsSpot, text_at}
+use Rattle.cm_containers.specs.declared.spots.Spot.{Spot}
+use Rattle.cm_containers.proofs.Texts.{text_part, text_whole}
+use Rattle.cm_blocks.specs.HtmlEnds.{seen, seen_byte}
+
+seen-cons : (f : Bool) (c : ℕ) (cs : List ℕ) → seen f (c ∷ cs) ≡ seen_byte f c ∷ seen f cs
+seen-cons true c cs = refl
+seen-cons false c cs = refl
+
+seen-nil : (f : Bool) → seen f [] ≡ []
+seen-nil true = refl
+seen-nil false = refl
+
+abbrev front_cases : List ℕ → List ℕ → Bool → Bool
+front_cases ws t b = elim b as (λ x. Bool) [ true ↦ begins_with ws t | false ↦ false ]
+
+front : (f : Bool) (word text : List ℕ) (i : ℕ) → i < length word → i < length text
+    → begins_with (drop i word) (seen f (drop i text)) ≡ front_cases (drop (i + 1) word) (seen f (drop (i + 1) text)) (get_or word i 0 == seen_byte f (get_or text i 0))
+front f word text i a b =
+    ap (λ (w : List ℕ). begins_with w (seen f (drop i text))) (drop_more word i 0 a)
+    ∙ ap (λ (t : List ℕ). begins_with (get_or word i 0 ∷ drop (i + 1) word) t) (ap (λ (t : List ℕ). seen f t) (drop_more text i 0 b) ∙ seen-cons f (get_or text i 0) (drop (i + 1) text))
+
+pub same_front : (f : Bool) (word text : List ℕ) (i : ℕ) (whole : Bool) → i < length word → i < length text → get_or word i 0 ≡ seen_byte f (get_or text i 0)
+    → begins_with (drop i word) (seen f (drop i text)) ≡ whole → begins_with (drop (i + 1) word) (seen f (drop (i + 1) text)) ≡ whole
+same_front f word text i whole a b e w =
+    let test : (get_or word i 0 == seen_byte f (get_or text i 0)) ≡ true = grind (arith, e) in
+    sym (front f word text i a b ∙ ap (front_cases (drop (i + 1) word) (seen f (drop (i + 1) text))) test) ∙ w
+
+pub other_front : (f : Bool) (word text : List ℕ) (i : ℕ) (whole : Bool) → i < length word → i < length text → (get_or word i 0 ≡ seen_byte f (get_or text i 0) → ⊥)
+    → begins_with (drop i word) (seen f (drop i text)) ≡ whole → false ≡ whole
+other_front f word text i whole a b e w =
+    let test : (get_or word i 0 == seen_byte f (get_or text i 0)) ≡ false = grind (arith, e) in
+    sym (front f word text i a b ∙ ap (front_cases (drop (i + 1) word) (seen f (drop (i + 1) text))) test) ∙ w
+
+pub too_short : (f : Bool) (word text : List ℕ) → length text < length word → false ≡ begins_with word (seen f text)
+too_short f [] text h = absurd (omega (arith, h))
+too_short f (w ∷ ws) [] h = sym (ap (λ (t : List ℕ). begins_with (w ∷ ws) t) (seen-nil f))
+too_short f (w ∷ ws) (c ∷ cs) h = go (w == seen_byte f c) (too_short f ws cs (omega (arith, h))) ∙ sym (ap (λ (t : List ℕ). begins_with (w ∷ ws) t) (seen-cons f c cs)) where
+  go : (b : Bool) → false ≡ begins_with ws (seen f cs) → false ≡ front_cases ws (seen f cs) b
+  go true h = h
+  go false h = refl
+
+has_plus : (o : Option ℕ) → has (plus 1 o) ≡ has o
+has_plus (Some n) = refl
+has_plus None = refl
+
+abbrev to_cases : List ℕ → List ℕ → Bool → Bool
+to_cases w t b = has (elim b as (λ x. Option ℕ) [ true ↦ Some (length w) | false ↦ plus 1 (to w t) ])
+
+to_front : (f : Bool) (word text : List ℕ) (i : ℕ) → i < length text → (b : Bool) → b ≡ begins_with word (seen f (drop i text))
+    → has (to word (seen f (drop i text))) ≡ to_cases word (seen f (drop (i + 1) text)) b
+to_front f word text i lt b e =
+    let at = ap (λ (t : List ℕ). seen f t) (drop_more text i 0 lt) ∙ seen-cons f (get_or text i 0) (drop (i + 1) text) in
+    ap (λ (t : List ℕ). has (to word t)) at ∙ ap (to_cases word (seen f (drop (i + 1) text))) (sym (e ∙ ap (λ (t : List ℕ). begins_with word t) at))
+
+pub not_here : (f : Bool) (word text : List ℕ) (i : ℕ) (whole b : Bool) → i < length text → b ≡ begins_with word (seen f (drop i text)) → b ≡ false
+    → has (to word (seen f (drop i text))) ≡ whole → has (to word (seen f (drop (i + 1) text))) ≡ whole
+not_here f word text i whole b lt e no' w =
+    sym (to_front f word text i lt b e ∙ ap (to_cases word (seen f (drop (i + 1) text))) no' ∙ has_plus (to word (seen f (drop (i + 1) text)))) ∙ w
+
+pub here : (f : Bool) (word text : List ℕ) (i : ℕ) (whole b : Bool) → i < length text → b ≡ begins_with word (seen f (drop i text)) → b ≡ true
+    → has (to word (seen f (drop i text))) ≡ whole → true ≡ whole
+here f word text i whole b lt e yes' w = sym (to_front f word text i lt b e ∙ ap (to_cases word (seen f (drop (i + 1) text))) yes') ∙ w
+
+-- ---- white space in front ends nothing
+
+abbrev ends_cases : ℕ → (a b c d e f g h : Bool) → Bool
+ends_cases kind a b c d e f g h = cond (kind == 1) (a || (b || (c || d))) (cond (kind == 2) e (cond (kind == 3) f (cond (kind == 4) g (cond (kind == 5) h false))))
+
+same_cases : (kind : ℕ) (a b c d e f g h a' b' c' d' e' f' g' h' : Bool) → a ≡ a' → b ≡ b' → c ≡ c' → d ≡ d' → e ≡ e' → f ≡ f' → g ≡ g' → h ≡ h'
+    → ends_cases kind a b c d e f g h ≡ ends_cases kind a' b' c' d' e' f' g' h'
+same_cases kind a b c d e f g h a' b' c' d' e' f' g' h' p q r s t u v w = cc
+
+ends_space : (kind : ℕ) (t : List ℕ) → ends_html kind (32 ∷ t) ≡ ends_html kind t
+ends_space kind t =
+    same_cases kind (has (plus 1 (to (codes "</script>") (lowered t)))) (has (plus 1 (to (codes "</pre>") (lowered t)))) (has (plus 1 (to (codes "</style>") (lowered t)))) (has (plus 1 (to (codes "</textarea>") (lowered t))))
+    (has (plus 1 (to (codes "-->") t))) (has (plus 1 (to (codes "?>") t))) (has (plus 1 (to (codes ">") t))) (has (plus 1 (to (codes "]]>") t)))
+    (has (to (codes "</script>") (lowered t))) (has (to (codes "</pre>") (lowered t))) (has (to (codes "</style>") (lowered t))) (has (to (codes "</textarea>") (lowered t)))
+    (has (to (codes "-->") t)) (has (to (codes "?>") t)) (has (to (codes ">") t)) (has (to (codes "]]>") t))
+    (has_plus (to (codes "</script>") (lowered t))) (has_plus (to (codes "</pre>") (lowered t))) (has_plus (to (codes "</style>") (lowered t))) (has_plus (to (codes "</textarea>") (lowered t)))
+    (has_plus (to (codes "-->") t)) (has_plus (to (codes "?>") t)) (has_plus (to (codes ">") t)) (has_plus (to (codes "]]>") t))
+
+ends_tab : (kind : ℕ) (t : List ℕ) → ends_html kind (9 ∷ t) ≡ ends_html kind t
+ends_tab kind t =
+    same_cases kind (has (plus 1 (to (codes "</script>") (lowered t)))) (has (plus 1 (to (codes "</pre>") (lowered t)))) (has (plus 1 (to (codes "</style>") (lowered t)))) (has (plus 1 (to (codes "</textarea>") (lowered t))))
+    (has (plus 1 (to (codes "-->") t))) (has (plus 1 (to (codes "?>") t))) (has (plus 1 (to (codes ">") t))) (has (plus 1 (to (codes "]]>") t)))
+    (has (to (codes "</script>") (lowered t))) (has (to (codes "</pre>") (lowered t))) (has (to (codes "</style>") (lowered t))) (has (to (codes "</textarea>") (lowered t)))
+    (has (to (codes "-->") t)) (has (to (codes "?>") t)) (has (to (codes ">") t)) (has (to (codes "]]>") t))
+    (has_plus (to (codes "</script>") (lowered t))) (has_plus (to (codes "</pre>") (lowered t))) (has_plus (to (codes "</style>") (lowered t))) (has_plus (to (codes "</textarea>") (lowered t)))
+    (has_plus (to (codes "-->") t)) (has_plus (to (codes "?>") t)) (has_plus (to (codes ">") t)) (has_plus (to (codes "]]>") t))
+
+ends_spaces : (kind n : ℕ) (t : List ℕ) → ends_html kind (replicate n 32 ++ t) ≡ ends_html kind t
+ends_spaces kind zero t = refl
+ends_spaces kind (suc n) t = ends_space kind (replicate n 32 ++ t) ∙ ends_spaces kind n t
+
+-- a line ends HTML by its bytes from a place on
+pub ends_from : (kind : ℕ) (line : List ℕ) (s : Spot) → IsSpot line s → ends_html kind (drop s.at line) ≡ ends_html kind (text_at line s)
+ends_from kind line s h = go (nat_lt s.start s.column) refl where
+  lt_true : (a b : ℕ) → nat_lt a b ≡ true → a < b
+  lt_true a b e = grind (arith, e)
+
+  lt_false : (a b : ℕ) → nat_lt a b ≡ false → b ≤ a
+  lt_false a b e = grind (arith, e)
+
+  go : (b : Bool) → nat_lt s.start s.column ≡ b → ends_html kind (drop s.at line) ≡ ends_html kind (text_at line s)
+  go true e =
+      let part = lt_true s.start s.column e in
+      let tab = h.in_tab part in
+      ap (λ (t : List ℕ). ends_html kind t) (drop_more line s.at 0 tab.0 ∙ ap (λ (c : ℕ). c ∷ drop (s.at + 1) line) tab.1) ∙ ends_tab kind (drop (s.at + 1) line)
+      ∙ sym (ends_spaces kind (tab_width s.column) (drop (s.at + 1) line)) ∙ ap (λ (t : List ℕ). ends_html kind t) (sym (text_part s.start s.at s.column line part))
+  go false e = ap (λ (t : List ℕ). ends_html kind t) (sym (text_whole s.start s.at s.column line (lt_false s.start s.column e)))

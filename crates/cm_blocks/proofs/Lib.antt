@@ -1,0 +1,15 @@
+mod LeafSteps
+mod Walking
+mod Reaches
+mod HtmlWords
+mod LeafTaking
+mod Marks
+mod OpeningLaws
+mod BeginLaws
+mod BreakLaws
+mod ClosingLaws
+mod LineLaws
+mod WalkedText
+mod MadeLaws
+mod LinkLaws
+mod HtmlLaws

@@ -1,0 +1,13 @@
+use Rattle.std.proofs.Common.{◌≡◌, ◌+◌, ◌-◌, ◌≤◌, drop, length}
+use Rattle.markdown_grammar.specs.Fronts.{run_len}
+use Rattle.cm_blocks.specs.LineCuts.{is_plain}
+use Rattle.cm_blocks.proofs.lines.plain_len.Given as goal
+
+abbrev pub invariant-loop-i : goal.invariant-loop-i
+invariant-loop-i l = record {
+  within : l.i ≤ length l.bytes;
+  so_far : l.i + run_len is_plain (drop l.i l.bytes) ≡ run_len is_plain l.bytes;
+}
+
+abbrev pub decreases-loop-i : goal.decreases-loop-i
+decreases-loop-i l = length l.bytes - l.i

@@ -1,0 +1,17 @@
+pub mod LineTexts
+pub mod Leaves
+pub mod Tokens
+pub mod Flat
+pub mod OpenWalk
+pub mod Reaching
+pub mod HtmlEnds
+pub mod Taking
+pub mod Opening
+pub mod Walks
+pub mod LineCuts
+pub mod Documents
+pub mod Layouts
+pub mod Making
+pub mod MadeViews
+pub mod Reads
+pub mod DocumentHtml

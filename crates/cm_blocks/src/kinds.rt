@@ -1,0 +1,63 @@
+// Containers and leaves as a walk over the lines holds them, and what it makes of them.
+use crate::leaf_lines::LeafLines;
+use site_base::Text;
+
+/// A container: a block quote, or a list item by the column where its content starts behind the place
+/// where it may begin, the last character of its mark, and its number (1 for a bullet). CommonMark
+/// 0.31.2, sections 5.1 and 5.2.
+#[derive(Clone, Copy, PartialEq, Eq, Debug)]
+pub enum Container {
+    Quote,
+    Item {
+        content: u128,
+        mark: char,
+        number: u64,
+    },
+}
+
+/// A leaf block with what decides whether it takes one more line. CommonMark 0.31.2, section 4.
+#[derive(Drop)]
+pub enum Leaf {
+    Paragraph {
+        text: LeafLines,
+    },
+    /// A paragraph that an underline has made a heading.
+    Underlined {
+        level: u32,
+        text: LeafLines,
+    },
+    /// A heading by `#`.
+    Heading {
+        level: usize,
+        text: Text,
+    },
+    Break,
+    /// Indented code, and blank lines behind it that are code only where more follows.
+    Indented {
+        text: LeafLines,
+        pending: LeafLines,
+    },
+    Fenced {
+        indent: u128,
+        mark: char,
+        len: usize,
+        info: Text,
+        text: LeafLines,
+        is_closed: bool,
+    },
+    Html {
+        kind: u32,
+        text: LeafLines,
+        is_closed: bool,
+    },
+}
+
+/// What comes next in a text: the start or the end of a container, a leaf, or a blank line that is none
+/// of a leaf's.
+#[derive(Drop)]
+pub enum Token {
+    Opens(Container),
+    Closes(Container),
+    Holds(Leaf),
+    Blank,
+}
