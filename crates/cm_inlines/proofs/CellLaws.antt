@@ -1,5 +1,5 @@
 -- Cells of pieces and of nodes.
-use Rattle.std.proofs.Common.{◌≡◌, ◌∙◌, Bool, List, None, Option, Some, [], ap, append_assoc, arith, cond, drop, false, length, map, not, option_map, refl, slice_get, subst, suc, sym, take, true, zero, ℕ, ◌&&◌, ◌++◌, ◌==◌, ◌||◌, ◌∷◌}
+use Rattle.std.proofs.Common.{◌≡◌, ◌∙◌, Bool, List, None, Option, Some, [], ap, append_assoc, cond, drop, false, length, map, not, option_map, refl, slice_get, suc, sym, take, true, ℕ, ◌&&◌, ◌++◌, ◌==◌, ◌||◌, ◌∷◌}
 use Rattle.std.proofs.lemmas.List.{map-append}
 use Rattle.markdown_grammar.specs.Emphasis.{Found, as_inlines, last_that, lengths_fit, opens_for, or_here, plain}
 use Rattle.markdown_grammar.specs.Links.{is_bracket}
@@ -9,11 +9,10 @@ use Rattle.cm_inlines.specs.Cells.{Cell, bracket_cell, cells_in, cells_of, plain
 use Rattle.cm_inlines.specs.Machine as machine
 use Rattle.cm_inlines.specs.Machine.{changed, is_sought, last_place}
 use Rattle.cm_inlines.specs.Nodes.{cells, cells_at}
-use Rattle.cm_inlines.specs.Tokens.{Token, close_emphasis, close_image, close_link, close_strong, open_emphasis, open_image, open_link, open_strong, soft_token, text_token, tokens}
-use Rattle.cm_inlines.specs.declared.changes.Change.TheVariants.{Calm, Freeze}
+use Rattle.cm_inlines.specs.Tokens.{Token, soft_token, text_token, tokens}
+use Rattle.cm_inlines.specs.declared.changes.Change.TheVariants.{Freeze}
 use Rattle.cm_inlines.specs.declared.node.Node.{Node}
 use Rattle.cm_inlines.specs.declared.node.Node.TheVariants as node
-use Rattle.cm_inlines.specs.declared.pairing.Sought.{Sought}
 use Rattle.cm_inlines.specs.declared.pairing.Sought.TheVariants as sought
 
 -- ---- one after another

@@ -5,7 +5,7 @@ use Rattle.std.specs.Str.{IsCharBoundary}
 use Rattle.std.proofs.Math.ListN.{set}
 use Rattle.std.proofs.lemmas.List.{length-drop, map-append}
 use Rattle.std.proofs.lemmas.Str.{IsCharBoundary-from_rest, encode_ascii}
-use Rattle.markdown_grammar.specs.Definitions.{Definition, Target}
+use Rattle.markdown_grammar.specs.Definitions.{Definition}
 use Rattle.markdown_grammar.specs.Emphasis.{Found, last_that, pairs}
 use Rattle.markdown_grammar.specs.Inlines.{image, link, no_inlines}
 use Rattle.markdown_grammar.specs.Links as links
@@ -15,9 +15,8 @@ use Rattle.cm_inlines.specs.Cells.{Cell, bracket_cell, cells_in, cells_of, plain
 use Rattle.cm_inlines.specs.Machine.{change_between, changed, is_sought, last_place, pair_from}
 use Rattle.cm_inlines.specs.Nodes.{cells, cells_at}
 use Rattle.cm_inlines.specs.States.{Closes, IsPlaced, IsPlacedAt, Sound, is_nothing, room, waiting}
-use Rattle.cm_inlines.specs.Steps as steps
 use Rattle.cm_inlines.specs.Steps.{closed_nodes, closed_with, closing_node, found_at, found_in, image_nodes, inside_paired, last_opening, link_nodes, opening_of, reached_by, taken_by, unlinked_nodes}
-use Rattle.cm_inlines.specs.Targets.{reached_pair, target_pair}
+use Rattle.cm_inlines.specs.Targets.{reached_pair}
 use Rattle.cm_inlines.specs.Tokens.{Token, close_image, close_link, open_image, open_link, text_token, tokens}
 use Rattle.cm_inlines.specs.declared.changes.Change.TheVariants.{Calm, Freeze}
 use Rattle.cm_inlines.specs.declared.node.Node.{Node}
@@ -30,7 +29,7 @@ use Rattle.cm_inlines.specs.declared.targets.Reached.{Reached}
 use Rattle.cm_inlines.proofs.CellLaws.{FoundAt, FoundCell, NodesCase, bracket_matches, bracket_nodes, bracket_test, cell_in, cells-append, cells_found, cells_of-append, frozen, last_cell, last_nodes, last_pieces}
 use Rattle.cm_inlines.proofs.Slots.{after, change_all_front, change_behind, set_there, waiting-append, waiting_frozen}
 use Rattle.cm_inlines.proofs.TargetLaws.{behind_bracket}
-use Rattle.cm_inlines.proofs.Walk.{Walked, walk}
+use Rattle.cm_inlines.proofs.Walk.{walk}
 
 -- ---- the last bracket among the nodes
 

@@ -1,7 +1,7 @@
 -- A pair in a list of nodes: what the opener and the closer leave in their places.
-use Rattle.std.proofs.Common.{◌≡◌, ◌∙◌, Bool, List, None, Option, Some, [], ap, append_assoc, arith, cond, drop, false, length, length-append, map, nat_lt, refl, replicate, slice_get, subst, suc, sym, take, true, zero, ℕ, ◌++◌, ◌+◌, ◌-◌, ◌<◌, ◌==◌, ◌∷◌, ◌≤◌}
+use Rattle.std.proofs.Common.{◌≡◌, ◌∙◌, Bool, List, None, Option, Some, [], ap, append_assoc, arith, cond, false, length, length-append, map, nat_lt, refl, replicate, slice_get, suc, sym, true, zero, ℕ, ◌++◌, ◌+◌, ◌-◌, ◌<◌, ◌==◌, ◌∷◌, ◌≤◌}
 use Rattle.std.proofs.Math.ListN.{set}
-use Rattle.std.proofs.lemmas.List.{length-map, map-append}
+use Rattle.std.proofs.lemmas.List.{length-map}
 use Rattle.markdown_grammar.specs.Emphasis.{shorten}
 use Rattle.markdown_grammar.specs.Pieces.{Piece, delimiter_run}
 use Rattle.cm_inlines.specs.Cells.{Cell, cells_of, plain_tokens, run_cell, sealed}
@@ -10,11 +10,11 @@ use Rattle.cm_inlines.specs.Nodes.{cells, cells_at}
 use Rattle.cm_inlines.specs.States.{is_nothing, room, waiting}
 use Rattle.cm_inlines.specs.Tokens.{Token, close_emphasis, close_strong, open_emphasis, open_strong}
 use Rattle.cm_inlines.specs.declared.changes.Change.{Change}
-use Rattle.cm_inlines.specs.declared.changes.Change.TheVariants.{Calm, Freeze}
+use Rattle.cm_inlines.specs.declared.changes.Change.TheVariants.{Freeze}
 use Rattle.cm_inlines.specs.declared.node.Node.{Node}
 use Rattle.cm_inlines.specs.declared.node.Run.{Run}
 use Rattle.cm_inlines.specs.declared.node.Node.TheVariants as node
-use Rattle.cm_inlines.proofs.CellLaws.{cells-append, frozen}
+use Rattle.cm_inlines.proofs.CellLaws.{frozen}
 
 -- ---- places that wait for nothing
 

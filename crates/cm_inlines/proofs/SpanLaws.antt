@@ -1,6 +1,6 @@
 -- Spans, and the grammar's spot behind them.
 use Rattle.std.specs.Char.{encode_utf8}
-use Rattle.std.proofs.Common.{IsUtf8, codes, ◌≡◌, nat_lt, not, ◌&&◌, ◌||◌, ◌≢◌, ◌∙◌, Bool, List, None, Option, Some, [], ap, append-nil, append_assoc, arith, cond, drop, false, get_or, length, length-append, refl, replicate, reverse, subst, suc, sym, take, true, zero, ℕ, ◌++◌, ◌+◌, ◌-◌, ◌<◌, ◌==◌, ◌∷◌, ◌≤◌}
+use Rattle.std.proofs.Common.{codes, ◌≡◌, nat_lt, not, ◌&&◌, ◌||◌, ◌∙◌, Bool, List, None, Option, Some, [], ap, append-nil, append_assoc, arith, cond, drop, false, get_or, length, refl, reverse, subst, suc, sym, take, true, zero, ℕ, ◌++◌, ◌+◌, ◌-◌, ◌<◌, ◌==◌, ◌∷◌, ◌≤◌}
 use Rattle.std.specs.Str.{IsCharBoundary}
 use Rattle.std.proofs.lemmas.List.{drop-drop, drop_more, reverse-append}
 use Rattle.std.proofs.lemmas.Str.{IsCharBoundary-from_rest}
@@ -9,14 +9,13 @@ use Rattle.markdown_grammar.specs.Autolinks.{email, pointed, uri}
 use Rattle.markdown_grammar.specs.CodeSpans as code
 use Rattle.markdown_grammar.specs.CodeSpans.{before_run, code_at}
 use Rattle.markdown_grammar.specs.Definitions.{Definition}
-use Rattle.markdown_grammar.specs.Emphasis.{pairs}
 use Rattle.markdown_grammar.specs.Flanking.{char_after, char_before, is_unicode_punct, left_flanking, right_flanking}
 use Rattle.markdown_grammar.specs.Fronts.{first_byte, run_len}
 use Rattle.markdown_grammar.specs.Bytes.{is_punct}
-use Rattle.markdown_grammar.specs.Inlines.{Inlines, code_span, hard_break, no_inlines, raw_html, soft_break}
+use Rattle.markdown_grammar.specs.Inlines.{code_span, hard_break, no_inlines, raw_html, soft_break}
 use Rattle.markdown_grammar.specs.Links.{close_bracket}
 use Rattle.markdown_grammar.specs.Pieces.{Piece, delimiter_run, finished, open_bracket, run_at}
-use Rattle.markdown_grammar.specs.Reading.{Spot, first_spot, further, inlines, next_spot, pieces_at, pieces_from, pieces_step}
+use Rattle.markdown_grammar.specs.Reading.{Spot, further, next_spot, pieces_at, pieces_from}
 use Rattle.markdown_grammar.specs.References.{CharRef, front_reference}
 use Rattle.markdown_grammar.specs.Spans.{between_ends, escape_at, piece_at, pointed_at, reference_at, spaces_at, textual_at, to_link}
 use Rattle.markdown_grammar.specs.Tags.{html_tag}
@@ -27,10 +26,9 @@ use Rattle.cm_spans.specs.declared.spans.Taken.{Taken}
 use Rattle.cm_spans.specs.declared.spans.Span.TheVariants as span
 use Rattle.cm_inlines.specs.Cells.{Cell, cells_in, cells_of, bracket_cell, run_cell}
 use Rattle.cm_inlines.specs.Nodes.{cells}
-use Rattle.cm_inlines.specs.States.{Closes, GoesOn, IsPlaced, Reads, Sound, spot_at, waiting}
-use Rattle.cm_inlines.specs.Steps.{opening_node, run_node, run_nodes, span_nodes}
+use Rattle.cm_inlines.specs.States.{Closes, IsPlaced, Reads, Sound, spot_at, waiting}
+use Rattle.cm_inlines.specs.Steps.{span_nodes}
 use Rattle.cm_inlines.specs.declared.node.Node.{Node}
-use Rattle.cm_inlines.specs.declared.node.Node.TheVariants as node
 use Rattle.cm_inlines.proofs.CellLaws.{cells-append, cells_of-append}
 use Rattle.cm_inlines.proofs.Closing.{placed-append, placed_later}
 use Rattle.cm_inlines.proofs.Slots.{after, cells_gaps, gaps, waiting-append, waiting_gaps}

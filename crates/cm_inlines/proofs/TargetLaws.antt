@@ -1,5 +1,5 @@
 -- Places behind a closing bracket.
-use Rattle.std.proofs.Common.{◌≡◌, ◌∙◌, Bool, IfOk, IfSome, IsUtf8, List, None, Ok, Err, Option, Result, Some, [], ap, arith, cond, drop, false, get_or, length, option_map, refl, slice_get, subst, suc, sym, true, zero, ℕ, ◌+◌, ◌<◌, ◌==◌, ◌∷◌}
+use Rattle.std.proofs.Common.{◌≡◌, ◌∙◌, Bool, IfOk, IfSome, IsUtf8, List, None, Ok, Err, Option, Result, Some, [], ap, arith, cond, drop, false, get_or, length, option_map, refl, slice_get, subst, suc, sym, zero, ℕ, ◌+◌, ◌<◌, ◌==◌, ◌∷◌}
 use Rattle.std.specs.Str.{IsCharBoundary}
 use Rattle.std.proofs.lemmas.List.{drop-drop}
 use Rattle.std.proofs.lemmas.Str.{IsCharBoundary-after_ascii}

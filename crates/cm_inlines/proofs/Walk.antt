@@ -1,13 +1,13 @@
 -- Pairing in place makes the grammar's pairs.
-use Rattle.std.proofs.Common.{◌≡◌, ◌∙◌, Bool, List, None, Option, Some, [], add-one, ap, append-nil, append_assoc, arith, cond, drop, false, length, length-append, map, nat_lt, option_map, refl, slice_get, subst, suc, sym, take, true, zero, ℕ, ◌&&◌, ◌++◌, ◌+◌, ◌-◌, ◌<◌, ◌==◌, ◌∷◌, ◌≤◌}
+use Rattle.std.proofs.Common.{◌≡◌, ◌∙◌, Bool, List, None, Option, Some, [], ap, append-nil, append_assoc, arith, cond, drop, false, length, length-append, map, nat_lt, option_map, refl, slice_get, subst, suc, sym, take, true, zero, ℕ, ◌&&◌, ◌++◌, ◌+◌, ◌-◌, ◌==◌, ◌∷◌, ◌≤◌}
 use Rattle.std.proofs.Math.Seq.{drop-append_seam, take-append_seam}
 use Rattle.std.proofs.lemmas.List.{length-map, map-append}
 use Rattle.markdown_grammar.proofs.Pairing.{is_step, pairs_end}
-use Rattle.markdown_grammar.specs.Emphasis.{Found, IsStep, Settled, StepOf, last_that, len_of, opens_for, pair_with, paired, pairs, plain, shorten, strength, stressed}
+use Rattle.markdown_grammar.specs.Emphasis.{Found, Settled, StepOf, last_that, len_of, opens_for, pair_with, paired, pairs, plain, shorten, strength, stressed}
 use Rattle.markdown_grammar.specs.Inlines.{Inlines, emphasis, no_inlines, strong}
 use Rattle.markdown_grammar.specs.Pieces.{Piece, delimiter_run, finished, open_bracket}
 use Rattle.cm_inlines.specs.Cells.{Cell, bracket_cell, cells_in, cells_of, plain_tokens, run_cell, sealed}
-use Rattle.cm_inlines.specs.Machine.{change_between, changed, close_node, close_nodes, is_sought, last_place, open_nodes, pair_at, pair_closer, pair_found, pair_from, pair_last, pair_nodes, pair_run, run_at}
+use Rattle.cm_inlines.specs.Machine.{change_between, changed, close_node, close_nodes, is_sought, last_place, open_nodes, pair_at, pair_found, pair_from, pair_last, pair_nodes, pair_run, run_at}
 use Rattle.cm_inlines.specs.Nodes.{cells, cells_at}
 use Rattle.cm_inlines.specs.States.{waiting}
 use Rattle.cm_inlines.specs.Tokens.{Token, close_emphasis, close_strong, open_emphasis, open_strong, tokens}

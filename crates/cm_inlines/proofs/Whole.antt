@@ -1,15 +1,14 @@
 -- The whole text.
-use Rattle.std.proofs.Common.{IsUtf8, ◌≡◌, ◌∙◌, List, [], ap, arith, drop, length, refl, subst, sym, zero, suc, ℕ, ◌++◌, ◌+◌, ◌-◌, ◌<◌, ◌∷◌, ◌≤◌, Some}
+use Rattle.std.proofs.Common.{IsUtf8, ◌≡◌, ◌∙◌, List, [], ap, arith, drop, length, refl, subst, sym, zero, suc, ℕ, ◌++◌, ◌+◌, ◌-◌, ◌∷◌, ◌≤◌}
 use Rattle.std.proofs.lemmas.Str.{IsCharBoundary-start}
 use Rattle.markdown_grammar.specs.Definitions.{Definition}
 use Rattle.markdown_grammar.specs.Emphasis.{pairs}
 use Rattle.markdown_grammar.specs.Inlines.{Inlines}
-use Rattle.markdown_grammar.specs.Pieces.{Piece}
-use Rattle.markdown_grammar.specs.Reading.{first_spot, inlines, pieces_from}
-use Rattle.cm_inlines.specs.Cells.{Cell, cells_of, plain_tokens}
+use Rattle.markdown_grammar.specs.Reading.{inlines}
+use Rattle.cm_inlines.specs.Cells.{plain_tokens}
 use Rattle.cm_inlines.specs.Machine.{pair_from}
 use Rattle.cm_inlines.specs.Nodes.{IsLaidOut, cells, cells_at, tokens_in}
-use Rattle.cm_inlines.specs.States.{GoesOn, IsPlaced, Reads, Sound, spot_at, waiting}
+use Rattle.cm_inlines.specs.States.{GoesOn, IsPlaced, Reads, Sound, waiting}
 use Rattle.cm_inlines.specs.TokenCode.{tree_of-tokens}
 use Rattle.cm_inlines.specs.Tokens.{Token, tokens, tree_of}
 use Rattle.cm_inlines.specs.declared.node.Node.{Node}

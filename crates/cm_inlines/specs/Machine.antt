@@ -4,7 +4,6 @@ use Rattle.markdown_grammar.specs.Emphasis.{lengths_fit, strength}
 use Rattle.cm_inlines.specs.declared.changes.Change.{Change}
 use Rattle.cm_inlines.specs.declared.changes.Change.TheVariants.{Calm, Freeze}
 use Rattle.cm_inlines.specs.declared.node.Node.{Node}
-use Rattle.cm_inlines.specs.declared.node.Opening.{Opening}
 use Rattle.cm_inlines.specs.declared.node.Run.{Run}
 use Rattle.cm_inlines.specs.declared.node.Node.TheVariants as node
 use Rattle.cm_inlines.specs.declared.pairing.Sought.{Sought}

@@ -1,14 +1,12 @@
 -- What nodes stand for.
 use Rattle.std.specs.Char.{encode_utf8}
-use Rattle.std.specs.Prelude.{◌≡◌, Bool, List, None, Option, [], codes, drop, replicate, ℕ, ◌++◌, ◌∷◌}
+use Rattle.std.specs.Prelude.{◌≡◌, List, None, [], codes, drop, replicate, ℕ, ◌++◌, ◌∷◌}
 use Rattle.markdown_grammar.specs.CodeSpans.{spaced}
-use Rattle.markdown_grammar.specs.Definitions as definitions
 use Rattle.markdown_grammar.specs.Emphasis.{bracket_text}
 use Rattle.cm_inlines.specs.Cells.{Cell, bracket_cell, plain_tokens, run_cell, sealed}
 use Rattle.cm_inlines.specs.Tokens as token
 use Rattle.cm_inlines.specs.Tokens.{Token, tokens, tree_of}
 use Rattle.cm_inlines.specs.declared.node.Node.{Node}
-use Rattle.cm_inlines.specs.declared.node.Target.{Target}
 use Rattle.cm_inlines.specs.declared.node.Node.TheVariants as node
 
 -- an address that is its own text

@@ -1,5 +1,5 @@
 -- What each step does with the list of nodes.
-use Rattle.std.specs.Prelude.{Bool, List, None, Option, Some, [], drop, false, if◌then◌else◌, length, replicate, slice_get, slice_set, suc, take, true, ℕ, ◌++◌, ◌+◌, ◌-◌, ◌∷◌}
+use Rattle.std.specs.Prelude.{Bool, List, None, Option, Some, [], drop, false, if◌then◌else◌, length, replicate, slice_get, slice_set, take, true, ℕ, ◌++◌, ◌+◌, ◌-◌, ◌∷◌}
 use Rattle.markdown_grammar.specs.Definitions.{Definition}
 use Rattle.markdown_grammar.specs.Links as links
 use Rattle.cm_spans.specs.declared.flanking.Marks.{Marks}

@@ -1,5 +1,5 @@
 -- Inlines as their tokens, by which a proof tells inlines apart.
-use Rattle.std.specs.Prelude.{◌≡◌, List, None, Option, Some, [], if◌then◌else◌, refl, ℕ, ◌++◌, ◌==◌, ◌∷◌}
+use Rattle.std.specs.Prelude.{◌≡◌, List, None, Option, [], if◌then◌else◌, refl, ℕ, ◌++◌, ◌==◌, ◌∷◌}
 use Rattle.std.specs.Coded.{Coded, code_by, coded_list, coded_option, coded_ℕ, coded×}
 use Rattle.std.proofs.Common.{ap, append_assoc, append-nil, sym, ◌∙◌}
 use Rattle.markdown_grammar.specs.Inlines.{Inlines, before_all, code_span, emphasis, hard_break, image, link, no_inlines, raw_html, soft_break, strong, textual}

@@ -1,7 +1,6 @@
 -- Inlines from left to right, where what opens and what closes stands for itself: CommonMark 0.31.2, section 6.
-use Rattle.std.specs.Prelude.{◌≡◌, List, None, Option, Some, [], refl, ℕ, ◌++◌, ◌∷◌}
-use Rattle.std.proofs.Common.{ap, append_assoc, sym, ◌∙◌}
-use Rattle.markdown_grammar.specs.Inlines.{Inlines, before_all, code_span, emphasis, hard_break, image, link, no_inlines, raw_html, soft_break, strong, textual}
+use Rattle.std.specs.Prelude.{List, Option, [], ℕ, ◌++◌, ◌∷◌}
+use Rattle.markdown_grammar.specs.Inlines.{Inlines, code_span, emphasis, hard_break, image, link, no_inlines, raw_html, soft_break, strong, textual}
 
 pub data Token : Type 0 where
   text_token : (bytes : List ℕ) → Token

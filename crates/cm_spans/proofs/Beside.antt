@@ -1,9 +1,9 @@
 -- The characters beside a run of marks.
-use Rattle.std.proofs.Common.{◌≡◌, ◌∙◌, Bool, List, [], ap, arith, cond, drop, false, get_or, length, min, nat_lt, not, refl, reverse, subst, suc, sym, take, true, zero, ℕ, ◌++◌, ◌*◌, ◌&&◌, ◌+◌, ◌-◌, ◌<◌, ◌∷◌, ◌≤◌, IsUtf8}
+use Rattle.std.proofs.Common.{◌≡◌, ◌∙◌, Bool, List, [], ap, arith, cond, drop, false, get_or, length, nat_lt, not, refl, reverse, suc, sym, take, true, zero, ℕ, ◌++◌, ◌*◌, ◌+◌, ◌-◌, ◌<◌, ◌∷◌, ◌≤◌}
 use Rattle.std.specs.Str.{IsCharBoundary, chars, chars_after, continuation_len, lead_bits}
 use Rattle.std.proofs.lemmas.List.{length-drop, length-reverse, reverse-append, reverse-reverse, take-append-drop}
 use Rattle.std.proofs.Math.Seq.{take-append_seam}
-use Rattle.markdown_grammar.specs.Flanking.{char_after, char_before, is_lead, lead_size}
+use Rattle.markdown_grammar.specs.Flanking.{char_after, is_lead, lead_size}
 use Rattle.markdown_grammar.specs.Fronts.{run_len}
 use Rattle.cm_starts.proofs.Ends.{last_of}
 use Rattle.cm_starts.proofs.Repeats.{take_whole}

@@ -1,11 +1,11 @@
 -- Readers that end with one byte of ASCII.
-use Rattle.std.proofs.Common.{◌≡◌, ◌∙◌, Bool, List, None, Option, Some, [], ap, arith, codes, cond, drop, false, get_or, length, nat_lt, refl, subst, suc, sym, true, zero, ℕ, ◌+◌, ◌-◌, ◌<◌, ◌==◌, ◌∷◌, ◌≤◌, IsUtf8, IfSome}
+use Rattle.std.proofs.Common.{◌≡◌, ◌∙◌, Bool, List, None, Option, Some, [], ap, arith, codes, cond, drop, false, get_or, length, refl, subst, suc, sym, true, zero, ℕ, ◌+◌, ◌-◌, ◌<◌, ◌==◌, ◌∷◌, ◌≤◌, IsUtf8, IfSome}
 use Rattle.std.specs.Str.{IsCharBoundary}
 use Rattle.std.proofs.lemmas.List.{drop_more, get_or-drop, length-drop}
 use Rattle.cm_starts.proofs.Repeats.{Goes}
 use Rattle.markdown_grammar.specs.Autolinks.{host_part, pointed}
 use Rattle.markdown_grammar.specs.Fronts.{begins_with}
-use Rattle.markdown_grammar.specs.Readers.{Reader, ahead, at_least, exactly, perhaps, plus, repeat, to, white_gap, ◌or◌, ◌then◌}
+use Rattle.markdown_grammar.specs.Readers.{Reader, ahead, exactly, perhaps, plus, repeat, to, white_gap, ◌or◌, ◌then◌}
 use Rattle.markdown_grammar.specs.Bytes.{is_letter}
 use Rattle.markdown_grammar.specs.Tags.{attribute, cdata, closing_tag, comment, declaration, html_tag, instruction, open_tag, tag_name}
 use Rattle.cm_links.specs.Cuts.{HasByte, IsLabelled}

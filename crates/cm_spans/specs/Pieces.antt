@@ -1,6 +1,6 @@
 -- What a span stands for, as a piece of inlines: CommonMark 0.31.2, section 6.
 use Rattle.std.specs.Char.{encode_utf8}
-use Rattle.std.specs.Prelude.{Bool, List, None, Some, [], codes, drop, false, if◌then◌else◌, take, true, ℕ, ◌&&◌, ◌==◌, ◌||◌, ◌∷◌}
+use Rattle.std.specs.Prelude.{List, None, Some, [], codes, drop, false, if◌then◌else◌, take, true, ℕ, ◌&&◌, ◌==◌, ◌||◌}
 use Rattle.markdown_grammar.specs.CodeSpans as grammar
 use Rattle.markdown_grammar.specs.Inlines.{code_span, hard_break, no_inlines, raw_html, soft_break, textual}
 use Rattle.markdown_grammar.specs.Pieces.{Piece, delimiter_run, finished, open_bracket, run_at}

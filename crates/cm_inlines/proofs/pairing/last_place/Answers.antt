@@ -1,6 +1,6 @@
 use Rattle.std.proofs.Common.{arith, sym, ◌∙◌}
 use Rattle.cm_inlines.specs.Machine.{is_sought}
-use Rattle.cm_inlines.proofs.MachineLaws.{last_here, last_more, last_none}
+use Rattle.cm_inlines.proofs.MachineLaws.{last_here, last_more}
 use Rattle.cm_inlines.proofs.pairing.last_place.Goals as goal
 
 pub returns-then-is_sought-clause-value : goal.returns-then-is_sought-clause-value

@@ -1,5 +1,5 @@
 use Rattle.std.proofs.Common.{arith}
-use Rattle.cm_inlines.proofs.MachineLaws.{pair_end, pair_more}
+use Rattle.cm_inlines.proofs.MachineLaws.{pair_more}
 use Rattle.cm_inlines.proofs.pairing.pair_from.Goals as goal
 
 pub loop-place-preserved : goal.loop-place-preserved

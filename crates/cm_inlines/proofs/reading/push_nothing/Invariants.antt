@@ -1,4 +1,4 @@
-use Rattle.std.proofs.Common.{◌≡◌, ◌≤◌, ◌-◌, ◌++◌, replicate}
+use Rattle.std.proofs.Common.{◌≡◌, ◌-◌, ◌++◌, replicate}
 use Rattle.cm_inlines.specs.declared.node.Node.TheVariants.{Nothing}
 use Rattle.cm_inlines.proofs.reading.push_nothing.Given as goal
 

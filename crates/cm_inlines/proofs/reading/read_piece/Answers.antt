@@ -1,4 +1,4 @@
-use Rattle.std.proofs.Common.{arith, ap, get_or, sym, ℕ, List, ◌∙◌}
+use Rattle.std.proofs.Common.{arith}
 use Rattle.cm_inlines.proofs.SpanLaws.{reads_bracket, reads_span}
 use Rattle.cm_inlines.proofs.reading.read_piece.Goals as goal
 

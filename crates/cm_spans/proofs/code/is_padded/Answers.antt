@@ -1,4 +1,4 @@
-use Rattle.std.proofs.Common.{arith, sym, ◌∙◌}
+use Rattle.std.proofs.Common.{sym, ◌∙◌}
 use Rattle.cm_spans.proofs.Spaced.{padded_on}
 use Rattle.cm_spans.proofs.code.is_padded.Goals as goal
 

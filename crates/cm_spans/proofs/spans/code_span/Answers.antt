@@ -1,4 +1,4 @@
-use Rattle.std.proofs.Common.{arith, subst, ◌<◌}
+use Rattle.std.proofs.Common.{arith, ◌<◌}
 use Rattle.cm_spans.proofs.Runs.{run_ends, run_some}
 use Rattle.cm_spans.proofs.Spaced.{span_cuts}
 use Rattle.cm_spans.proofs.spans.code_span.Goals as goal
