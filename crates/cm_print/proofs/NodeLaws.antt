@@ -1,6 +1,6 @@
 -- Nodes print one after another.
 use Rattle.std.proofs.Common.{◌≡◌, ◌∙◌, ap, sym, refl, ℕ, suc, ◌+◌, ◌-◌, ◌<◌, ◌≤◌, List, [], ◌∷◌, ◌++◌, append_assoc, append-nil, length, drop, get_or, replicate, arith, length-append, drop-cons, add-one}
-use Rattle.markdown_grammar.specs.Escaping.{escaped, escaped_byte}
+use Rattle.markdown_grammar.specs.Escaping.{escaped, escaped_byte, url_byte, url_text}
 use Rattle.markdown_grammar.specs.InlineHtml.{inline_html}
 use Rattle.markdown_grammar.specs.Inlines.{Inlines}
 use Rattle.cm_inlines.specs.Cells.{Cell, plain_tokens, token_of}
@@ -60,3 +60,11 @@ mark_refused w whole most len i mark lt same over =
 
 pub mark_end : (w whole : List ℕ) (len i mark : ℕ) → len ≤ i → w ++ escaped (replicate (len - i) mark) ≡ whole → w ≡ whole
 mark_end w whole len i mark past same = let e : len - i ≡ 0 = omega arith in sym (append-nil w) ∙ ap (λ k. w ++ escaped (replicate k mark)) (sym e) ∙ same
+
+-- ---- addresses
+
+-- a byte of an address that does not fit
+pub url_refused : (w whole : List ℕ) (most : ℕ) (bytes : List ℕ) (i d : ℕ) → i < length bytes → w ++ url_text (drop i bytes) ≡ whole → most < length (w ++ url_byte (get_or bytes i d)) → most < length whole
+url_refused w whole most bytes i d lt same over =
+    let rest : url_text (drop i bytes) ≡ url_byte (get_or bytes i d) ++ url_text (drop (suc i) bytes) = ap (λ (t : List ℕ). url_text t) (drop-cons bytes i d lt) in
+    omega (arith, over, ap length same, ap length rest, length-append w (url_text (drop i bytes)), length-append w (url_byte (get_or bytes i d)), length-append (url_byte (get_or bytes i d)) (url_text (drop (suc i) bytes)))

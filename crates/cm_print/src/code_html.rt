@@ -24,37 +24,17 @@ impl Writer {
     ) -> Result<(), HtmlError>
         ensures { Reaches self.old self.new (code_after info.now text.now (written self.old)) result }
     {
-        match self.fresh_line() {
-            Ok(()) => (),
-            Err(error) => return Err(error),
-        }
+        self.fresh_line()?;
         self.push_code_tags(alloc, info, text)
     }
 
-    fn push_code_tags(
-        &mut self,
-        alloc: Global,
-        info: &str,
-        text: &str,
-    ) -> Result<(), HtmlError>
+    fn push_code_tags(&mut self, alloc: Global, info: &str, text: &str) -> Result<(), HtmlError>
         ensures { Prints self.old self.new (code_html info.now text.now) result }
     {
-        match self.push("<pre><code") {
-            Ok(()) => (),
-            Err(error) => return Err(error),
-        }
-        match self.push_language(alloc, info) {
-            Ok(()) => (),
-            Err(error) => return Err(error),
-        }
-        match self.push(">") {
-            Ok(()) => (),
-            Err(error) => return Err(error),
-        }
-        match self.push_text(text) {
-            Ok(()) => (),
-            Err(error) => return Err(error),
-        }
+        self.push("<pre><code")?;
+        self.push_language(alloc, info)?;
+        self.push(">")?;
+        self.push_text(text)?;
         self.push("</code></pre>\n")
     }
 
@@ -79,14 +59,8 @@ impl Writer {
     fn push_given_class(&mut self, language: &str) -> Result<(), HtmlError>
         ensures { Prints self.old self.new (codes " class=\"language-" ++ (escaped language.now ++ codes "\"")) result }
     {
-        match self.push(" class=\"language-") {
-            Ok(()) => (),
-            Err(error) => return Err(error),
-        }
-        match self.push_text(language) {
-            Ok(()) => (),
-            Err(error) => return Err(error),
-        }
+        self.push(" class=\"language-")?;
+        self.push_text(language)?;
         self.push("\"")
     }
 }

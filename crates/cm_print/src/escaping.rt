@@ -32,17 +32,11 @@ impl Writer {
         let mut rest = text;
         while !rest.is_empty() {
             let plain = plain_len(escape, rest);
-            match self.push(&rest[..plain]) {
-                Ok(()) => (),
-                Err(error) => return Err(error),
-            }
+            self.push(&rest[..plain])?;
             if plain == rest.len() {
                 return Ok(());
             }
-            match self.push(escape.reference(rest.as_bytes()[plain])) {
-                Ok(()) => (),
-                Err(error) => return Err(error),
-            }
+            self.push(escape.reference(rest.as_bytes()[plain]))?;
             rest = &rest[plain + 1..];
         }
         Ok(())

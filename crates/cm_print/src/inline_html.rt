@@ -24,10 +24,7 @@ impl Writer {
     {
         let mut place = Place::Outside;
         for node in inlines.nodes() {
-            match self.push_node(place, node) {
-                Ok(()) => (),
-                Err(error) => return Err(error),
-            }
+            self.push_node(place, node)?;
             place = behind(place, node);
         }
         Ok(())
@@ -81,50 +78,26 @@ impl Writer {
     fn push_code_span(&mut self, text: &str) -> Result<(), HtmlError>
         ensures { Prints self.old self.new (codes "<code>" ++ (escaped (spaced text.now) ++ codes "</code>")) result }
     {
-        match self.push("<code>") {
-            Ok(()) => (),
-            Err(error) => return Err(error),
-        }
-        match self.push_code(text) {
-            Ok(()) => (),
-            Err(error) => return Err(error),
-        }
+        self.push("<code>")?;
+        self.push_code(text)?;
         self.push("</code>")
     }
 
     fn push_uri(&mut self, address: &str) -> Result<(), HtmlError>
         ensures { Prints self.old self.new (link_start address.now None ++ (escaped address.now ++ codes "</a>")) result }
     {
-        match self.push_link_to(address, None) {
-            Ok(()) => (),
-            Err(error) => return Err(error),
-        }
-        match self.push_text(address) {
-            Ok(()) => (),
-            Err(error) => return Err(error),
-        }
+        self.push_link_to(address, None)?;
+        self.push_text(address)?;
         self.push("</a>")
     }
 
     fn push_email(&mut self, address: &str) -> Result<(), HtmlError>
         ensures { Prints self.old self.new (link_start (codes "mailto:" ++ address.now) None ++ (escaped address.now ++ codes "</a>")) result }
     {
-        match self.push("<a href=\"mailto:") {
-            Ok(()) => (),
-            Err(error) => return Err(error),
-        }
-        match self.push_url(address) {
-            Ok(()) => (),
-            Err(error) => return Err(error),
-        }
-        match self.push("\">") {
-            Ok(()) => (),
-            Err(error) => return Err(error),
-        }
-        match self.push_text(address) {
-            Ok(()) => (),
-            Err(error) => return Err(error),
-        }
+        self.push("<a href=\"mailto:")?;
+        self.push_url(address)?;
+        self.push("\">")?;
+        self.push_text(address)?;
         self.push("</a>")
     }
 
@@ -137,36 +110,18 @@ impl Writer {
     fn push_link_to(&mut self, url: &str, title: Option<&Text>) -> Result<(), HtmlError>
         ensures { Prints self.old self.new (link_start url.now (option_copied title.entry)) result }
     {
-        match self.push("<a href=\"") {
-            Ok(()) => (),
-            Err(error) => return Err(error),
-        }
-        match self.push_url(url) {
-            Ok(()) => (),
-            Err(error) => return Err(error),
-        }
-        match self.push("\"") {
-            Ok(()) => (),
-            Err(error) => return Err(error),
-        }
-        match self.push_title(title) {
-            Ok(()) => (),
-            Err(error) => return Err(error),
-        }
+        self.push("<a href=\"")?;
+        self.push_url(url)?;
+        self.push("\"")?;
+        self.push_title(title)?;
         self.push(">")
     }
 
     fn push_image_start(&mut self, target: &Target) -> Result<(), HtmlError>
         ensures { Prints self.old self.new (codes "<img src=\"" ++ (url_text target.now.url ++ codes "\" alt=\"")) result }
     {
-        match self.push("<img src=\"") {
-            Ok(()) => (),
-            Err(error) => return Err(error),
-        }
-        match self.push_url(target.url.as_str()) {
-            Ok(()) => (),
-            Err(error) => return Err(error),
-        }
+        self.push("<img src=\"")?;
+        self.push_url(target.url.as_str())?;
         self.push("\" alt=\"")
     }
 
@@ -182,14 +137,8 @@ impl Writer {
     fn push_given_title(&mut self, title: &str) -> Result<(), HtmlError>
         ensures { Prints self.old self.new (title_text (Some title.now)) result }
     {
-        match self.push(" title=\"") {
-            Ok(()) => (),
-            Err(error) => return Err(error),
-        }
-        match self.push_text(title) {
-            Ok(()) => (),
-            Err(error) => return Err(error),
-        }
+        self.push(" title=\"")?;
+        self.push_text(title)?;
         self.push("\"")
     }
 
@@ -207,10 +156,7 @@ impl Writer {
         ensures { Prints self.old self.new (escaped (replicate len mark)) result }
     {
         for place in 0..len {
-            match self.push_mark(mark) {
-                Ok(()) => (),
-                Err(error) => return Err(error),
-            }
+            self.push_mark(mark)?;
         }
         Ok(())
     }
@@ -265,14 +211,8 @@ impl Writer {
         if images > 0 {
             return Ok(());
         }
-        match self.push("\"") {
-            Ok(()) => (),
-            Err(error) => return Err(error),
-        }
-        match self.push_title(title) {
-            Ok(()) => (),
-            Err(error) => return Err(error),
-        }
+        self.push("\"")?;
+        self.push_title(title)?;
         self.push(" />")
     }
 }

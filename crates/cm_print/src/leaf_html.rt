@@ -48,24 +48,15 @@ impl Writer {
         if is_tight {
             return self.push_inlines(body);
         }
-        match self.fresh_line() {
-            Ok(()) => (),
-            Err(error) => return Err(error),
-        }
+        self.fresh_line()?;
         self.push_tagged_paragraph(body)
     }
 
     fn push_tagged_paragraph(&mut self, body: &Inlines<'_>) -> Result<(), HtmlError>
         ensures { Prints self.old self.new (tagged (codes "p") (inline_html body.now)) result }
     {
-        match self.push("<p>") {
-            Ok(()) => (),
-            Err(error) => return Err(error),
-        }
-        match self.push_inlines(body) {
-            Ok(()) => (),
-            Err(error) => return Err(error),
-        }
+        self.push("<p>")?;
+        self.push_inlines(body)?;
         self.push("</p>\n")
     }
 
@@ -88,24 +79,15 @@ impl Writer {
     fn push_heading_of(&mut self, level: usize, body: &Inlines<'_>) -> Result<(), HtmlError>
         ensures { Reaches self.old self.new (heading_after level (inline_html body.now) (written self.old)) result }
     {
-        match self.fresh_line() {
-            Ok(()) => (),
-            Err(error) => return Err(error),
-        }
+        self.fresh_line()?;
         self.push_tagged_heading(level, body)
     }
 
     fn push_tagged_heading(&mut self, level: usize, body: &Inlines<'_>) -> Result<(), HtmlError>
         ensures { Prints self.old self.new (tagged (heading_name level) (inline_html body.now)) result }
     {
-        match self.push_heading_tag("<h", level, ">") {
-            Ok(()) => (),
-            Err(error) => return Err(error),
-        }
-        match self.push_inlines(body) {
-            Ok(()) => (),
-            Err(error) => return Err(error),
-        }
+        self.push_heading_tag("<h", level, ">")?;
+        self.push_inlines(body)?;
         self.push_heading_tag("</h", level, ">\n")
     }
 
@@ -116,14 +98,8 @@ impl Writer {
         if level > 9 {
             return Err(HtmlError::Memory);
         }
-        match self.push(start) {
-            Ok(()) => (),
-            Err(error) => return Err(error),
-        }
-        match self.push_ascii(b'0' + level as u8) {
-            Ok(()) => (),
-            Err(error) => return Err(error),
-        }
+        self.push(start)?;
+        self.push_ascii(b'0' + level as u8)?;
         self.push(end)
     }
 }

@@ -7,9 +7,7 @@ pub(crate) enum Closing {
     Text,
     Quote,
     /// A list, with the last character of its items' marks.
-    List {
-        mark: char,
-    },
+    List { mark: char },
     Item,
 }
 

@@ -21,10 +21,7 @@ impl Writer {
     ) -> Result<(), HtmlError>
         ensures { Reaches self.old self.new (list_after mark number (written self.old)) result }
     {
-        match self.fresh_line() {
-            Ok(()) => (),
-            Err(error) => return Err(error),
-        }
+        self.fresh_line()?;
         self.push_list_tag(alloc, mark, number)
     }
 
@@ -47,10 +44,7 @@ impl Writer {
     pub(crate) fn push_line(&mut self, piece: &str) -> Result<(), HtmlError>
         ensures { Reaches self.old self.new (fresh_line (written self.old) ++ piece.now) result }
     {
-        match self.fresh_line() {
-            Ok(()) => (),
-            Err(error) => return Err(error),
-        }
+        self.fresh_line()?;
         self.push(piece)
     }
 
@@ -76,7 +70,11 @@ fn numbered_tag(alloc: Global, number: u64) -> Result<String, AllocError>
 fn list_end(mark: char) -> &'static str
     ensures { result.now ≡ (if is_bullet mark then codes "</ul>\n" else codes "</ol>\n") }
 {
-    if is_bullet(mark) { "</ul>\n" } else { "</ol>\n" }
+    if is_bullet(mark) {
+        "</ul>\n"
+    } else {
+        "</ol>\n"
+    }
 }
 
 fn is_bullet(mark: char) -> bool

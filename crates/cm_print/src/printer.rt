@@ -26,10 +26,8 @@ pub fn to_html(alloc: Global, text: &str, most: u64) -> Result<Text, HtmlError>
     };
     documents_have_the_html_of_their_blocks();
     let mut printer = Printer::new(alloc, most, blocks.nodes.len());
-    match printer.print(alloc, &blocks.links, blocks.nodes.as_slice()) {
-        Ok(()) => Ok(Text::from_string(printer.writer.text)),
-        Err(error) => Err(error),
-    }
+    printer.print(alloc, &blocks.links, blocks.nodes.as_slice())?;
+    Ok(Text::from_string(printer.writer.text))
 }
 
 /// HTML that is being made of nodes: the innermost level of blocks, and those around it, the innermost last.
@@ -62,10 +60,7 @@ impl Printer {
     {
         let mut place = 0;
         while place < nodes.len() {
-            match self.step(alloc, links, place, &nodes[place]) {
-                Ok(()) => (),
-                Err(error) => return Err(error),
-            }
+            self.step(alloc, links, place, &nodes[place])?;
             place += 1;
         }
         self.close(place)
@@ -81,10 +76,7 @@ impl Printer {
     ) -> Result<(), HtmlError>
         ensures { Moves self.old self.new (entered links.now place (closed_at place (state_of self.old)) node.now) result }
     {
-        match self.close(place) {
-            Ok(()) => (),
-            Err(error) => return Err(error),
-        }
+        self.close(place)?;
         self.enter(alloc, links, place, node)
     }
 
@@ -96,10 +88,7 @@ impl Printer {
             let Some(next) = self.outer.pop() else {
                 return Ok(());
             };
-            match self.writer.push_end(self.top.closing) {
-                Ok(()) => (),
-                Err(error) => return Err(error),
-            }
+            self.writer.push_end(self.top.closing)?;
             self.top = next;
         }
         Ok(())
@@ -121,32 +110,32 @@ impl Printer {
                     .push_paragraph(alloc, links, is_tight, text.as_str())
             }
             Node::Heading { level, text } => {
-                self.writer.push_heading(alloc, links, *level, text.as_str())
+                self.writer
+                    .push_heading(alloc, links, *level, text.as_str())
             }
             Node::Break => self.writer.push_line("<hr />\n"),
             Node::Code { info, text } => {
-                self.writer.push_code_block(alloc, info.as_str(), text.as_str())
+                self.writer
+                    .push_code_block(alloc, info.as_str(), text.as_str())
             }
             Node::Html { text } => self.writer.push_line(text.as_str()),
             Node::Quote { len } => {
-                match self.writer.push_line("<blockquote>\n") {
-                    Ok(()) => self.go_inside(place, *len, false, Closing::Quote),
-                    Err(error) => Err(error),
-                }
+                self.writer.push_line("<blockquote>\n")?;
+                self.go_inside(place, *len, false, Closing::Quote)
             }
             Node::List {
                 mark,
                 number,
                 is_loose,
                 len,
-            } => match self.writer.push_list_start(alloc, *mark, *number) {
-                Ok(()) => self.go_inside(place, *len, !*is_loose, Closing::List { mark: *mark }),
-                Err(error) => Err(error),
-            },
-            Node::Item { len } => match self.writer.push("<li>") {
-                Ok(()) => self.go_inside(place, *len, self.top.is_tight, Closing::Item),
-                Err(error) => Err(error),
-            },
+            } => {
+                self.writer.push_list_start(alloc, *mark, *number)?;
+                self.go_inside(place, *len, !*is_loose, Closing::List { mark: *mark })
+            }
+            Node::Item { len } => {
+                self.writer.push("<li>")?;
+                self.go_inside(place, *len, self.top.is_tight, Closing::Item)
+            }
         }
     }
 

@@ -16,12 +16,7 @@ fn repeated(alloc: Global, piece: &str, times: usize) -> Result<String, AllocErr
     Ok(out)
 }
 
-fn assert_html(
-    rt: &impl Abort,
-    alloc: Global,
-    text: &str,
-    wanted: &str,
-) -> Result<(), Fail> {
+fn assert_html(rt: &impl Abort, alloc: Global, text: &str, wanted: &str) -> Result<(), Fail> {
     let found = to_html(alloc, text, MOST)?;
     assert_eq!(rt; found.as_str(), wanted, "{text}");
     Ok(())

@@ -12,10 +12,7 @@ impl Writer {
         ensures { Prints self.old self.new (url_text url.now) result }
     {
         for byte in url.as_bytes() {
-            match self.push_url_byte(*byte) {
-                Ok(()) => (),
-                Err(error) => return Err(error),
-            }
+            self.push_url_byte(*byte)?;
         }
         Ok(())
     }
@@ -36,14 +33,8 @@ impl Writer {
     fn push_percent(&mut self, byte: u8) -> Result<(), HtmlError>
         ensures { Prints self.old self.new (37 ∷ hex_digit (byte / 16) ∷ hex_digit (byte % 16) ∷ []) result }
     {
-        match self.push("%") {
-            Ok(()) => (),
-            Err(error) => return Err(error),
-        }
-        match self.push_ascii(hex_digit(byte / 16)) {
-            Ok(()) => (),
-            Err(error) => return Err(error),
-        }
+        self.push("%")?;
+        self.push_ascii(hex_digit(byte / 16))?;
         self.push_ascii(hex_digit(byte % 16))
     }
 }

@@ -1,15 +1,17 @@
 use Rattle.std.proofs.Common.{ℕ, [], ◌∙◌, ap, arith, length, sym}
 use Rattle.markdown_grammar.specs.Blocks.{blocks_of}
+use Rattle.std.proofs.lemmas.Result.{err_from_is_err_and}
 use Rattle.cm_print.specs.NodeWalk.{state, whole}
 use Rattle.cm_print.proofs.PrinterLaws.{html_is}
 use Rattle.cm_print.proofs.printer.to_html.Goals as goal
 
-pub returns-in-Ok-print-clause-made : goal.returns-in-Ok-print-clause-made
-returns-in-Ok-print-clause-made c =
-    c.from_string.ensures ∙ c.in-Ok-print.ensures.text
+pub returns-clause-made : goal.returns-clause-made
+returns-clause-made c =
+    c.from_string.ensures ∙ c.in_ok-print.ensures.text
     ∙ html_is c.args.text.now _ _ _ (c.as_slice.ensures.value ∙ c.in-Ok.ensures.nodes) c.in-Ok.ensures.links (c.new-printer.ensures.state ∙ ap (λ (n : ℕ). state (whole n) [] []) {x = c.len.result} {y = length c.as_slice.result.now} (omega arith)) (c.documents_have_the_html_of_their_blocks.ensures (blocks_of c.args.text.now))
 
-pub returns-clause-refused : goal.returns-clause-refused
-returns-clause-refused c = λ e.
+pub returns-in_err-print-clause-refused : goal.returns-in_err-print-clause-refused
+returns-in_err-print-clause-refused c =
+    let e = err_from_is_err_and c.from_residual.result c.from_residual.ensures.1 in
     let is = html_is c.args.text.now _ _ _ (c.as_slice.ensures.value ∙ c.in-Ok.ensures.nodes) c.in-Ok.ensures.links (c.new-printer.ensures.state ∙ ap (λ (n : ℕ). state (whole n) [] []) {x = c.len.result} {y = length c.as_slice.result.now} (omega arith)) (c.documents_have_the_html_of_their_blocks.ensures (blocks_of c.args.text.now)) in
-    omega (arith, c.in-Err.ensures e, c.new-printer.ensures.most, ap length is)
+    rw (e.1, e.2) (λ long. omega (arith, c.in_err-print.ensures long, c.new-printer.ensures.most, ap length is))

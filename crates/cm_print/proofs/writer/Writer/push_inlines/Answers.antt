@@ -1,17 +1,19 @@
 use Rattle.std.proofs.Common.{◌≡◌, ◌≤◌, ◌∙◌, ◌++◌, [], ap, sym, append-nil, arith, length, drop, drop_of_length-le}
 use Rattle.cm_inlines.specs.Nodes.{tokens_in}
+use Rattle.std.proofs.lemmas.Result.{err_from_is_err_and}
 use Rattle.cm_print.specs.InlineNodes.{place_of}
 use Rattle.cm_print.specs.InlineTokens.{printed}
 use Rattle.cm_print.specs.Writing.{written}
 use Rattle.cm_print.proofs.NodeLaws.{node_refused, nodes_all}
 use Rattle.cm_print.proofs.writer.Writer.push_inlines.Goals as goal
 
-pub returns-in-Err : goal.returns-in-Err
-returns-in-Err c = λ e.
+pub returns-in_err-push_node : goal.returns-in_err-push_node
+returns-in_err-push_node c =
+    let e = err_from_is_err_and c.from_residual.result c.from_residual.ensures.1 in
     let all = nodes_all c.args.inlines.now c.nodes-node-items.result.now c.nodes-node-items.ensures in
-    rw all at
+    rw (e.1, e.2) (λ long. rw all at
     (node_refused _ _ c.args.self.now.most (place_of c.loop-node.place) c.nodes-node-items.result.now c.loop-node.node-index c.node-item.result (omega arith) c.node-item.is c.loop-node.invariant.so_far
-    (rw c.loop-node.invariant.most at (c.in-Err.ensures e)))
+    (rw c.loop-node.invariant.most at (c.in_err-push_node.ensures long))))
 
 pub returns : goal.returns
 returns c =
@@ -19,6 +21,6 @@ returns c =
     let none : drop c.loop-node.node-index c.nodes-node-items.result.now ≡ [] = drop_of_length-le c.nodes-node-items.result.now past in
     record {
       text = sym (append-nil (written c.loop-node.self)) ∙ ap (λ ns. written c.loop-node.self ++ printed (place_of c.loop-node.place) (tokens_in ns)) (sym none) ∙ c.loop-node.invariant.so_far
-      ∙ ap (λ t. written c.args.self.now ++ t) (nodes_all c.args.inlines.now c.nodes-node-items.result.now c.nodes-node-items.ensures);
+          ∙ ap (λ t. written c.args.self.now ++ t) (nodes_all c.args.inlines.now c.nodes-node-items.result.now c.nodes-node-items.ensures);
       most = c.loop-node.invariant.most;
     }
