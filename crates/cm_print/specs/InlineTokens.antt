@@ -1,4 +1,4 @@
--- Inlines as HTML, one token after another: what opens and what closes has a tag of its own. In the description of an image there are no tags.
+-- Inlines as HTML, one token after another (CommonMark 0.31.2, section 6): what opens and what closes has a tag of its own. In the description of an image there are no tags (section 6.4).
 use Rattle.std.specs.Prelude.{List, [], ◌∷◌, ◌++◌, ℕ, zero, suc, Option, None, codes}
 use Rattle.markdown_grammar.specs.Bytes.{line_feed}
 use Rattle.markdown_grammar.specs.Escaping.{escaped, title_text, url_text}

@@ -1,4 +1,4 @@
--- Flat nodes as HTML, one after another: a level is closed before the first node behind it.
+-- Flat nodes as HTML (CommonMark 0.31.2, sections 4 and 5), one after another: a level is closed before the first node behind it.
 use Rattle.std.specs.Prelude.{Bool, true, false, List, [], ◌∷◌, ◌++◌, ◌+◌, ◌==◌, codes, not, ℕ}
 use Rattle.markdown_grammar.specs.Definitions.{Definition}
 use Rattle.markdown_grammar.specs.LeafHtml.{paragraph_onto}
