@@ -1,2 +1,4 @@
-pub mod JsonLaws
+pub mod ItemLaws
+pub mod MemberLaws
+pub mod ReadingLaws
 pub mod TableLaws

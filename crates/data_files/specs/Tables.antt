@@ -37,9 +37,3 @@ IsTable separator s made = (rows : List (List (List ℕ))) × AreRows separator 
 abbrev pub IsNoTable : Refusal → ℕ → List ℕ → Type 0
 IsNoTable refusal.Refused separator s = IsTable separator s None
 IsNoTable refusal.Memory separator s = Unit {0}
-
--- a field by its name, where there are both
-abbrev pub with_field : Option (List ℕ) → Option (List ℕ) → Pairs → Pairs
-with_field None field ps = ps
-with_field (Some name) None ps = ps
-with_field (Some name) (Some field) ps = set name (text field) ps

@@ -5,7 +5,7 @@ ghost use Rattle.data_files.specs.declared.format.Format.TheVariants as form;
 
 use crate::data_error::DataError;
 use crate::format::Format;
-use crate::json::read_json;
+use crate::json_texts::read_json;
 use crate::refusal::Refusal;
 use crate::tables::{read_csv, read_tsv};
 use front_yaml::{YamlError, read_yaml};

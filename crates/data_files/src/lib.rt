@@ -4,13 +4,14 @@
 mod data_error;
 mod files;
 mod format;
-mod json;
+mod json_numbers;
+mod json_texts;
 mod refusal;
 mod tables;
 
 pub use data_error::DataError;
 pub use files::read_data;
-pub use json::read_json;
+pub use json_texts::read_json;
 pub use refusal::Refusal;
 pub use tables::{read_csv, read_tsv};
 

@@ -1,14 +1,15 @@
 // Texts of records.
-ghost use Rattle.std.specs.Prelude.{◌≡◌, Some, IfOk, OnOk, MatchResult, map};
+ghost use Rattle.std.specs.Prelude.{◌≡◌, IfOk, OnOk, MatchResult, Some, length};
 ghost use Rattle.std.specs.Option.{option_copied};
 ghost use Rattle.csv.specs.Records.{fields_of};
-ghost use Rattle.site_base.specs.Plain.{no_pairs, Items};
+ghost use Rattle.site_base.specs.Plain.{no_pairs};
 ghost use Rattle.site_base.specs.View.{plain};
-ghost use Rattle.data_files.specs.Json.{IsRefused};
-ghost use Rattle.data_files.specs.Tables.{AreRows, IsTable, IsNoTable, fill, hashes, table, with_field};
+ghost use Rattle.data_files.specs.Readings.{with_last};
+ghost use Rattle.data_files.specs.Tables.{IsTable, IsNoTable};
+ghost use Rattle.data_files.specs.Columns.{placed, picked, picked_field, row_of, text_or_nil, place_set, GoesOn};
 
 use crate::refusal::Refusal;
-use csv::{Error, ReaderBuilder, StringRecord};
+use csv::{ReaderBuilder, StringRecord};
 use site_base::{GrowingHash, Hash, List, Memory, Text, Value};
 use std::alloc::Global;
 
@@ -38,83 +39,138 @@ fn read_table(alloc: Global, text: &[u8], separator: u8) -> Result<Value, Refusa
         (λ value. IsTable separator text.now (Some (plain value)))
         (λ error. IsNoTable error separator text.now) }
 {
-    match rows_of(alloc, text, separator) {
-        Ok(rows) => table_of(alloc, rows.as_slice()),
-        Err(_) => Err(Refusal::Memory),
-    }
-}
-
-// The records of a text whose fields have a separator between them. The only errors are those of memory, since the
-// bytes are text and lie in memory, and since records may differ in length here.
-fn rows_of(alloc: Global, text: &[u8], separator: u8) -> Result<Vec<StringRecord>, Error>
-    ensures { IfOk result (λ rows. AreRows separator text.now (map fields_of rows.items)) }
-{
     let rdr = ReaderBuilder::new()
         .has_headers(false)
         .flexible(true)
         .delimiter(separator)
         .from_reader(alloc, text);
-    let mut rows = Vec::new(alloc);
+    let mut table = Table::Empty;
     for row in rdr.into_records() {
-        if rows.push(row?).is_err() {
-            return Err(Error::out_of_memory());
+        match row {
+            Ok(row) => table = with_record(alloc, table, &row)?,
+            // The bytes are text and lie in memory, and records may differ in length here.
+            Err(_) => return Err(Refusal::Memory),
         }
     }
-    Ok(rows)
-}
-
-/// The list of hashes that records are.
-fn table_of(alloc: Global, rows: &[StringRecord]) -> Result<Value, Refusal>
-    ensures { MatchResult result
-        (λ value. table (map fields_of rows.now) ≡ Some (plain value))
-        (λ error. IsRefused error (table (map fields_of rows.now))) }
-{
-    match rows {
-        [] => Ok(Value::List(List::new(alloc))),
-        [names, rows @ ..] => Ok(Value::List(list_of(alloc, names, rows)?)),
+    match table {
+        Table::Empty => Ok(Value::List(List::new(alloc))),
+        Table::Rows(_, rows) => match rows {
+            Some(rows) => Ok(Value::List(rows)),
+            None => Err(Refusal::Refused),
+        },
     }
 }
 
-fn list_of(alloc: Global, names: &StringRecord, rows: &[StringRecord]) -> Result<List, Refusal>
-    ensures { MatchResult result
-        (λ list. hashes (fields_of names.now) (map fields_of rows.now) ≡ Some list)
-        (λ error. IsRefused error (hashes (fields_of names.now) (map fields_of rows.now))) }
+/// What the records of a text make, up to a place.
+#[derive(Drop)]
+enum Table {
+    Empty,
+    /// The first record's columns, and the hashes of those behind it; none where one had another number of fields.
+    Rows(Columns, Option<List>),
+}
+
+/// The columns of a table.
+#[derive(Drop)]
+struct Columns {
+    /// How many fields the first record has.
+    count: usize,
+    /// The place of the field that counts, by the column's name.
+    places: Hash,
+}
+
+// The table with one more record.
+fn with_record(alloc: Global, table: Table, row: &StringRecord) -> Result<Table, Memory>
+    ensures { IfOk result (GoesOn table (fields_of row.now)) }
 {
-    let mut list = List::new(alloc);
-    for row in rows {
-        if row.len() != names.len() {
-            return Err(Refusal::Refused);
+    match table {
+        Table::Empty => Ok(Table::Rows(columns_of(alloc, row)?, Some(List::new(alloc)))),
+        Table::Rows(columns, list) => {
+            let list = with_row(alloc, &columns, list, row)?;
+            Ok(Table::Rows(columns, list))
         }
-        list.push(Value::Hash(hash_of(alloc, names, row)?))?;
     }
-    Ok(list)
 }
 
-fn hash_of(alloc: Global, names: &StringRecord, row: &StringRecord) -> Result<Hash, Memory>
-    ensures { IfOk result (λ hash. hash ≡ fill (fields_of names.now) (fields_of row.now) no_pairs) }
+fn columns_of(alloc: Global, names: &StringRecord) -> Result<Columns, Memory>
+    ensures count { IfOk result (λ columns. columns.count ≡ length (fields_of names.now)) }
+    ensures places { IfOk result (λ columns. columns.places ≡ placed (fields_of names.now) 0 no_pairs) }
 {
-    let mut hash = GrowingHash::new(alloc);
+    let mut places = GrowingHash::new(alloc);
     for place in 0..names.len() {
-        set_field(alloc, &mut hash, names.get(place), row.get(place))?;
+        set_place(alloc, &mut places, names.get(place), place)?;
     }
-    Ok(hash.finish())
+    Ok(Columns {
+        count: names.len(),
+        places: places.finish(),
+    })
 }
 
-fn set_field(
+fn set_place(
     alloc: Global,
-    hash: &mut GrowingHash,
+    places: &mut GrowingHash,
     name: Option<&str>,
-    field: Option<&str>,
+    place: usize,
 ) -> Result<(), Memory>
-    ensures { OnOk result (hash.new ≡ with_field (option_copied name.entry) (option_copied field.entry) hash.old) }
+    ensures { OnOk result (places.new ≡ place_set (option_copied name.entry) place places.old) }
 {
-    match (name, field) {
-        (Some(name), Some(field)) => {
-            hash.set(
-                Text::copy(alloc, name)?,
-                Value::Text(Text::copy(alloc, field)?),
-            )
+    match (name, i64::try_from(place)) {
+        (Some(name), Ok(place)) => places.set(Text::copy(alloc, name)?, Value::Int(place)),
+        (None, _) => Ok(()),
+        // No record has so many fields.
+        (_, Err(_)) => Err(Memory),
+    }
+}
+
+// The rows with one more, where each has as many fields as there are columns.
+fn with_row(
+    alloc: Global,
+    columns: &Columns,
+    list: Option<List>,
+    row: &StringRecord,
+) -> Result<Option<List>, Memory>
+    ensures { IfOk result (λ made. made ≡ with_last list (row_of columns.now.count columns.now.places (fields_of row.now))) }
+{
+    match list {
+        Some(mut list) if row.len() == columns.count => {
+            list.push(Value::Hash(hash_of(alloc, &columns.places, row)?))?;
+            Ok(Some(list))
         }
-        _ => Ok(()),
+        _ => Ok(None),
+    }
+}
+
+// The hash from the names to the fields of a row.
+fn hash_of(alloc: Global, places: &Hash, row: &StringRecord) -> Result<Hash, Memory>
+    ensures { IfOk result (λ hash. hash ≡ picked (fields_of row.now) places.now) }
+{
+    let places = places.as_slice();
+    let mut hash = Hash::with_capacity(alloc, places.len())?;
+    for column in places {
+        hash.push(
+            Text::copy(alloc, column.key.as_str())?,
+            field_at(alloc, row, &column.value)?,
+        )?;
+    }
+    Ok(hash)
+}
+
+fn field_at(alloc: Global, row: &StringRecord, place: &Value) -> Result<Value, Memory>
+    ensures { IfOk result (λ field. plain field ≡ picked_field (fields_of row.now) (plain place.now)) }
+{
+    match place {
+        Value::Int(place) => match usize::try_from(*place) {
+            Ok(place) => text_of(alloc, row.get(place)),
+            Err(_) => Ok(Value::Nil),
+        },
+        _ => Ok(Value::Nil),
+    }
+}
+
+fn text_of(alloc: Global, field: Option<&str>) -> Result<Value, Memory>
+    ensures { IfOk result (λ text. plain text ≡ text_or_nil (option_copied field.entry)) }
+{
+    match field {
+        Some(field) => Ok(Value::Text(Text::copy(alloc, field)?)),
+        None => Ok(Value::Nil),
     }
 }

@@ -3,7 +3,7 @@ use Rattle.std.proofs.Common.{◌≡◌, ℕ, zero, suc, ◌<◌, ◌≤◌, con
 use Rattle.std.specs.List.{position, position_or_len}
 use Rattle.std.specs.Str.{bytes_eq}
 use Rattle.std.proofs.Math.ListN.{set as set_at}
-use Rattle.site_base.specs.Plain.{no_items, item, onto, count, count_pairs, item_list, get, set}
+use Rattle.site_base.specs.Plain.{no_items, item, onto, no_pairs, pair, onto_pairs, count, count_pairs, item_list, get, set}
 use Rattle.site_base.specs.View.{plain, items_of, pairs_of}
 use Rattle.site_base.specs.declared.value.Value.{Value}
 use Rattle.site_base.specs.declared.value.Pair.{Pair}
@@ -24,6 +24,10 @@ item_at (v ∷ vs) (suc i) d lt = item_at vs i d (omega arith)
 pub items_append : (vs : List Value) (v : Value) → items_of (vs ++ v ∷ []) ≡ onto (items_of vs) (item (plain v) no_items)
 items_append [] v = refl
 items_append (w ∷ vs) v = ap (λ is. item (plain w) is) (items_append vs v)
+
+pub pairs_append : (ps : List Pair) (p : Pair) → pairs_of (ps ++ p ∷ []) ≡ onto_pairs (pairs_of ps) (pair p.key (plain p.value) no_pairs)
+pairs_append [] p = refl
+pairs_append (q ∷ ps) p = ap (λ qs. pair q.key (plain q.value) qs) (pairs_append ps p)
 
 -- how many pairs stand before the first with the key
 abbrev pub place : List ℕ → List Pair → ℕ

@@ -35,6 +35,11 @@ abbrev pub onto : Items → Items → Items
 onto no_items is = is
 onto (item v vs) is = item v (onto vs is)
 
+-- the pairs, and then others
+abbrev pub onto_pairs : Pairs → Pairs → Pairs
+onto_pairs no_pairs ps = ps
+onto_pairs (pair k v qs) ps = pair k v (onto_pairs qs ps)
+
 -- the values of a list as a list
 abbrev pub item_list : Items → List Plain
 item_list no_items = []

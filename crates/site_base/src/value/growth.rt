@@ -1,6 +1,6 @@
 // Lists and hashes that grow.
-ghost use Rattle.std.specs.Prelude.{◌≡◌, OnOk, OnErr};
-ghost use Rattle.site_base.specs.Plain.{no_items, item, onto, no_pairs, set};
+ghost use Rattle.std.specs.Prelude.{◌≡◌, IfOk, OnOk, OnErr};
+ghost use Rattle.site_base.specs.Plain.{no_items, item, onto, no_pairs, pair, onto_pairs, set};
 ghost use Rattle.site_base.specs.View.{plain};
 
 use crate::value::lookups::place_of;
@@ -36,6 +36,25 @@ impl Hash {
         Hash {
             pairs: Vec::new(alloc),
         }
+    }
+
+    /// The empty hash, with room for so many pairs: it takes no more memory until there are more.
+    pub fn with_capacity(alloc: Global, pairs: usize) -> Result<Hash, Memory>
+        ensures { IfOk result (λ hash. hash ≡ no_pairs) }
+    {
+        Ok(Hash {
+            pairs: Vec::with_capacity(alloc, pairs)?,
+        })
+    }
+
+    /// Adds a pair at the end, and looks at no other: for keys that are known to differ.
+    #[tactic(auto, using(crate::proofs::ValueLaws::pairs_append))]
+    pub fn push(&mut self, key: Text, value: Value) -> Result<(), Memory>
+        ensures ok { OnOk result (self.new ≡ onto_pairs self.old (pair key (plain value) no_pairs)) }
+        ensures err { OnErr result (self.new ≡ self.old) }
+    {
+        self.pairs.push(Pair { key, value })?;
+        Ok(())
     }
 
     /// Gives the first pair with the key this value, or adds a pair at the end where there is none.
