@@ -13,7 +13,7 @@ use crate::node::{Node, Opening, Run, Target};
 use crate::pairing::{Sought, last_place, pair_from};
 use crate::targets::{Reached, target_of};
 use cm_links::Links;
-use cm_spans::{Marks, Span, span_at};
+use cm_spans::{Marks, Span, span_at, words_len};
 use site_base::Memory;
 use std::alloc::Global;
 
@@ -33,8 +33,28 @@ pub fn read_inlines<'a>(alloc: Global, text: &'a str, links: &Links) -> Result<I
     Ok(Inlines::from_nodes(nodes))
 }
 
-// The piece at a place: how many bytes it takes.
+// The pieces at a place: how many bytes they take.
 fn read_piece<'a>(
+    alloc: Global,
+    nodes: &mut Vec<Node<'a>>,
+    text: &'a str,
+    at: usize,
+    links: &Links,
+) -> Result<usize, Memory>
+    requires inside { at < length text.now }
+    requires sound { Sound text.now at nodes.old.items }
+    ensures { IfOk result (λ n. Reads links.now text.now at nodes.old.items nodes.new.items n) }
+{
+    let n = words_len(text, at);
+    if n > 0 {
+        push(nodes, Node::Words(&text[at..at + n]))?;
+        return Ok(n);
+    }
+    read_other(alloc, nodes, text, at, links)
+}
+
+// The piece at a place where no word stands.
+fn read_other<'a>(
     alloc: Global,
     nodes: &mut Vec<Node<'a>>,
     text: &'a str,

@@ -2,3 +2,4 @@ pub mod Runs
 pub mod ClosedBy
 pub mod Spaced
 pub mod Beside
+pub mod WordLaws

@@ -1,4 +1,5 @@
 pub mod Classes
 pub mod Code
+pub mod Words
 pub mod Pieces
 pub mod Cuts

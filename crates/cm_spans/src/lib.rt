@@ -8,12 +8,14 @@ mod code;
 mod flanking;
 mod spans;
 mod tags;
+mod words;
 
 pub use autolinks::{email, uri};
 pub use code::{code_end, code_text};
 pub use flanking::{Marks, char_after, char_before, is_unicode_punctuation, is_unicode_white};
 pub use spans::{Span, Taken, byte_at, span_at};
 pub use tags::html_tag;
+pub use words::words_len;
 
 #[cfg(test)]
 mod tests;
