@@ -49,10 +49,10 @@ words_cut t n e = go (nat_lt n (length t)) refl where
 
 -- ---- spaces at the end of a line
 
-line_space : (d : ℕ) (ds : List ℕ) → (d == 32) ≡ true → is_line_end (d ∷ ds) ≡ is_line_end ds
+pub line_space : (d : ℕ) (ds : List ℕ) → (d == 32) ≡ true → is_line_end (d ∷ ds) ≡ is_line_end ds
 line_space d ds e = ap (λ (b : Bool). first_byte (drop (elim b as (λ x. ℕ) [ true ↦ suc (run_len (λ c. c == 32) ds) | false ↦ 0 ]) (d ∷ ds)) == 10) e
 
-line_other : (d : ℕ) (ds : List ℕ) → (d == 32) ≡ false → is_line_end (d ∷ ds) ≡ (d == 10)
+pub line_other : (d : ℕ) (ds : List ℕ) → (d == 32) ≡ false → is_line_end (d ∷ ds) ≡ (d == 10)
 line_other d ds e = ap (λ (b : Bool). first_byte (drop (elim b as (λ x. ℕ) [ true ↦ suc (run_len (λ c. c == 32) ds) | false ↦ 0 ]) (d ∷ ds)) == 10) e
 
 at_line : (u : List ℕ) → first_byte u ≡ 10 → is_line_end u ≡ true
