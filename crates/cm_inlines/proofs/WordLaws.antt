@@ -1,7 +1,7 @@
 -- Words and the spaces between them, read piece by piece.
-use Rattle.std.proofs.Common.{◌≡◌, ◌∙◌, Bool, List, [], ap, append-nil, append_assoc, arith, cond, drop, false, get_or, length, map, not, refl, reverse, subst, Bor, Option, suc, sym, take, true, zero, ℕ, ◌++◌, ◌+◌, ◌-◌, ◌<◌, ◌==◌, ◌∷◌, ◌≤◌, ◌||◌, ◌&&◌}
+use Rattle.std.proofs.Common.{◌≡◌, ◌∙◌, Bool, List, [], ap, append-nil, append_assoc, arith, cond, drop, false, length, map, not, refl, reverse, subst, Bor, Option, suc, sym, take, true, zero, ℕ, ◌++◌, ◌+◌, ◌-◌, ◌<◌, ◌==◌, ◌∷◌, ◌≤◌, ◌||◌, ◌&&◌}
 use Rattle.std.specs.Str.{IsCharBoundary}
-use Rattle.std.proofs.lemmas.List.{drop-drop, drop-take, drop_more, length-take-le}
+use Rattle.std.proofs.lemmas.List.{drop-drop, drop-take, length-take-le}
 use Rattle.std.proofs.lemmas.Str.{IsCharBoundary-from_rest}
 use Rattle.markdown_grammar.specs.CodeSpans.{Taken, as_textual, code_at}
 use Rattle.markdown_grammar.specs.Definitions.{Definition}
@@ -11,13 +11,13 @@ use Rattle.markdown_grammar.specs.Inlines.{no_inlines, textual}
 use Rattle.markdown_grammar.specs.Pieces.{Piece, finished, open_bracket, run_at}
 use Rattle.markdown_grammar.specs.Reading.{further, pieces_from}
 use Rattle.markdown_grammar.specs.Spans.{escape_at, is_special, piece_at, pointed_at, reference_at, spaces_at, textual_at}
-use Rattle.cm_spans.proofs.Runs.{run_within, same_is}
-use Rattle.cm_spans.proofs.WordLaws.{line_other, line_space, words_within}
+use Rattle.cm_spans.proofs.Runs.{same_is}
+use Rattle.cm_spans.proofs.WordLaws.{line_space, words_within}
 use Rattle.cm_spans.specs.Words.{is_line_end, is_word_at, words_len}
 use Rattle.cm_inlines.specs.Cells.{Cell, cells_of, sealed}
 use Rattle.cm_inlines.specs.Nodes.{cells}
-use Rattle.cm_inlines.specs.States.{GoesOn, IsPlaced, Reads, Sound, spot_at, waiting}
-use Rattle.cm_inlines.specs.Tokens.{Token, text_token}
+use Rattle.cm_inlines.specs.States.{IsPlaced, Reads, Sound, spot_at, waiting}
+use Rattle.cm_inlines.specs.Tokens.{text_token}
 use Rattle.cm_inlines.specs.Words.{front_len, word_tokens, words, words_by}
 use Rattle.cm_inlines.specs.declared.node.Node.{Node}
 use Rattle.cm_inlines.specs.declared.node.Node.TheVariants as node

@@ -1,5 +1,5 @@
 -- Words and the spaces between them, as far as they go.
-use Rattle.std.proofs.Common.{◌≡◌, ◌∙◌, Bool, List, [], ap, arith, codes, cond, drop, drop_of_length-le, false, get_or, length, nat_lt, not, refl, subst, suc, sym, true, zero, ℕ, ◌+◌, ◌-◌, ◌<◌, ◌==◌, ◌∷◌, ◌≤◌, ◌||◌, ◌&&◌, IsUtf8}
+use Rattle.std.proofs.Common.{◌≡◌, ◌∙◌, Bool, List, [], ap, arith, codes, cond, drop, drop_of_length-le, false, get_or, length, nat_lt, not, refl, subst, suc, sym, true, zero, ℕ, ◌+◌, ◌-◌, ◌<◌, ◌==◌, ◌∷◌, ◌≤◌, ◌||◌, ◌&&◌}
 use Rattle.std.specs.Str.{IsCharBoundary}
 use Rattle.std.proofs.lemmas.Str.{IsCharBoundary-before_ascii, IsCharBoundary-end}
 use Rattle.std.proofs.lemmas.List.{drop_more}
@@ -7,7 +7,7 @@ use Rattle.markdown_grammar.specs.Fronts.{first_byte, run_len}
 use Rattle.markdown_grammar.specs.Spans.{is_special}
 use Rattle.cm_starts.proofs.Words.{first_at}
 use Rattle.cm_spans.specs.Words.{is_line_end, is_plain, is_word_at, words_len}
-use Rattle.cm_spans.proofs.Runs.{among_ascii, byte_within, not_false, run_byte, run_stop, run_within, same_is}
+use Rattle.cm_spans.proofs.Runs.{among_ascii, byte_within, run_byte, run_stop, run_within, same_is}
 
 -- ---- where they end
 

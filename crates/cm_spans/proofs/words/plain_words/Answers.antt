@@ -1,6 +1,4 @@
-use Rattle.std.proofs.Common.{ap, length, sym, ◌≡◌, ◌∙◌}
-use Rattle.markdown_grammar.specs.Fronts.{run_len}
-use Rattle.cm_spans.specs.Words.{is_plain}
+use Rattle.std.proofs.Common.{◌∙◌}
 use Rattle.cm_spans.proofs.WordLaws.{all_plain, words_cut}
 use Rattle.cm_spans.proofs.words.plain_words.Goals as goal
 

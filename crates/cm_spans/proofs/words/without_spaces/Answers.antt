@@ -1,4 +1,3 @@
-use Rattle.std.proofs.Common.{arith}
 use Rattle.cm_spans.proofs.WordLaws.{before_line}
 use Rattle.cm_spans.proofs.words.without_spaces.Goals as goal
 
