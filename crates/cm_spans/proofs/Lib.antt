@@ -3,3 +3,5 @@ pub mod ClosedBy
 pub mod Spaced
 pub mod Beside
 pub mod WordLaws
+pub mod MissingLaws
+pub mod Others

@@ -1,5 +1,5 @@
 // Spans as the standard's examples have them.
-use crate::{Span, char_before, code_text, email, html_tag, span_at, uri, words_len};
+use crate::{MissingEnds, Span, char_before, code_text, email, html_tag, span_at, uri, words_len};
 use std::test::Fail;
 
 #[test]
@@ -53,7 +53,7 @@ fn raw_html(rt: HostRuntime) {
         ("<!-- no end", None),
     ];
     for (text, len) in rows {
-        assert_eq!(rt; html_tag(text), len);
+        assert_eq!(rt; html_tag(text, &mut MissingEnds::new()), len);
     }
 }
 
@@ -112,14 +112,24 @@ fn lengths(rt: HostRuntime) {
     for (text, len) in rows {
         assert!(rt; text.is_char_boundary(0));
         assert!(rt; text.len() > 0);
-        assert_eq!(rt; span_at(text, 0).len, len);
+        assert_eq!(rt; span_at(text, 0, &mut MissingEnds::new()).len, len);
     }
 }
 
 #[test]
 fn breaks(rt: HostRuntime) {
-    assert!(rt; matches!(span_at("  \nb", 0).span, Span::HardBreak));
-    assert!(rt; matches!(span_at(" \nb", 0).span, Span::SoftBreak));
+    assert!(rt;
+        matches!(
+            span_at("  \nb", 0, &mut MissingEnds::new()).span,
+            Span::HardBreak
+        )
+    );
+    assert!(rt;
+        matches!(
+            span_at(" \nb", 0, &mut MissingEnds::new()).span,
+            Span::SoftBreak
+        )
+    );
 }
 
 #[test]
