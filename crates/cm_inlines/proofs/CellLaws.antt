@@ -10,6 +10,7 @@ use Rattle.cm_inlines.specs.Machine as machine
 use Rattle.cm_inlines.specs.Machine.{changed, is_sought, last_place}
 use Rattle.cm_inlines.specs.Nodes.{cells, cells_at}
 use Rattle.cm_inlines.specs.Tokens.{Token, soft_token, text_token, tokens}
+use Rattle.cm_inlines.specs.Words.{word_tokens}
 use Rattle.cm_inlines.specs.declared.changes.Change.TheVariants.{Freeze}
 use Rattle.cm_inlines.specs.declared.node.Node.{Node}
 use Rattle.cm_inlines.specs.declared.node.Node.TheVariants as node
@@ -224,6 +225,7 @@ pub bracket_nodes : (t : List ℕ) (n : Node) → NodeCase bracket_test (cells_a
 bracket_nodes t (node.Opening o) = single_case bracket_test (bracket_cell o.is_image o.is_active (drop o.behind t)) true refl
 bracket_nodes t (node.Run r) = single_case bracket_test (run_cell r.mark r.len r.first r.opens r.closes) false refl
 bracket_nodes t node.Nothing = λ ds. pushed_none (last_cell bracket_test ds)
+bracket_nodes t (node.Words s) = λ ds. last_sealed bracket_test (λ u. refl) (word_tokens s.now) ds
 bracket_nodes t (node.Uri s) = λ ds. three_sealed (last_cell bracket_test ds) _ _ _ ds
 bracket_nodes t (node.Email s) = λ ds. three_sealed (last_cell bracket_test ds) _ _ _ ds
 bracket_nodes t n = λ ds. one_sealed (last_cell bracket_test ds) _ ds
@@ -232,6 +234,7 @@ pub opener_nodes : (t : List ℕ) (mark first : ℕ) (opens : Bool) (n : Node) �
 opener_nodes t mark first opens (node.Run r) = single_case (opener_test mark first opens) (run_cell r.mark r.len r.first r.opens r.closes) (machine.opens_for mark first opens r) refl
 opener_nodes t mark first opens (node.Opening o) = single_case (opener_test mark first opens) (bracket_cell o.is_image o.is_active (drop o.behind t)) false refl
 opener_nodes t mark first opens node.Nothing = λ ds. pushed_none (last_cell (opener_test mark first opens) ds)
+opener_nodes t mark first opens (node.Words s) = λ ds. last_sealed (opener_test mark first opens) (λ u. refl) (word_tokens s.now) ds
 opener_nodes t mark first opens (node.Uri s) = λ ds. three_sealed (last_cell (opener_test mark first opens) ds) _ _ _ ds
 opener_nodes t mark first opens (node.Email s) = λ ds. three_sealed (last_cell (opener_test mark first opens) ds) _ _ _ ds
 opener_nodes t mark first opens n = λ ds. one_sealed (last_cell (opener_test mark first opens) ds) _ ds
@@ -242,6 +245,7 @@ opener_nodes t mark first opens n = λ ds. one_sealed (last_cell (opener_test ma
 frozen_one : (t : List ℕ) (n : Node) → cells_at t (changed Freeze n) ≡ map sealed (plain_tokens (cells_at t n))
 frozen_one t (node.Run r) = refl
 frozen_one t (node.Opening o) = refl
+frozen_one t (node.Words s) = ap (map sealed) (sym (plain_sealed (word_tokens s.now)))
 frozen_one t n = refl
 
 pub frozen : (t : List ℕ) (ns : List Node) → cells t (map (changed Freeze) ns) ≡ map sealed (plain_tokens (cells t ns))

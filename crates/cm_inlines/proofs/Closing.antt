@@ -14,6 +14,7 @@ use Rattle.markdown_grammar.specs.Pieces.{Piece, delimiter_run, finished, open_b
 use Rattle.cm_inlines.specs.Cells.{Cell, bracket_cell, cells_in, cells_of, plain_tokens, run_cell, sealed}
 use Rattle.cm_inlines.specs.Machine.{change_between, changed, is_sought, last_place, pair_from}
 use Rattle.cm_inlines.specs.Nodes.{cells, cells_at}
+use Rattle.cm_inlines.specs.Words.{word_tokens}
 use Rattle.cm_inlines.specs.States.{Closes, IsPlaced, IsPlacedAt, Sound, is_nothing, room, waiting}
 use Rattle.cm_inlines.specs.Steps.{closed_nodes, closed_with, closing_node, found_at, found_in, image_nodes, inside_paired, last_opening, link_nodes, opening_of, reached_by, taken_by, unlinked_nodes}
 use Rattle.cm_inlines.specs.Targets.{reached_pair}
@@ -127,17 +128,18 @@ calm_cell (bracket_cell i a b) = bracket_cell i (a && i) b
 calm_cell (sealed t) = sealed t
 calm_cell (run_cell m l f o c) = run_cell m l f o c
 
+calm_sealed : (ts : List Token) → map calm_cell (map sealed ts) ≡ map sealed ts
+calm_sealed [] = refl
+calm_sealed (t ∷ ts) = ap (λ (cs : List Cell). sealed t ∷ cs) (calm_sealed ts)
+
 calm_node : (t : List ℕ) (n : Node) → cells_at t (changed Calm n) ≡ map calm_cell (cells_at t n)
 calm_node t (node.Opening o) = refl
+calm_node t (node.Words s) = sym (calm_sealed (word_tokens s.now))
 calm_node t n = refl
 
 calm_nodes : (t : List ℕ) (ns : List Node) → cells t (map (changed Calm) ns) ≡ map calm_cell (cells t ns)
 calm_nodes t [] = refl
 calm_nodes t (n ∷ ns) = ap (λ (cs : List Cell). cs ++ cells t (map (changed Calm) ns)) (calm_node t n) ∙ ap (λ (cs : List Cell). map calm_cell (cells_at t n) ++ cs) (calm_nodes t ns) ∙ sym (map-append calm_cell (cells_at t n) (cells t ns))
-
-calm_sealed : (ts : List Token) → map calm_cell (map sealed ts) ≡ map sealed ts
-calm_sealed [] = refl
-calm_sealed (t ∷ ts) = ap (λ (cs : List Cell). sealed t ∷ cs) (calm_sealed ts)
 
 and_false : (b : Bool) → (b && false) ≡ false
 and_false true = refl

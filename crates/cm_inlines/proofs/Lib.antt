@@ -5,4 +5,5 @@ pub mod Slots
 pub mod Walk
 pub mod Closing
 pub mod SpanLaws
+pub mod WordLaws
 pub mod Whole

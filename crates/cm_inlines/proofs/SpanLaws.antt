@@ -45,7 +45,7 @@ take_add (suc a) b [] = nothing b (suc a + b) where
   nothing (suc m) (suc n) = refl
 take_add (suc a) b (c ∷ cs) = let e : suc a + b ≡ suc (a + b) = omega arith in ap (λ (k : ℕ). take k (c ∷ cs)) e ∙ ap (λ (xs : List ℕ). c ∷ xs) (take_add a b cs)
 
-further_is : (t : List ℕ) (at n : ℕ) (ps : List Piece) (c : ℕ) (cs : List ℕ) → drop at t ≡ c ∷ cs → 0 < n → further ps n (reverse (take at t)) c cs ≡ spot_at t ps (at + n)
+pub further_is : (t : List ℕ) (at n : ℕ) (ps : List Piece) (c : ℕ) (cs : List ℕ) → drop at t ≡ c ∷ cs → 0 < n → further ps n (reverse (take at t)) c cs ≡ spot_at t ps (at + n)
 further_is t at zero ps c cs d some = absurd (omega (arith, some))
 further_is t at (suc m) ps c cs d some =
     let less : suc m - 1 ≡ m = omega arith in
@@ -57,7 +57,7 @@ further_is t at (suc m) ps c cs d some =
     ∙ ap (λ (x : List ℕ). record { before = ps; done = x; left = drop m cs }) done ∙ ap (λ (x : List ℕ). record { before = ps; done = reverse (take (at + suc m) t); left = x }) left
 
 -- one step of the reading
-step_at : (defs : List Definition) (t : List ℕ) (at : ℕ) (before : List Piece) (c : ℕ) (cs : List ℕ) → drop at t ≡ c ∷ cs → pieces_from defs (spot_at t before at) ≡ pieces_from defs (next_spot defs before (reverse (take at t)) c cs)
+pub step_at : (defs : List Definition) (t : List ℕ) (at : ℕ) (before : List Piece) (c : ℕ) (cs : List ℕ) → drop at t ≡ c ∷ cs → pieces_from defs (spot_at t before at) ≡ pieces_from defs (next_spot defs before (reverse (take at t)) c cs)
 step_at defs t at before c cs d = pieces_is defs (spot_at t before at) ∙ ap (pieces_at defs (pieces_from defs) before (reverse (take at t))) d
 
 pub end_at : (defs : List Definition) (t : List ℕ) (at : ℕ) (before : List Piece) → drop at t ≡ [] → pieces_from defs (spot_at t before at) ≡ before
@@ -176,13 +176,13 @@ span_placed t at n s few cut = (tt, tt)
 
 -- ---- what a call reads
 
-not_same : (c k : ℕ) → (c ≡ k → ⊥) → (c == k) ≡ false
+pub not_same : (c k : ℕ) → (c ≡ k → ⊥) → (c == k) ≡ false
 not_same c k h = grind (arith, h)
 
 same_as : (c k : ℕ) → c ≡ k → (c == k) ≡ true
 same_as c k h = grind (arith, h)
 
-abbrev next_case : List Definition → List Piece → List ℕ → ℕ → List ℕ → Bool → Spot
+abbrev pub next_case : List Definition → List Piece → List ℕ → ℕ → List ℕ → Bool → Spot
 next_case defs before done c cs b = cond b (let r = close_bracket defs before cs in further r.0 (r.1 + 1) done c cs) (let r = piece_at done (c ∷ cs) in further (before ++ r.0 ∷ []) r.1 done c cs)
 
 pub reads_span : (defs : List Definition) (t : List ℕ) (at : ℕ) (old new : List Node) (taken : Taken) → at < length t → (get_or t at 0 ≡ 93 → ⊥) → Sound t at old → taken_of taken (drop at t) ≡ piece_at (reverse (take at t)) (drop at t) → Ends (drop at t) taken.len

@@ -9,6 +9,7 @@ use Rattle.markdown_grammar.specs.Pieces.{Piece, delimiter_run, finished, open_b
 use Rattle.cm_inlines.specs.Cells.{Cell, bracket_cell, cells_in, cells_of, plain_tokens, run_cell, sealed}
 use Rattle.cm_inlines.specs.Machine.{change_between, changed, close_node, close_nodes, is_sought, last_place, open_nodes, pair_at, pair_found, pair_from, pair_last, pair_nodes, pair_run, run_at}
 use Rattle.cm_inlines.specs.Nodes.{cells, cells_at}
+use Rattle.cm_inlines.specs.Words.{word_tokens}
 use Rattle.cm_inlines.specs.States.{waiting}
 use Rattle.cm_inlines.specs.Tokens.{Token, close_emphasis, close_strong, open_emphasis, open_strong, tokens}
 use Rattle.cm_inlines.specs.declared.changes.Change.TheVariants.{Freeze}
@@ -82,10 +83,12 @@ no_runs_more (m ∷ ms) n h e = (h.0, no_runs_more ms n h.1 e)
 
 node_before : (t : List ℕ) (n : Node) (cs : List Cell) → run_at (Some n) ≡ None → cells_before (cells_at t n ++ cs) ≡ cells_at t n ++ cells_before cs
 node_before t (node.Run r) cs e = absurd cc
+node_before t (node.Words s) cs e = sealed_before (word_tokens s.now) cs
 node_before t n cs e = refl
 
 node_from : (t : List ℕ) (n : Node) (cs : List Cell) → run_at (Some n) ≡ None → cells_from (cells_at t n ++ cs) ≡ cells_from cs
 node_from t (node.Run r) cs e = absurd cc
+node_from t (node.Words s) cs e = sealed_from (word_tokens s.now) cs
 node_from t n cs e = refl
 
 nodes_before : (t : List ℕ) (ns : List Node) (cs : List Cell) → NoRuns ns → cells_before (cells t ns ++ cs) ≡ cells t ns ++ cells_before cs

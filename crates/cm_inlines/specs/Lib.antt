@@ -1,5 +1,6 @@
 pub mod Tokens
 pub mod TokenCode
+pub mod Words
 pub mod Cells
 pub mod Nodes
 pub mod Machine

@@ -1,9 +1,10 @@
 -- What nodes stand for.
 use Rattle.std.specs.Char.{encode_utf8}
-use Rattle.std.specs.Prelude.{◌≡◌, List, None, [], codes, drop, replicate, ℕ, ◌++◌, ◌∷◌}
+use Rattle.std.specs.Prelude.{◌≡◌, List, None, [], codes, drop, map, replicate, ℕ, ◌++◌, ◌∷◌}
 use Rattle.markdown_grammar.specs.CodeSpans.{spaced}
 use Rattle.markdown_grammar.specs.Emphasis.{bracket_text}
 use Rattle.cm_inlines.specs.Cells.{Cell, bracket_cell, plain_tokens, run_cell, sealed}
+use Rattle.cm_inlines.specs.Words.{word_tokens}
 use Rattle.cm_inlines.specs.Tokens as token
 use Rattle.cm_inlines.specs.Tokens.{Token, tokens, tree_of}
 use Rattle.cm_inlines.specs.declared.node.Node.{Node}
@@ -16,6 +17,7 @@ address_cells front s = sealed (token.open_link (front ++ s) None) ∷ sealed (t
 -- a node of a text
 abbrev pub cells_at : List ℕ → Node → List Cell
 cells_at t (node.Text s) = sealed (token.text_token s.now) ∷ []
+cells_at t (node.Words s) = map sealed (word_tokens s.now)
 cells_at t (node.Character c) = sealed (token.text_token (encode_utf8 c)) ∷ []
 cells_at t node.SoftBreak = sealed token.soft_token ∷ []
 cells_at t node.HardBreak = sealed token.hard_token ∷ []

@@ -31,6 +31,8 @@ pub struct Opening {
 #[derive(Drop)]
 pub enum Node<'a> {
     Text(&'a str),
+    /// Words and the spaces between them.
+    Words(&'a str),
     /// What an escape or a reference stands for.
     Character(char),
     SoftBreak,

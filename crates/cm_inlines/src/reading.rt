@@ -2,6 +2,7 @@
 ghost use Rattle.std.specs.Prelude.{◌≡◌, ◌+◌, ◌<◌, ◌≤◌, ◌-◌, ◌^◌, Some, [], ◌∷◌, ◌++◌, IfOk, IfSome, OnOk, drop, length, option_map, replicate, slice_get};
 ghost use Rattle.std.specs.Str.{IsCharBoundary};
 ghost use Rattle.markdown_grammar.specs.Reading.{inlines};
+ghost use Rattle.cm_spans.specs.Missing.{Lacks};
 ghost use Rattle.cm_inlines.specs.States.{Closes, Reads, Sound};
 ghost use Rattle.cm_inlines.specs.Targets.{reached_pair};
 ghost use Rattle.cm_inlines.specs.Steps.{closed_nodes, image_nodes, inside_paired, last_opening, link_nodes, opening_node, opening_of, reached_by, run_node, run_nodes, span_nodes, taken_by};
@@ -13,7 +14,7 @@ use crate::node::{Node, Opening, Run, Target};
 use crate::pairing::{Sought, last_place, pair_from};
 use crate::targets::{Reached, target_of};
 use cm_links::Links;
-use cm_spans::{Marks, Span, span_at};
+use cm_spans::{Marks, MissingEnds, Span, span_at, words_len};
 use site_base::Memory;
 use std::alloc::Global;
 
@@ -22,9 +23,10 @@ pub fn read_inlines<'a>(alloc: Global, text: &'a str, links: &Links) -> Result<I
     ensures { IfOk result (λ found. found ≡ inlines links.now text.now) }
 {
     let mut nodes = Vec::new(alloc);
+    let mut missing = MissingEnds::new();
     let mut at = 0;
     while at < text.len() {
-        match read_piece(alloc, &mut nodes, text, at, links) {
+        match read_piece(alloc, &mut nodes, text, at, links, &mut missing) {
             Ok(n) => at += n,
             Err(_) => return Err(Memory),
         }
@@ -33,23 +35,49 @@ pub fn read_inlines<'a>(alloc: Global, text: &'a str, links: &Links) -> Result<I
     Ok(Inlines::from_nodes(nodes))
 }
 
-// The piece at a place: how many bytes it takes.
+// The pieces at a place: how many bytes they take.
 fn read_piece<'a>(
     alloc: Global,
     nodes: &mut Vec<Node<'a>>,
     text: &'a str,
     at: usize,
     links: &Links,
+    missing: &mut MissingEnds,
 ) -> Result<usize, Memory>
     requires inside { at < length text.now }
     requires sound { Sound text.now at nodes.old.items }
-    ensures { IfOk result (λ n. Reads links.now text.now at nodes.old.items nodes.new.items n) }
+    requires lacks { Lacks missing.old (drop at text.now) }
+    ensures reads { IfOk result (λ n. Reads links.now text.now at nodes.old.items nodes.new.items n) }
+    ensures kept { Lacks missing.new (drop at text.now) }
+{
+    let n = words_len(text, at);
+    if n > 0 {
+        push(nodes, Node::Words(&text[at..at + n]))?;
+        return Ok(n);
+    }
+    read_other(alloc, nodes, text, at, links, missing)
+}
+
+// The piece at a place where no word stands.
+fn read_other<'a>(
+    alloc: Global,
+    nodes: &mut Vec<Node<'a>>,
+    text: &'a str,
+    at: usize,
+    links: &Links,
+    missing: &mut MissingEnds,
+) -> Result<usize, Memory>
+    requires inside { at < length text.now }
+    requires sound { Sound text.now at nodes.old.items }
+    requires lacks { Lacks missing.old (drop at text.now) }
+    ensures reads { IfOk result (λ n. Reads links.now text.now at nodes.old.items nodes.new.items n) }
+    ensures kept { Lacks missing.new (drop at text.now) }
 {
     if text.as_bytes()[at] == b']' {
         let n = close_bracket(alloc, nodes, text, at, links)?;
         return Ok(n + 1);
     }
-    let taken = span_at(text, at);
+    let taken = span_at(text, at, missing);
     push_span(nodes, taken.span, at)?;
     Ok(taken.len)
 }

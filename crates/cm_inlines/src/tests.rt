@@ -36,7 +36,7 @@ fn push_bracket(out: &mut String, is_image: bool) -> Result<(), AllocError> {
 
 fn push_node(out: &mut String, node: &Node) -> Result<(), AllocError> {
     match node {
-        Node::Text(text) => out.push_str(text),
+        Node::Text(text) | Node::Words(text) => out.push_str(text),
         Node::Character(c) => out.push(*c),
         Node::SoftBreak => out.push('\n'),
         Node::HardBreak => out.push_str("<br>"),

@@ -1,5 +1,5 @@
 -- What is printed only grows.
-use Rattle.std.proofs.Common.{◌≡◌, ℕ, ◌+◌, ◌<◌, ◌≤◌, Bool, true, false, List, [], ◌∷◌, ◌++◌, ◌==◌, length, arith, length-append}
+use Rattle.std.proofs.Common.{ℕ, ◌+◌, ◌≤◌, Bool, true, false, List, [], ◌∷◌, ◌++◌, ◌==◌, length, arith, length-append}
 use Rattle.std.specs.Prelude.{codes, ◌||◌, if◌then◌else◌, reverse}
 use Rattle.markdown_grammar.specs.Bytes.{line_feed}
 use Rattle.markdown_grammar.specs.Definitions.{Definition}

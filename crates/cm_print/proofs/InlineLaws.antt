@@ -1,5 +1,5 @@
 -- What the tokens of inlines print is the HTML of the inlines.
-use Rattle.std.proofs.Common.{◌≡◌, ◌∙◌, ap, sym, refl, ℕ, zero, suc, List, [], ◌∷◌, ◌++◌, append_assoc, append-nil}
+use Rattle.std.proofs.Common.{◌≡◌, ◌∙◌, ap, sym, refl, ℕ, suc, List, ◌∷◌, ◌++◌, append_assoc}
 use Rattle.std.specs.Prelude.{Option, codes}
 use Rattle.std.proofs.lemmas.Grind.{flat_map-append}
 use Rattle.markdown_grammar.specs.Bytes.{line_feed}

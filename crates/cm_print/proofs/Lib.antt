@@ -1,5 +1,6 @@
 pub mod Escapes
 pub mod InlineLaws
+pub mod WordLaws
 pub mod NodeLaws
 pub mod WalkLaws
 pub mod Growth

@@ -1,5 +1,5 @@
 -- Pieces that are printed one behind another.
-use Rattle.std.proofs.Common.{◌≡◌, ◌∙◌, ap, sym, ◌<◌, ◌+◌, List, ℕ, ◌++◌, append_assoc, length, length-append, arith}
+use Rattle.std.proofs.Common.{◌∙◌, ap, List, ℕ, ◌++◌, append_assoc, length, arith}
 use Rattle.std.specs.Prelude.{Result, Ok, Err}
 use Rattle.cm_print.specs.Writing.{Prints, Writes, written}
 use Rattle.cm_print.specs.declared.error.HtmlError.{HtmlError}

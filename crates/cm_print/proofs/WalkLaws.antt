@@ -1,5 +1,5 @@
 -- The walk over the nodes of a document prints the document.
-use Rattle.std.proofs.Common.{◌≡◌, ◌≢◌, ◌∙◌, ap, sym, refl, ℕ, suc, ◌+◌, ◌<◌, ◌≤◌, Bool, true, false, List, [], ◌∷◌, ◌++◌, ◌==◌, append_assoc, append-nil, length, arith, length-append, eq-eqb}
+use Rattle.std.proofs.Common.{◌≡◌, ◌∙◌, ap, sym, refl, ℕ, suc, ◌+◌, ◌<◌, ◌≤◌, Bool, false, List, [], ◌∷◌, ◌++◌, ◌==◌, append_assoc, append-nil, length, arith, length-append, eq-eqb}
 use Rattle.std.specs.Prelude.{codes, not}
 use Rattle.std.proofs.lemmas.Bool.{ne_eqb}
 use Rattle.markdown_grammar.specs.Definitions.{Definition}
@@ -11,7 +11,7 @@ use Rattle.cm_blocks.specs.Layouts.{laid_out}
 use Rattle.cm_blocks.specs.declared.node.Node.{Node}
 use Rattle.cm_blocks.specs.declared.node.Node.TheVariants as node
 use Rattle.cm_print.specs.DocumentHtml.{list_after}
-use Rattle.cm_print.specs.NodeWalk.{State, closed, entered, if_ended, put, state, text_after, walk, whole}
+use Rattle.cm_print.specs.NodeWalk.{State, closed, entered, if_ended, state, text_after, walk, whole}
 use Rattle.cm_print.specs.declared.level.Closing.{Closing}
 use Rattle.cm_print.specs.declared.level.Closing.TheVariants as closing
 use Rattle.cm_print.specs.declared.level.Level.{Level}

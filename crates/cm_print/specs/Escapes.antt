@@ -1,5 +1,5 @@
 -- Text as it is escaped in HTML: CommonMark 0.31.2, sections 6.1 and 6.
-use Rattle.std.specs.Prelude.{ℕ, ◌==◌, Bool, true, false, not, ◌||◌, ◌&&◌, List, [], ◌∷◌, flat_map, if◌then◌else◌}
+use Rattle.std.specs.Prelude.{ℕ, ◌==◌, Bool, false, not, ◌||◌, List, [], ◌∷◌, flat_map, if◌then◌else◌}
 use Rattle.markdown_grammar.specs.Bytes.{line_feed, space}
 use Rattle.markdown_grammar.specs.Escaping.{escaped_byte}
 use Rattle.cm_print.specs.declared.escape.Escape.{Escape}

@@ -1,5 +1,5 @@
 -- What the nodes of inlines print.
-use Rattle.std.specs.Prelude.{ℕ, List, [], ◌∷◌, Option}
+use Rattle.std.specs.Prelude.{ℕ, List, [], ◌∷◌}
 use Rattle.std.specs.Option.{option_map}
 use Rattle.cm_inlines.specs.Cells.{plain_tokens}
 use Rattle.cm_inlines.specs.Nodes.{cells_at}

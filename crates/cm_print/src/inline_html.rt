@@ -44,7 +44,7 @@ impl Writer {
         ensures { Prints self.old self.new (node_text (place_of Place.Outside) node.now) result }
     {
         match node {
-            Node::Text(text) => self.push_text(text),
+            Node::Text(text) | Node::Words(text) => self.push_text(text),
             Node::Character(c) => self.push_character(*c),
             Node::SoftBreak => self.push("\n"),
             Node::HardBreak => self.push("<br />\n"),
@@ -183,7 +183,7 @@ impl Writer {
         ensures { Prints self.old self.new (node_text (place_of (Place.Described title.entry images)) node.now) result }
     {
         match node {
-            Node::Text(text) => self.push_text(text),
+            Node::Text(text) | Node::Words(text) => self.push_text(text),
             Node::Character(c) => self.push_character(*c),
             Node::SoftBreak | Node::HardBreak => self.push("\n"),
             Node::Code(text) => self.push_code(text),

@@ -73,7 +73,7 @@ run_some d (c ∷ cs) e some = go (c == d) (let same : (c == d) ≡ true = grind
   go true h = omega arith
   go false h = absurd cc
 
-same_is : (c d : ℕ) → (c == d) ≡ true → c ≡ d
+pub same_is : (c d : ℕ) → (c == d) ≡ true → c ≡ d
 same_is c d h = grind arith
 
 pub run_ends : (d : ℕ) (t : List ℕ) (n : ℕ) → IsUtf8 t → n ≡ run_len (λ c. c == d) t → 0 < n → d < 128 → Ends t n
@@ -84,7 +84,7 @@ run_ends d t n u e some small =
 
 -- ---- text up to a byte that may be something else
 
-among_ascii : (w : List ℕ) (c : ℕ) → list_all (λ d. nat_lt d 128) w ≡ true → has_one (λ d. d == c) w ≡ true → c < 128
+pub among_ascii : (w : List ℕ) (c : ℕ) → list_all (λ d. nat_lt d 128) w ≡ true → has_one (λ d. d == c) w ≡ true → c < 128
 among_ascii [] c h k = absurd cc
 among_ascii (d ∷ ds) c h k = go (nat_lt d 128) (d == c) refl refl h k (among_ascii ds c) where
   go : (a b : Bool) → nat_lt d 128 ≡ a → (d == c) ≡ b → (a && list_all (λ d. nat_lt d 128) ds) ≡ true → elim b as (λ x. Bool) [ true ↦ true | false ↦ has_one (λ d. d == c) ds ] ≡ true
@@ -93,7 +93,7 @@ among_ascii (d ∷ ds) c h k = go (nat_lt d 128) (d == c) refl refl h k (among_a
   go true true e f h k rest = let same : d ≡ c = grind (arith, f) in let lt : d < 128 = grind (arith, e) in omega (arith, same, lt)
   go true false e f h k rest = rest h k
 
-not_false : (b : Bool) → not b ≡ false → b ≡ true
+pub not_false : (b : Bool) → not b ≡ false → b ≡ true
 not_false true h = refl
 not_false false h = absurd cc
 

@@ -1,4 +1,6 @@
 pub mod Classes
 pub mod Code
+pub mod Words
+pub mod Missing
 pub mod Pieces
 pub mod Cuts

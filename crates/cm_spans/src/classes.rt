@@ -14,6 +14,7 @@ pub(crate) enum Class {
     Mailbox,
     Host,
     Textual,
+    Plain,
 }
 
 /// How many bytes of a class a text begins with.
@@ -37,6 +38,7 @@ fn is_of(class: Class, c: u8) -> bool
         Class::Mailbox => is_alnum(c) || is_one_of(b".!#$%&'*+/=?^_`{|}~-", c),
         Class::Host => is_alnum(c) || c == b'-',
         Class::Textual => !is_special(c),
+        Class::Plain => c == b' ' || !is_special(c),
     }
 }
 

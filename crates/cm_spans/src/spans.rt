@@ -8,12 +8,14 @@ ghost use Rattle.markdown_grammar.specs.Fronts.{first_byte, run_len};
 ghost use Rattle.cm_spans.specs.Classes.{is_in};
 ghost use Rattle.cm_spans.specs.declared.classes.Class.TheVariants.{Textual};
 ghost use Rattle.cm_links.specs.Cuts.{IsLabelled};
+ghost use Rattle.cm_spans.specs.Missing.{Lacks};
 ghost use Rattle.cm_spans.specs.Pieces.{bracket_or_text, email_or_html, html_or_text, marks_at, taken_of};
 
 use crate::autolinks::{email, uri};
 use crate::classes::{Class, class_run};
 use crate::code::{code_end, code_text};
 use crate::flanking::{Marks, char_after, char_before, marks_between};
+use crate::missing_ends::MissingEnds;
 use crate::tags::html_tag;
 use cm_links::{is_punctuation, reference};
 use cm_starts::run;
@@ -47,15 +49,18 @@ pub struct Taken<'a> {
     pub len: usize,
 }
 
-/// What stands at a place of a text before its end. A closing bracket is text here.
-pub fn span_at<'a>(text: &'a str, at: usize) -> Taken<'a>
+/// What stands at a place of a text before its end. A closing bracket is text here. `missing` are ends of raw HTML that the text
+/// is known to lack from there on.
+pub fn span_at<'a>(text: &'a str, at: usize, missing: &mut MissingEnds) -> Taken<'a>
     requires start { IsCharBoundary text.now at }
     requires before_end { at < length text.now }
+    requires lacks { Lacks missing.old (drop at text.now) }
     ensures value { taken_of result (drop at text.now) ≡ grammar.piece_at (reverse (take at text.now)) (drop at text.now) }
     ensures ends { Ends (drop at text.now) result.len }
+    ensures kept { Lacks missing.new (drop at text.now) }
 {
     let rest = &text[at..];
-    let c = rest.as_bytes()[0];
+    let c = byte_at(text, at);
     if c == b'\\' {
         return escape(rest);
     }
@@ -66,7 +71,7 @@ pub fn span_at<'a>(text: &'a str, at: usize) -> Taken<'a>
         return code_span(rest);
     }
     if c == b'<' {
-        return pointed(rest);
+        return pointed(rest, missing);
     }
     if c == b'*' || c == b'_' {
         return marks(text, at, c);
@@ -173,40 +178,46 @@ fn code_span<'a>(text: &'a str) -> Taken<'a>
 }
 
 // An opening pointed bracket.
-fn pointed<'a>(text: &'a str) -> Taken<'a>
-    requires { first_byte text.now ≡ 60 }
+fn pointed<'a>(text: &'a str, missing: &mut MissingEnds) -> Taken<'a>
+    requires start { first_byte text.now ≡ 60 }
+    requires lacks { Lacks missing.old text.now }
     ensures value { taken_of result text.now ≡ grammar.pointed_at text.now }
     ensures ends { Ends text.now result.len }
+    ensures kept { Lacks missing.new text.now }
 {
     match uri(text) {
         Some(n) => Taken {
             span: Span::Uri(between_ends(text, n)),
             len: n,
         },
-        None => email_or_html(text),
+        None => email_or_html(text, missing),
     }
 }
 
-fn email_or_html<'a>(text: &'a str) -> Taken<'a>
-    requires { first_byte text.now ≡ 60 }
+fn email_or_html<'a>(text: &'a str, missing: &mut MissingEnds) -> Taken<'a>
+    requires start { first_byte text.now ≡ 60 }
+    requires lacks { Lacks missing.old text.now }
     ensures value { taken_of result text.now ≡ email_or_html text.now }
     ensures ends { Ends text.now result.len }
+    ensures kept { Lacks missing.new text.now }
 {
     match email(text) {
         Some(n) => Taken {
             span: Span::Email(between_ends(text, n)),
             len: n,
         },
-        None => html_or_text(text),
+        None => html_or_text(text, missing),
     }
 }
 
-fn html_or_text<'a>(text: &'a str) -> Taken<'a>
-    requires { first_byte text.now ≡ 60 }
+fn html_or_text<'a>(text: &'a str, missing: &mut MissingEnds) -> Taken<'a>
+    requires start { first_byte text.now ≡ 60 }
+    requires lacks { Lacks missing.old text.now }
     ensures value { taken_of result text.now ≡ html_or_text text.now }
     ensures ends { Ends text.now result.len }
+    ensures kept { Lacks missing.new text.now }
 {
-    match html_tag(text) {
+    match html_tag(text, missing) {
         Some(n) => Taken {
             span: Span::Html(&text[..n]),
             len: n,

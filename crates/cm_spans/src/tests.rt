@@ -1,5 +1,5 @@
 // Spans as the standard's examples have them.
-use crate::{Span, char_before, code_text, email, html_tag, span_at, uri};
+use crate::{MissingEnds, Span, char_before, code_text, email, html_tag, span_at, uri, words_len};
 use std::test::Fail;
 
 #[test]
@@ -53,7 +53,7 @@ fn raw_html(rt: HostRuntime) {
         ("<!-- no end", None),
     ];
     for (text, len) in rows {
-        assert_eq!(rt; html_tag(text), len);
+        assert_eq!(rt; html_tag(text, &mut MissingEnds::new()), len);
     }
 }
 
@@ -112,12 +112,40 @@ fn lengths(rt: HostRuntime) {
     for (text, len) in rows {
         assert!(rt; text.is_char_boundary(0));
         assert!(rt; text.len() > 0);
-        assert_eq!(rt; span_at(text, 0).len, len);
+        assert_eq!(rt; span_at(text, 0, &mut MissingEnds::new()).len, len);
     }
 }
 
 #[test]
 fn breaks(rt: HostRuntime) {
-    assert!(rt; matches!(span_at("  \nb", 0).span, Span::HardBreak));
-    assert!(rt; matches!(span_at(" \nb", 0).span, Span::SoftBreak));
+    assert!(rt;
+        matches!(
+            span_at("  \nb", 0, &mut MissingEnds::new()).span,
+            Span::HardBreak
+        )
+    );
+    assert!(rt;
+        matches!(
+            span_at(" \nb", 0, &mut MissingEnds::new()).span,
+            Span::SoftBreak
+        )
+    );
+}
+
+#[test]
+fn words(rt: HostRuntime) {
+    let rows = [
+        ("foo bar", 7),
+        ("foo  bar \u{e9} *b*", 12),
+        ("foo bar  \n b", 7),
+        (" foo ", 5),
+        ("  \nfoo", 0),
+        ("foo! bar", 3),
+        ("*foo", 0),
+        ("", 0),
+    ];
+    for (text, len) in rows {
+        assert!(rt; text.is_char_boundary(0));
+        assert_eq!(rt; words_len(text, 0), len);
+    }
 }

@@ -1,14 +1,7 @@
-use Rattle.std.proofs.Common.{arith}
-use Rattle.cm_inlines.proofs.SpanLaws.{reads_bracket, reads_span}
+use Rattle.cm_inlines.proofs.WordLaws.{reads_words}
 use Rattle.cm_inlines.proofs.reading.read_piece.Goals as goal
 
-pub overflow_add-result : goal.overflow_add-result
-overflow_add-result c = omega (arith, c.in_ok-n.ensures.within, c.as_bytes.ensures.len)
-
-pub returns-then-as_bytes-at-eq93 : goal.returns-then-as_bytes-at-eq93
-returns-then-as_bytes-at-eq93 c =
-    reads_bracket c.args.links.now c.args.text.now c.args.at c.args.nodes.now.items c.close_bracket.new.nodes.items c.in_ok-n.n c.requires.inside (rw c.as_bytes.ensures.value at c.if-as_bytes-at-eq93.true) c.in_ok-n.ensures
-
-pub returns : goal.returns
-returns c =
-    reads_span c.args.links.now c.args.text.now c.args.at c.args.nodes.now.items c.push_span.new.nodes.items c.span_at-taken.result c.requires.inside (rw c.as_bytes.ensures.value at c.if-as_bytes-at-eq93.false) c.requires.sound c.span_at-taken.ensures.value c.span_at-taken.ensures.ends c.in_ok-push_span.ensures
+pub returns-then-n-gt0-clause-reads : goal.returns-then-n-gt0-clause-reads
+returns-then-n-gt0-clause-reads c =
+    reads_words c.args.links.now c.args.text.now c.args.at c.words_len-n.result c.args.nodes.now.items c.push.new.nodes.items c.range.result c.requires.inside c.if-n-gt0.true c.words_len-n.ensures.value c.words_len-n.ensures.cut c.requires.sound
+    c.range.ensures.value c.in_ok-push.ensures

@@ -1,4 +1,4 @@
-use Rattle.std.proofs.Common.{ℕ, [], ◌∙◌, ap, arith, length, sym}
+use Rattle.std.proofs.Common.{ℕ, [], ◌∙◌, ap, arith, length}
 use Rattle.markdown_grammar.specs.Blocks.{blocks_of}
 use Rattle.std.proofs.lemmas.Result.{err_from_is_err_and}
 use Rattle.cm_print.specs.NodeWalk.{state, whole}

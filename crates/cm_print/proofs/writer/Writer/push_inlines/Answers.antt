@@ -4,8 +4,16 @@ use Rattle.std.proofs.lemmas.Result.{err_from_is_err_and}
 use Rattle.cm_print.specs.InlineNodes.{place_of}
 use Rattle.cm_print.specs.InlineTokens.{printed}
 use Rattle.cm_print.specs.Writing.{written}
-use Rattle.cm_print.proofs.NodeLaws.{node_refused, nodes_all}
+use Rattle.cm_print.proofs.NodeLaws.{node_refused, node_step, nodes_all}
 use Rattle.cm_print.proofs.writer.Writer.push_inlines.Goals as goal
+
+pub loop-node-preserved : goal.loop-node-preserved
+loop-node-preserved c = record {
+  so_far = node_step _ _ _ (place_of c.loop-node.place) (place_of c.behind-place.result) c.nodes-node-items.result.now c.loop-node.node-index c.node-item.result (omega arith) c.node-item.is c.behind-place.ensures.place c.loop-node.invariant.so_far
+      c.in_ok-push_node.ensures.text;
+  images = omega (arith, c.behind-place.ensures.images, c.loop-node.invariant.images);
+  most = c.in_ok-push_node.ensures.most ∙ c.loop-node.invariant.most;
+}
 
 pub returns-in_err-push_node : goal.returns-in_err-push_node
 returns-in_err-push_node c =
