@@ -1,17 +1,33 @@
 use Rattle.std.proofs.Common.{arith}
+use Rattle.cm_inlines.proofs.ListLaws.{no_lists}
+use Rattle.cm_inlines.proofs.Muted.{muted_starts, muted_tokens, mutes}
 use Rattle.cm_inlines.proofs.Whole.{goes_first, laid_out, read, starts}
 use Rattle.cm_inlines.proofs.reading.read_inlines.Goals as goal
 
 pub loop-at-init : goal.loop-at-init
-loop-at-init c = record {
-  sound = starts c.args.links.now c.args.text.now c.new-nodes.result.items c.utf8.text c.new-nodes.ensures.items;
-  goes_on = goes_first c.args.links.now c.args.text.now c.new-nodes.result.items c.new-nodes.ensures.items;
-}
+loop-at-init c =
+    let d = c.new-delimiters.ensures in
+    record {
+      listed = no_lists c.new-delimiters.result c.new-nodes.result.items d.runs d.brackets d.links c.new-nodes.ensures.items;
+      sound = starts c.args.links.now c.args.text.now c.new-nodes.result.items c.utf8.text c.new-nodes.ensures.items;
+      goes_on = goes_first c.args.links.now c.args.text.now c.new-nodes.result.items c.new-nodes.ensures.items;
+    }
+
+pub pair_runs-requires : goal.pair_runs-requires
+pair_runs-requires c =
+    let i = c.loop-at.invariant in
+    muted_starts c.loop-at.delimiters c.loop-at.nodes.items c.change_each.new.nodes.items c.as_slice-2.result.now i.listed i.sound.slots (mutes c.loop-at.delimiters c.loop-at.nodes.items c.change_each.new.nodes.items c.as_slice.result.now i.listed c.as_slice.ensures.value c.change_each.ensures) c.as_slice-2.ensures.value
 
 pub from_nodes-requires : goal.from_nodes-requires
 from_nodes-requires c =
-    laid_out c.args.links.now c.args.text.now c.loop-at.at c.loop-at.nodes.items c.pair_from.new.nodes.items (omega (arith, c.loop-at-test.false)) c.loop-at.invariant.sound c.loop-at.invariant.goes_on c.pair_from.ensures
+    let i = c.loop-at.invariant in
+    let muted = mutes c.loop-at.delimiters c.loop-at.nodes.items c.change_each.new.nodes.items c.as_slice.result.now i.listed c.as_slice.ensures.value c.change_each.ensures in
+    let paired = c.in_ok-pair_runs.ensures in
+    laid_out c.args.links.now c.args.text.now c.loop-at.at c.loop-at.nodes.items c.pair_runs.new.nodes.items (omega (arith, c.loop-at-test.false)) i.sound i.goes_on (muted_tokens c.loop-at.nodes.items c.change_each.new.nodes.items c.pair_runs.new.nodes.items muted paired.value)
 
 pub returns : goal.returns
 returns c =
-    read c.args.links.now c.args.text.now c.loop-at.at c.loop-at.nodes.items c.pair_from.new.nodes.items c.from_nodes.result (omega (arith, c.loop-at-test.false)) c.loop-at.invariant.sound c.loop-at.invariant.goes_on c.pair_from.ensures c.from_nodes.ensures
+    let i = c.loop-at.invariant in
+    let muted = mutes c.loop-at.delimiters c.loop-at.nodes.items c.change_each.new.nodes.items c.as_slice.result.now i.listed c.as_slice.ensures.value c.change_each.ensures in
+    let paired = c.in_ok-pair_runs.ensures in
+    read c.args.links.now c.args.text.now c.loop-at.at c.loop-at.nodes.items c.pair_runs.new.nodes.items c.from_nodes.result (omega (arith, c.loop-at-test.false)) i.sound i.goes_on (muted_tokens c.loop-at.nodes.items c.change_each.new.nodes.items c.pair_runs.new.nodes.items muted paired.value) c.from_nodes.ensures
