@@ -1,5 +1,5 @@
 // Runs of marks, paired where they stand.
-ghost use Rattle.std.specs.Prelude.{◌≡◌, ◌+◌, ◌<◌, IfOk, OnOk, Some, length, slice_get, slice_set};
+ghost use Rattle.std.specs.Prelude.{◌≡◌, ◌+◌, ◌<◌, IfOk, OnOk, Some, length, slice_get, slice_set, ℕ};
 ghost use Rattle.cm_inlines.specs.Machine as machine;
 ghost use Rattle.cm_inlines.specs.Pairing.{PairsAll, PairsOnce, PairsRun, PairsWith, Starts, closer_of, outcome_of};
 
@@ -10,16 +10,14 @@ use crate::runs::{run_at, shorter, strength};
 use site_base::Memory;
 use std::alloc::Global;
 
-/// Pairs the runs of marks at these places: each that may close, one after another, with the nearest before it. Answers the
-/// places of those that are left.
+/// Pairs the runs of marks at these places, which are all the runs from a place on: each that may close, one after another,
+/// with the nearest before it that fits. Answers the places of those that are left.
 pub(crate) fn pair_runs<'a>(
     alloc: Global,
     nodes: &mut Vec<Node<'a>>,
-    start: usize,
     places: &[usize],
 ) -> Result<Vec<usize>, Memory>
-    requires { Starts start nodes.old.items places.now }
-    ensures { IfOk result (λ left. PairsAll start nodes.old.items nodes.new.items left.items) }
+    ensures { IfOk result (λ left. (start : ℕ) → Starts start nodes.old.items places.now → PairsAll start nodes.old.items nodes.new.items left.items) }
 {
     let mut openers = Openers::new(alloc);
     for place in places {

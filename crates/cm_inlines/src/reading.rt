@@ -33,7 +33,7 @@ pub fn read_inlines<'a>(alloc: Global, text: &'a str, links: &Links) -> Result<I
         }
     }
     change_each(&mut nodes, delimiters.brackets.as_slice(), Change::Freeze);
-    pair_runs(alloc, &mut nodes, 0, delimiters.runs.as_slice())?;
+    pair_runs(alloc, &mut nodes, delimiters.runs.as_slice())?;
     Ok(Inlines::from_nodes(nodes))
 }
 
@@ -314,7 +314,7 @@ fn pair_inside<'a>(
     ensures links { delimiters.new.links.items ≡ delimiters.old.links.items }
 {
     let first = first_behind(delimiters.runs.as_slice(), found.place);
-    let left = pair_runs(alloc, nodes, found.place + 1, &delimiters.runs[first..])?;
+    let left = pair_runs(alloc, nodes, &delimiters.runs[first..])?;
     change_each(nodes, left.as_slice(), Change::Freeze);
     delimiters.runs.truncate(first);
     Ok(())

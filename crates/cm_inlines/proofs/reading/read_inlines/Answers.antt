@@ -13,21 +13,16 @@ loop-at-init c =
       goes_on = goes_first c.args.links.now c.args.text.now c.new-nodes.result.items c.new-nodes.ensures.items;
     }
 
-pub pair_runs-requires : goal.pair_runs-requires
-pair_runs-requires c =
-    let i = c.loop-at.invariant in
-    muted_starts c.loop-at.delimiters c.loop-at.nodes.items c.change_each.new.nodes.items c.as_slice-2.result.now i.listed i.sound.slots (mutes c.loop-at.delimiters c.loop-at.nodes.items c.change_each.new.nodes.items c.as_slice.result.now i.listed c.as_slice.ensures.value c.change_each.ensures) c.as_slice-2.ensures.value
-
 pub from_nodes-requires : goal.from_nodes-requires
 from_nodes-requires c =
     let i = c.loop-at.invariant in
     let muted = mutes c.loop-at.delimiters c.loop-at.nodes.items c.change_each.new.nodes.items c.as_slice.result.now i.listed c.as_slice.ensures.value c.change_each.ensures in
-    let paired = c.in_ok-pair_runs.ensures in
+    let paired = c.in_ok-pair_runs.ensures 0 (muted_starts c.loop-at.delimiters c.loop-at.nodes.items c.change_each.new.nodes.items c.as_slice-2.result.now i.listed i.sound.slots muted c.as_slice-2.ensures.value) in
     laid_out c.args.links.now c.args.text.now c.loop-at.at c.loop-at.nodes.items c.pair_runs.new.nodes.items (omega (arith, c.loop-at-test.false)) i.sound i.goes_on (muted_tokens c.loop-at.nodes.items c.change_each.new.nodes.items c.pair_runs.new.nodes.items muted paired.value)
 
 pub returns : goal.returns
 returns c =
     let i = c.loop-at.invariant in
     let muted = mutes c.loop-at.delimiters c.loop-at.nodes.items c.change_each.new.nodes.items c.as_slice.result.now i.listed c.as_slice.ensures.value c.change_each.ensures in
-    let paired = c.in_ok-pair_runs.ensures in
+    let paired = c.in_ok-pair_runs.ensures 0 (muted_starts c.loop-at.delimiters c.loop-at.nodes.items c.change_each.new.nodes.items c.as_slice-2.result.now i.listed i.sound.slots muted c.as_slice-2.ensures.value) in
     read c.args.links.now c.args.text.now c.loop-at.at c.loop-at.nodes.items c.pair_runs.new.nodes.items c.from_nodes.result (omega (arith, c.loop-at-test.false)) i.sound i.goes_on (muted_tokens c.loop-at.nodes.items c.change_each.new.nodes.items c.pair_runs.new.nodes.items muted paired.value) c.from_nodes.ensures
