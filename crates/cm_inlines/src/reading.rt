@@ -32,6 +32,7 @@ pub fn read_inlines<'a>(alloc: Global, text: &'a str, links: &Links) -> Result<I
             Err(_) => return Err(Memory),
         }
     }
+    // A bracket that still waits begins nothing.
     change_each(&mut nodes, delimiters.brackets.as_slice(), Change::Freeze);
     pair_runs(alloc, &mut nodes, delimiters.runs.as_slice())?;
     Ok(Inlines::from_nodes(nodes))

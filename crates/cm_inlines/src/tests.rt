@@ -175,7 +175,7 @@ fn spans(rt: HostRuntime) -> Result<(), Fail> {
 
 // How often something opens in texts that are meant to be slow; the numbers are those of cmark, where an image in an image
 // counts too. Were a part of the reading to take the square of its text, these would take minutes.
-const TIMES: usize = 20_000;
+const TIMES: usize = 100_000;
 
 fn opens(node: &Node) -> bool {
     matches!(
