@@ -301,12 +301,18 @@ link_lists f d left old paired calm new runs opener closer a b l s is brackets l
 closing_places : (q : Node → Bool) → q closing_node ≡ false → (at : ℕ) (ns : List Node) → places q at (ns ++ closing_node ∷ []) ≡ places q at ns
 closing_places q h at ns = places-append q at ns (closing_node ∷ []) ∙ ap (λ (b : Bool). places q at ns ++ listed b (at + length ns) []) h ∙ append-nil (places q at ns)
 
+-- a node more that is on no list
+pub still_lists : (d : Delimiters) (old new : List Node) (n : Node) → Dead n → Lists d old → new ≡ old ++ n ∷ [] → Lists d new
+still_lists d old new n dead l e =
+    let same : (q : Node → Bool) → q n ≡ false → places q 0 old ≡ places q 0 new = λ q h. sym (ap (places q 0) e ∙ places-append q 0 old (n ∷ []) ∙ ap (λ (b : Bool). places q 0 old ++ listed b (0 + length old) []) h ∙ append-nil (places q 0 old)) in
+    record {
+      runs = l.runs ∙ same is_run (dead_run n dead);
+      brackets = l.brackets ∙ same is_bracket (dead_bracket n dead);
+      links = l.links ∙ same begins_link (dead_link n dead);
+    }
+
 pub text_lists : (d : Delimiters) (old new : List Node) → Lists d old → new ≡ old ++ closing_node ∷ [] → Lists d new
-text_lists d old new l e = record {
-  runs = l.runs ∙ sym (ap (places is_run 0) e ∙ closing_places is_run refl 0 old);
-  brackets = l.brackets ∙ sym (ap (places is_bracket 0) e ∙ closing_places is_bracket refl 0 old);
-  links = l.links ∙ sym (ap (places begins_link 0) e ∙ closing_places begins_link refl 0 old);
-}
+text_lists d old new l e = still_lists d old new closing_node refl l e
 
 pub unlinked_lists : (f : Found) (d : Delimiters) (old new : List Node) → IsLast f d old → new ≡ unlinked_nodes f old → Lists d new
 unlinked_lists f d old new l e =
