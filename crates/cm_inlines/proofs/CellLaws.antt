@@ -14,7 +14,6 @@ use Rattle.cm_inlines.specs.Words.{word_tokens}
 use Rattle.cm_inlines.specs.declared.changes.Change.TheVariants.{Freeze}
 use Rattle.cm_inlines.specs.declared.node.Node.{Node}
 use Rattle.cm_inlines.specs.declared.node.Node.TheVariants as node
-use Rattle.cm_inlines.specs.declared.pairing.Sought.TheVariants as sought
 
 -- ---- one after another
 
@@ -221,7 +220,7 @@ three_sealed : (o : Option FoundCell) (a b c : Cell) (ds : List Cell) → or_cel
 three_sealed (Some f) a b c ds = refl
 three_sealed None a b c ds = refl
 
-pub bracket_nodes : (t : List ℕ) (n : Node) → NodeCase bracket_test (cells_at t n) (is_sought sought.Bracket n)
+pub bracket_nodes : (t : List ℕ) (n : Node) → NodeCase bracket_test (cells_at t n) (is_sought machine.Bracket n)
 bracket_nodes t (node.Opening o) = single_case bracket_test (bracket_cell o.is_image o.is_active (drop o.behind t)) true refl
 bracket_nodes t (node.Run r) = single_case bracket_test (run_cell r.mark r.len r.first r.opens r.closes) false refl
 bracket_nodes t node.Nothing = λ ds. pushed_none (last_cell bracket_test ds)
@@ -230,7 +229,7 @@ bracket_nodes t (node.Uri s) = λ ds. three_sealed (last_cell bracket_test ds) _
 bracket_nodes t (node.Email s) = λ ds. three_sealed (last_cell bracket_test ds) _ _ _ ds
 bracket_nodes t n = λ ds. one_sealed (last_cell bracket_test ds) _ ds
 
-pub opener_nodes : (t : List ℕ) (mark first : ℕ) (opens : Bool) (n : Node) → NodeCase (opener_test mark first opens) (cells_at t n) (is_sought (sought.Opener mark first opens) n)
+pub opener_nodes : (t : List ℕ) (mark first : ℕ) (opens : Bool) (n : Node) → NodeCase (opener_test mark first opens) (cells_at t n) (is_sought (machine.Opener mark first opens) n)
 opener_nodes t mark first opens (node.Run r) = single_case (opener_test mark first opens) (run_cell r.mark r.len r.first r.opens r.closes) (machine.opens_for mark first opens r) refl
 opener_nodes t mark first opens (node.Opening o) = single_case (opener_test mark first opens) (bracket_cell o.is_image o.is_active (drop o.behind t)) false refl
 opener_nodes t mark first opens node.Nothing = λ ds. pushed_none (last_cell (opener_test mark first opens) ds)

@@ -24,7 +24,7 @@ use Rattle.cm_inlines.specs.declared.node.Node.{Node}
 use Rattle.cm_inlines.specs.declared.node.Opening.{Opening}
 use Rattle.cm_inlines.specs.declared.node.Target as nodes
 use Rattle.cm_inlines.specs.declared.node.Node.TheVariants as node
-use Rattle.cm_inlines.specs.declared.pairing.Sought.TheVariants as sought
+use Rattle.cm_inlines.specs.Machine as sought
 use Rattle.cm_inlines.specs.declared.reading.Found as reading
 use Rattle.cm_inlines.specs.declared.targets.Reached.{Reached}
 use Rattle.cm_inlines.proofs.CellLaws.{FoundAt, FoundCell, NodesCase, bracket_matches, bracket_nodes, bracket_test, cell_in, cells-append, cells_found, cells_of-append, frozen, last_cell, last_nodes, last_pieces}
@@ -212,7 +212,7 @@ calm_placed t at (n ∷ ns) p = (calm_placed_one t at n p.0, calm_placed t at ns
 
 -- ---- slots round a bracket
 
-opening_start : (ms ns : List Node) (o : Opening) → waiting 0 (ms ++ node.Opening o ∷ ns) ≡ Some 0 → (waiting 0 ms ≡ Some 0) × (waiting 0 ns ≡ Some 0)
+pub opening_start : (ms ns : List Node) (o : Opening) → waiting 0 (ms ++ node.Opening o ∷ ns) ≡ Some 0 → (waiting 0 ms ≡ Some 0) × (waiting 0 ns ≡ Some 0)
 opening_start ms ns o h = go (waiting 0 ms) refl (sym (waiting-append 0 ms (node.Opening o ∷ ns)) ∙ h) where
   go : (x : Option ℕ) → waiting 0 ms ≡ x → after x (node.Opening o ∷ ns) ≡ Some 0 → (waiting 0 ms ≡ Some 0) × (waiting 0 ns ≡ Some 0)
   go (Some zero) e f = (e, f)

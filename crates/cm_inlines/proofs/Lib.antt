@@ -2,8 +2,12 @@ pub mod MachineLaws
 pub mod TargetLaws
 pub mod CellLaws
 pub mod Slots
+pub mod PlaceLaws
 pub mod Walk
+pub mod PairLaws
 pub mod Closing
+pub mod ListLaws
 pub mod SpanLaws
 pub mod WordLaws
+pub mod Muted
 pub mod Whole

@@ -14,7 +14,9 @@ use Rattle.cm_inlines.specs.declared.changes.Change.TheVariants.{Freeze}
 use Rattle.cm_inlines.specs.declared.node.Node.{Node}
 use Rattle.cm_inlines.specs.declared.node.Run.{Run}
 use Rattle.cm_inlines.specs.declared.node.Node.TheVariants as node
+use Rattle.cm_inlines.specs.Places.{is_live, places}
 use Rattle.cm_inlines.proofs.CellLaws.{frozen}
+use Rattle.cm_inlines.proofs.PlaceLaws.{frozen_live, places_away}
 
 -- ---- places that wait for nothing
 
@@ -146,6 +148,32 @@ close_room k = go (k == 2) where
 abbrev pub piece_of_run : Run → Piece
 piece_of_run r = delimiter_run r.mark r.len r.first r.opens r.closes
 
+-- ---- which of them are listed
+
+-- the place of a run that has marks left
+abbrev pub only : Bool → ℕ → List ℕ
+only true at = at ∷ []
+only false at = []
+
+places_gaps : (m at : ℕ) (ns : List Node) → places is_live at (gaps m ++ ns) ≡ places is_live (at + m) ns
+places_gaps zero at ns = let e : at ≡ at + 0 = omega arith in ap (λ (k : ℕ). places is_live k ns) e
+places_gaps (suc m) at ns = let e : at + 1 + m ≡ at + suc m = omega arith in places_gaps m (at + 1) ns ∙ ap (λ (k : ℕ). places is_live k ns) e
+
+places_frozen : (at : ℕ) (ns : List Node) → places is_live at (map (changed Freeze) ns) ≡ []
+places_frozen at ns = places_away is_live (changed Freeze) frozen_live at ns
+
+live_open : (k at : ℕ) (ns : List Node) → places is_live at (open_node k ∷ ns) ≡ places is_live (at + 1) ns
+live_open k at ns = go (k == 2) where
+  go : (b : Bool) → places is_live at (cond b node.OpenStrong node.OpenEmphasis ∷ ns) ≡ places is_live (at + 1) ns
+  go true = refl
+  go false = refl
+
+pub live_close : (k at : ℕ) (ns : List Node) → places is_live at (close_node k ∷ ns) ≡ places is_live (at + 1) ns
+live_close k at ns = go (k == 2) where
+  go : (b : Bool) → places is_live at (cond b node.CloseStrong node.CloseEmphasis ∷ ns) ≡ places is_live (at + 1) ns
+  go true = refl
+  go false = refl
+
 -- ---- the closer
 
 pub record Closed (t : List ℕ) (k : ℕ) (r : Run) (behind : List Node) : Type 0 where
@@ -154,6 +182,7 @@ pub record Closed (t : List ℕ) (k : ℕ) (r : Run) (behind : List Node) : Type
   pub shown : cells t rest ≡ cells_of (shorten k (piece_of_run r)) ++ cells t behind
   pub size : length rest ≡ length behind
   pub slots : waiting 0 rest ≡ Some 0
+  pub listed : (at : ℕ) → places is_live at rest ≡ only (nat_lt k r.len) at ++ places is_live at behind
 
 second : (xs : List Node) (m y : Node) (ys : List Node) (a : Node) (place : ℕ) → place ≡ length xs → set (xs ++ m ∷ (y ∷ ys)) (place + 1) a ≡ xs ++ m ∷ (a ∷ ys)
 second xs m y ys a place e =
@@ -169,6 +198,7 @@ closed t k r behind some slots = go (nat_lt k r.len) refl (nothings (r.len - 1) 
     shown = sym (ap (λ (b : Bool). cells_of (cond b (delimiter_run r.mark (r.len - k) r.first r.opens r.closes ∷ []) []) ++ cells t behind) e);
     size = refl;
     slots = ap (waiting 0) g.1 ∙ waiting_gaps 0 (r.len - 1) g.0 (omega arith) ∙ g.2;
+    listed = λ at. sym (ap (λ (b : Bool). only b at ++ places is_live at behind) e);
   }
   go true e g =
       let lt : k < r.len = grind (arith, e) in
@@ -185,6 +215,7 @@ closed t k r behind some slots = go (nat_lt k r.len) refl (nothings (r.len - 1) 
         shown = ap (λ (zs : List Node). run_cell r.mark (r.len - k) r.first r.opens r.closes ∷ cells t zs) (sym all) ∙ sym (ap (λ (b : Bool). cells_of (cond b (delimiter_run r.mark (r.len - k) r.first r.opens r.closes ∷ []) []) ++ cells t behind) e);
         size = sym (ap (λ (zs : List Node). length zs) all);
         slots = waiting_gaps (r.len - k - 1) (r.len - 2) g.0 (omega (arith, some)) ∙ g.2;
+        listed = λ at. ap (λ (zs : List Node). at ∷ places is_live at zs) (sym all) ∙ sym (ap (λ (b : Bool). only b at ++ places is_live at behind) e);
       }
 
 -- ---- the opener
@@ -195,6 +226,8 @@ pub record Opened (t : List ℕ) (k : ℕ) (r : Run) (inside : List Node) : Type
   pub shown : cells t nodes ≡ cells_of (shorten k (piece_of_run r)) ++ sealed (open_token k) ∷ map sealed (plain_tokens (cells t inside))
   pub slots : (rest : List Node) → waiting 0 (nodes ++ rest) ≡ waiting 0 rest
   pub size : length nodes ≡ suc (length inside)
+  pub listed : (at : ℕ) → places is_live at nodes ≡ only (nat_lt k r.len) at
+  pub head : nat_lt k r.len ≡ true → (rest : List Node) → slice_get (nodes ++ rest) 0 ≡ Some (shorter r k)
 
 pub opened : (t : List ℕ) (k : ℕ) (r : Run) (inside : List Node) → 1 ≤ k → waiting (r.len - 1) inside ≡ Some 0 → Opened t k r inside
 opened t k r inside some slots = go (nat_lt k r.len) refl (nothings (r.len - 1) inside slots) where
@@ -209,6 +242,8 @@ opened t k r inside some slots = go (nat_lt k r.len) refl (nothings (r.len - 1) 
         ∙ sym (ap (λ (b : Bool). cells_of (cond b (delimiter_run r.mark (r.len - k) r.first r.opens r.closes ∷ []) []) ++ sealed (open_token k) ∷ map sealed (plain_tokens (cells t inside))) e);
     slots = λ rest. ap (λ (m : ℕ). waiting m (map (changed Freeze) inside ++ rest)) (open_room k) ∙ waiting_frozen inside rest;
     size = ap (λ (x : ℕ). suc x) (length-map inside (changed Freeze));
+    listed = λ at. live_open k at (map (changed Freeze) inside) ∙ places_frozen (at + 1) inside ∙ sym (ap (λ (b : Bool). only b at) e);
+    head = λ h rest. absurd (let bad : true ≡ false = sym h ∙ e in cc);
   }
   go true e g =
       let lt : k < r.len = grind (arith, e) in
@@ -237,4 +272,8 @@ opened t k r inside some slots = go (nat_lt k r.len) refl (nothings (r.len - 1) 
             ap (waiting a) (append_assoc (gaps a) (open_node k ∷ (gaps b ++ tail)) rest) ∙ waiting_gaps a a (open_node k ∷ ((gaps b ++ tail) ++ rest)) (omega arith)
             ∙ ap (λ (m : ℕ). waiting m ((gaps b ++ tail) ++ rest)) (open_room k) ∙ ap (waiting 0) (append_assoc (gaps b) tail rest) ∙ waiting_gaps 0 b (tail ++ rest) (omega arith) ∙ waiting_frozen g.0 rest;
         size = omega (arith, lt, some, length-append (gaps a) (open_node k ∷ (gaps b ++ tail)), length-append (gaps b) tail, length_gaps a, length_gaps b, length-map g.0 (changed Freeze), ap (λ (zs : List Node). length zs) g.1, length-append (gaps (r.len - 1)) g.0, length_gaps (r.len - 1));
+        listed = λ at.
+            ap (λ (ps : List ℕ). at ∷ ps) (places_gaps a (at + 1) (open_node k ∷ (gaps b ++ tail)) ∙ live_open k (at + 1 + a) (gaps b ++ tail) ∙ places_gaps b (at + 1 + a + 1) tail ∙ places_frozen (at + 1 + a + 1 + b) g.0)
+            ∙ sym (ap (λ (x : Bool). only x at) e);
+        head = λ h rest. refl;
       }

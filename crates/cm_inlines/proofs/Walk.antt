@@ -16,7 +16,7 @@ use Rattle.cm_inlines.specs.declared.changes.Change.TheVariants.{Freeze}
 use Rattle.cm_inlines.specs.declared.node.Node.{Node}
 use Rattle.cm_inlines.specs.declared.node.Run.{Run}
 use Rattle.cm_inlines.specs.declared.node.Node.TheVariants as node
-use Rattle.cm_inlines.specs.declared.pairing.Sought.TheVariants as sought
+use Rattle.cm_inlines.specs.Machine as sought
 use Rattle.cm_inlines.proofs.CellLaws.{FoundAt, FoundCell, NodesCase, cell_in, cells-append, cells_found, cells_of-append, last_cell, last_nodes, last_pieces, opener_matches, opener_nodes, opener_test, plain_is}
 use Rattle.cm_inlines.proofs.Slots.{Closed, Opened, after, change_behind, close_cells, close_room, close_token, closed, get_there, open_token, opened, piece_of_run, run_start, waiting-append}
 
@@ -166,7 +166,7 @@ unpaired t front before r behind cur rest b d s h none same = record {
   same = ap pairs (sym (append_assoc cur (piece_of_run r ∷ []) rest));
 }
 
-strength_some : (m n : ℕ) → 1 ≤ strength m n
+pub strength_some : (m n : ℕ) → 1 ≤ strength m n
 strength_some m n = go (nat_lt 1 m && nat_lt 1 n) where
   go : (b : Bool) → 1 ≤ cond b 2 1
   go true = omega arith
@@ -239,7 +239,7 @@ closes_not cur r e = ap (λ (c : Bool). pair_with cur (closer_of r c)) e
 
 -- ---- the nodes of a pair
 
-pair_made : (t : List ℕ) (xs : List Node) (o : Run) (inside : List Node) (r : Run) (behind : List Node) (k place end : ℕ) (op : Opened t k o inside) (cl : Closed t k r behind) → place ≡ length xs → end ≡ suc (length xs + length inside)
+pub pair_made : (t : List ℕ) (xs : List Node) (o : Run) (inside : List Node) (r : Run) (behind : List Node) (k place end : ℕ) (op : Opened t k o inside) (cl : Closed t k r behind) → place ≡ length xs → end ≡ suc (length xs + length inside)
     → open_nodes place o k (close_nodes end r k (change_between Freeze (suc place) end (xs ++ node.Run o ∷ (inside ++ node.Run r ∷ behind)))) ≡ xs ++ (op.nodes ++ close_node k ∷ cl.rest)
 pair_made t xs o inside r behind k place end op cl e f =
     let fs = map (changed Freeze) inside in
@@ -316,13 +316,13 @@ opener_run : (mark first : ℕ) (opens : Bool) (n : Node) → is_sought (sought.
 opener_run mark first opens (node.Run o) h = (o, refl)
 opener_run mark first opens n h = absurd cc
 
-abbrev sought_by : Run → Node → Bool
+abbrev pub sought_by : Run → Node → Bool
 sought_by r = is_sought (sought.Opener r.mark r.first r.opens)
 
-abbrev closed_at : ℕ → Option ℕ → ℕ → Run → List Node → Bool → List Node
+abbrev pub closed_at : ℕ → Option ℕ → ℕ → Run → List Node → Bool → List Node
 closed_at start o end r ns b = cond b (pair_last start o end r ns) ns
 
-step_is : (front before : List Node) (r : Run) (behind : List Node) → pair_at (length front) (length front + length before) (front ++ (before ++ node.Run r ∷ behind)) ≡ closed_at (length front) (last_place (sought_by r) before) (length front + length before) r (front ++ (before ++ node.Run r ∷ behind)) r.closes
+pub step_is : (front before : List Node) (r : Run) (behind : List Node) → pair_at (length front) (length front + length before) (front ++ (before ++ node.Run r ∷ behind)) ≡ closed_at (length front) (last_place (sought_by r) before) (length front + length before) r (front ++ (before ++ node.Run r ∷ behind)) r.closes
 step_is front before r behind =
     let start = length front in
     let end = length front + length before in
@@ -383,11 +383,11 @@ pub record Walked (t : List ℕ) (front ns : List Node) (place n : ℕ) (whole :
   pub made : pair_from (length front) (length front + place) n (front ++ ns) ≡ front ++ nodes
   pub shown : plain_tokens (cells t nodes) ≡ tokens (pairs whole)
 
-run_is : (n : Node) (r : Run) → run_at (Some n) ≡ Some r → n ≡ node.Run r
+pub run_is : (n : Node) (r : Run) → run_at (Some n) ≡ Some r → n ≡ node.Run r
 run_is (node.Run x) r h = let same : x ≡ r = cc in ap (λ (y : Run). node.Run y) same
 run_is n r h = absurd cc
 
-no_run_step : (front ns : List Node) (x : Node) (behind : List Node) (start place : ℕ) → place ≡ length (front ++ ns) → run_at (Some x) ≡ None → pair_at start place (front ++ (ns ++ x ∷ behind)) ≡ front ++ (ns ++ x ∷ behind)
+pub no_run_step : (front ns : List Node) (x : Node) (behind : List Node) (start place : ℕ) → place ≡ length (front ++ ns) → run_at (Some x) ≡ None → pair_at start place (front ++ (ns ++ x ∷ behind)) ≡ front ++ (ns ++ x ∷ behind)
 no_run_step front ns x behind start place e h =
     let whole = front ++ (ns ++ x ∷ behind) in
     let there : slice_get whole place ≡ Some x = ap (λ (zs : List Node). slice_get zs place) (sym (append_assoc front ns (x ∷ behind))) ∙ get_there (front ++ ns) x behind place e in

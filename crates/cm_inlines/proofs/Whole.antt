@@ -64,10 +64,11 @@ ends_as defs t at old new le s g e =
     let made : new ≡ w.nodes = e ∙ ap (λ (n : ℕ). pair_from 0 0 n old) size ∙ ap (λ (k : ℕ). pair_from 0 k (length old) old) (sym place) ∙ w.made in
     ap tokens_in made ∙ sym (tokens_are t w.nodes) ∙ w.shown ∙ ap tokens (all_pieces defs t at old le g)
 
-pub laid_out : (defs : List Definition) (t : List ℕ) (at : ℕ) (old new : List Node) → length t ≤ at → Sound t at old → GoesOn defs t 0 [] at old → new ≡ pair_from 0 0 (length old - 0) old → IsLaidOut new
+-- whatever the brackets that are left have become
+pub laid_out : (defs : List Definition) (t : List ℕ) (at : ℕ) (old new : List Node) → length t ≤ at → Sound t at old → GoesOn defs t 0 [] at old → tokens_in new ≡ tokens_in (pair_from 0 0 (length old - 0) old) → IsLaidOut new
 laid_out defs t at old new le s g e =
-    let is = ends_as defs t at old new le s g e in
+    let is = e ∙ ends_as defs t at old (pair_from 0 0 (length old - 0) old) le s g refl in
     ap (λ (ts : List Token). tokens (tree_of ts)) is ∙ ap tokens (tree_of-tokens (inlines defs t)) ∙ sym is
 
-pub read : (defs : List Definition) (t : List ℕ) (at : ℕ) (old new : List Node) (found : Inlines) → length t ≤ at → Sound t at old → GoesOn defs t 0 [] at old → new ≡ pair_from 0 0 (length old - 0) old → found ≡ tree_of (tokens_in new) → found ≡ inlines defs t
-read defs t at old new found le s g e h = h ∙ ap tree_of (ends_as defs t at old new le s g e) ∙ tree_of-tokens (inlines defs t)
+pub read : (defs : List Definition) (t : List ℕ) (at : ℕ) (old new : List Node) (found : Inlines) → length t ≤ at → Sound t at old → GoesOn defs t 0 [] at old → tokens_in new ≡ tokens_in (pair_from 0 0 (length old - 0) old) → found ≡ tree_of (tokens_in new) → found ≡ inlines defs t
+read defs t at old new found le s g e h = h ∙ ap tree_of (e ∙ ends_as defs t at old (pair_from 0 0 (length old - 0) old) le s g refl) ∙ tree_of-tokens (inlines defs t)

@@ -7,3 +7,5 @@ pub mod Machine
 pub mod Targets
 pub mod Steps
 pub mod States
+pub mod Places
+pub mod Pairing

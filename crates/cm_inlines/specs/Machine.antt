@@ -6,8 +6,6 @@ use Rattle.cm_inlines.specs.declared.changes.Change.TheVariants.{Calm, Freeze}
 use Rattle.cm_inlines.specs.declared.node.Node.{Node}
 use Rattle.cm_inlines.specs.declared.node.Run.{Run}
 use Rattle.cm_inlines.specs.declared.node.Node.TheVariants as node
-use Rattle.cm_inlines.specs.declared.pairing.Sought.{Sought}
-use Rattle.cm_inlines.specs.declared.pairing.Sought.TheVariants as sought
 
 -- ---- changes
 
@@ -28,6 +26,11 @@ change_between how (suc from) (suc to) (n ∷ ns) = n ∷ change_between how fro
 
 -- ---- what is sought
 
+-- a bracket that may begin a link or an image, or an opener for a closer of this mark and length at first, which may open too
+pub data Sought : Type 0 where
+  Bracket : Sought
+  Opener : (mark first : ℕ) → (opens : Bool) → Sought
+
 abbrev pub run_at : Option Node → Option Run
 run_at (Some (node.Run r)) = Some r
 run_at other = None
@@ -36,8 +39,8 @@ abbrev pub opens_for : ℕ → ℕ → Bool → Run → Bool
 opens_for mark first opens r = r.opens && ((r.mark == mark) && (not (r.closes || opens) || lengths_fit r.first first))
 
 abbrev pub is_sought : Sought → Node → Bool
-is_sought sought.Bracket (node.Opening o) = true
-is_sought (sought.Opener mark first opens) (node.Run r) = opens_for mark first opens r
+is_sought Bracket (node.Opening o) = true
+is_sought (Opener mark first opens) (node.Run r) = opens_for mark first opens r
 is_sought what n = false
 
 -- the place of the last node that passes
@@ -78,7 +81,7 @@ pair_last start None end closer ns = ns
 pair_last start (Some k) end closer ns = pair_found (start + k) (run_at (slice_get ns (start + k))) end closer ns
 
 abbrev pub pair_closer : ℕ → ℕ → Run → List Node → List Node
-pair_closer start end r ns = if r.closes then pair_last start (last_place (is_sought (sought.Opener r.mark r.first r.opens)) (take (end - start) (drop start ns))) end r ns else ns
+pair_closer start end r ns = if r.closes then pair_last start (last_place (is_sought (Opener r.mark r.first r.opens)) (take (end - start) (drop start ns))) end r ns else ns
 
 abbrev pub pair_run : ℕ → ℕ → Option Run → List Node → List Node
 pair_run start end None ns = ns

@@ -11,7 +11,7 @@ use Rattle.cm_inlines.specs.declared.node.Node.{Node}
 use Rattle.cm_inlines.specs.declared.node.Opening.{Opening}
 use Rattle.cm_inlines.specs.declared.node.Target.{Target}
 use Rattle.cm_inlines.specs.declared.node.Node.TheVariants as node
-use Rattle.cm_inlines.specs.declared.pairing.Sought.TheVariants as sought
+use Rattle.cm_inlines.specs.Machine as sought
 use Rattle.cm_inlines.specs.declared.reading.Found.{Found}
 use Rattle.cm_inlines.specs.declared.targets.Reached.{Reached}
 

@@ -1,6 +1,7 @@
 // Nodes that change where they stand.
 ghost use Rattle.std.specs.Prelude.{◌≡◌, ◌+◌, slice_set, unwrap_or};
 ghost use Rattle.cm_inlines.specs.Machine.{change_between, changed};
+ghost use Rattle.cm_inlines.specs.Places.{change_each};
 
 use crate::node::{Node, Opening};
 
@@ -13,14 +14,12 @@ pub(crate) enum Change {
     Calm,
 }
 
-/// Changes the nodes from one place up to another.
-pub(crate) fn change_between<'a>(nodes: &mut Vec<Node<'a>>, from: usize, to: usize, how: Change)
-    ensures { nodes.new.items ≡ change_between how from to nodes.old.items }
+/// Changes the nodes at these places.
+pub(crate) fn change_each<'a>(nodes: &mut Vec<Node<'a>>, places: &[usize], how: Change)
+    ensures { nodes.new.items ≡ change_each how places.now nodes.old.items }
 {
-    let mut place = from;
-    while place < to && place < nodes.len() {
-        change_at(nodes, place, how);
-        place += 1;
+    for place in places {
+        change_at(nodes, *place, how);
     }
 }
 

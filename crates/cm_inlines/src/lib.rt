@@ -2,10 +2,13 @@
 #![tactic(auto)]
 
 mod changes;
+mod delimiters;
 mod inlines;
 mod node;
+mod openers;
 mod pairing;
 mod reading;
+mod runs;
 mod targets;
 
 pub use inlines::Inlines;

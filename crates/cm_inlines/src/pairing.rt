@@ -1,97 +1,125 @@
 // Runs of marks, paired where they stand.
-ghost use Rattle.std.specs.Prelude.{◌≡◌, ◌+◌, ◌-◌, ◌≤◌, ◌<◌, IfSome, Some, length, slice_get, slice_set};
-ghost use Rattle.std.specs.Option.{ForSome};
-ghost use Rattle.markdown_grammar.specs.Emphasis as emphasis;
+ghost use Rattle.std.specs.Prelude.{◌≡◌, ◌+◌, ◌<◌, IfOk, OnOk, Some, length, slice_get, slice_set, ℕ};
 ghost use Rattle.cm_inlines.specs.Machine as machine;
+ghost use Rattle.cm_inlines.specs.Pairing.{PairsAll, PairsOnce, PairsRun, PairsWith, Starts, closer_of, outcome_of};
 
-use crate::changes::{Change, change_between, put};
+use crate::changes::{Change, change_each, put};
 use crate::node::{Node, Run};
+use crate::openers::{Opener, Openers};
+use crate::runs::{run_at, shorter, strength};
+use site_base::Memory;
+use std::alloc::Global;
 
-/// Which node is sought.
-#[derive(Clone, Copy)]
-pub(crate) enum Sought {
-    /// A bracket that may begin a link or an image.
-    Bracket,
-    /// An opener for a closer of this mark and length at first, which may open too.
-    Opener(u8, usize, bool),
-}
-
-/// Pairs the runs of marks from a place on: each that may close, one after another, with the nearest before it.
-pub(crate) fn pair_from<'a>(nodes: &mut Vec<Node<'a>>, start: usize)
-    ensures { nodes.new.items ≡ machine.pair_from start start (length nodes.old.items - start) nodes.old.items }
-{
-    let end = nodes.len();
-    let mut place = start;
-    while place < end {
-        pair_at(nodes, start, place);
-        place += 1;
-    }
-}
-
-// What the node at a place does as a closer.
-fn pair_at<'a>(nodes: &mut Vec<Node<'a>>, start: usize, end: usize)
-    requires { start ≤ end }
-    ensures value { nodes.new.items ≡ machine.pair_at start end nodes.old.items }
-{
-    match run_at(nodes, end) {
-        Some(run) => pair_closer(nodes, start, end, run),
-        None => (),
-    }
-}
-
-fn pair_closer<'a>(nodes: &mut Vec<Node<'a>>, start: usize, end: usize, closer: Run)
-    requires order { start ≤ end }
-    requires within { end < length nodes.old.items }
-    ensures value { nodes.new.items ≡ machine.pair_closer start end closer nodes.old.items }
-{
-    if closer.closes {
-        let sought = Sought::Opener(closer.mark, closer.first, closer.opens);
-        let found = last_place(&nodes[start..end], sought);
-        pair_last(nodes, start, found, end, closer);
-    }
-}
-
-fn pair_last<'a>(
+/// Pairs the runs of marks at these places, which are all the runs from a place on: each that may close, one after another,
+/// with the nearest before it that fits. Answers the places of those that are left.
+pub(crate) fn pair_runs<'a>(
+    alloc: Global,
     nodes: &mut Vec<Node<'a>>,
-    start: usize,
-    found: Option<usize>,
-    end: usize,
-    closer: Run,
-)
-    requires { ForSome found (λ k. start + k < length nodes.old.items) }
-    ensures value { nodes.new.items ≡ machine.pair_last start found end closer nodes.old.items }
+    places: &[usize],
+) -> Result<Vec<usize>, Memory>
+    ensures { IfOk result (λ left. (start : ℕ) → Starts start nodes.old.items places.now → PairsAll start nodes.old.items nodes.new.items left.items) }
 {
-    match found {
-        Some(k) => pair_found(nodes, start + k, end, closer),
-        None => (),
+    let mut openers = Openers::new(alloc);
+    for place in places {
+        pair_run(nodes, &mut openers, *place)?;
+    }
+    Ok(openers.places)
+}
+
+// A run closes as often as there is an opener for it, and may then open.
+fn pair_run<'a>(
+    nodes: &mut Vec<Node<'a>>,
+    openers: &mut Openers,
+    first: usize,
+) -> Result<(), Memory>
+    ensures { OnOk result (PairsRun first openers.old openers.new nodes.old.items nodes.new.items) }
+{
+    let mut place = first;
+    while place < nodes.len() {
+        match pair_once(nodes, openers, place) {
+            Outcome::Unpaired => return openers.push(place),
+            Outcome::Shorter => place += 1,
+            Outcome::UsedUp => return Ok(()),
+        }
+    }
+    Ok(())
+}
+
+/// What becomes of a closer.
+#[derive(Clone, Copy)]
+enum Outcome {
+    /// There is no opener for it.
+    Unpaired,
+    /// It has marks left, at the place behind.
+    Shorter,
+    UsedUp,
+}
+
+fn pair_once<'a>(nodes: &mut Vec<Node<'a>>, openers: &mut Openers, place: usize) -> Outcome
+    ensures value { PairsOnce place result openers.old openers.new nodes.old.items nodes.new.items }
+    ensures len { length nodes.new.items ≡ length nodes.old.items }
+{
+    match closer_at(nodes, place) {
+        Some(closer) => pair_closer(nodes, openers, place, closer),
+        None => Outcome::Unpaired,
     }
 }
 
-fn pair_found<'a>(nodes: &mut Vec<Node<'a>>, place: usize, end: usize, closer: Run)
-    ensures value { nodes.new.items ≡ machine.pair_found place (machine.run_at (slice_get nodes.old.items place)) end closer nodes.old.items }
+fn closer_at(nodes: &[Node], place: usize) -> Option<Run>
+    ensures { result ≡ closer_of (machine.run_at (slice_get nodes.now place)) }
 {
     match run_at(nodes, place) {
-        Some(opener) => pair_nodes(nodes, place, opener, end, closer),
-        None => (),
+        Some(run) => { if run.closes { Some(run) } else { None } }
+        None => None,
     }
 }
 
-// An opener and a closer.
-fn pair_nodes<'a>(nodes: &mut Vec<Node<'a>>, place: usize, opener: Run, end: usize, closer: Run)
-    requires { place < length nodes.old.items }
-    ensures value { nodes.new.items ≡ machine.pair_nodes place opener end closer nodes.old.items }
+fn pair_closer<'a>(
+    nodes: &mut Vec<Node<'a>>,
+    openers: &mut Openers,
+    place: usize,
+    closer: Run,
+) -> Outcome
+    requires { Some closer ≡ closer_of (machine.run_at (slice_get nodes.old.items place)) }
+    ensures value { PairsOnce place result openers.old openers.new nodes.old.items nodes.new.items }
+    ensures len { length nodes.new.items ≡ length nodes.old.items }
 {
-    let taken = strength(opener.len, closer.len);
-    change_between(nodes, place + 1, end, Change::Freeze);
-    close_nodes(nodes, end, closer, taken);
-    open_nodes(nodes, place, opener, taken);
+    match openers.find(nodes, closer) {
+        Some(opener) => pair_with(nodes, openers, opener, place, closer),
+        None => {
+            openers.miss(closer, place);
+            Outcome::Unpaired
+        }
+    }
 }
 
-// Two marks where both runs have two.
-fn strength(opener: usize, closer: usize) -> usize
-    ensures { result ≡ emphasis.strength opener closer }
+// What stands between an opener and its closer opens nothing any more.
+fn pair_with<'a>(
+    nodes: &mut Vec<Node<'a>>,
+    openers: &mut Openers,
+    opener: Opener,
+    place: usize,
+    closer: Run,
+) -> Outcome
+    requires { opener.index < length openers.old.places.items }
+    ensures { PairsWith opener place closer result openers.old openers.new nodes.old.items nodes.new.items }
 {
-    if 1 < opener && 1 < closer { 2 } else { 1 }
+    let taken = strength(opener.run.len, closer.len);
+    change_each(nodes, &openers.places[opener.index + 1..], Change::Freeze);
+    close_nodes(nodes, place, closer, taken);
+    open_nodes(nodes, opener.place, opener.run, taken);
+    openers.cut(opener, taken);
+    left_over(closer, taken)
+}
+
+fn left_over(closer: Run, taken: usize) -> Outcome
+    ensures { result ≡ outcome_of closer taken }
+{
+    if taken < closer.len {
+        Outcome::Shorter
+    } else {
+        Outcome::UsedUp
+    }
 }
 
 fn close_nodes<'a>(nodes: &mut Vec<Node<'a>>, place: usize, closer: Run, taken: usize)
@@ -134,19 +162,6 @@ fn close_node<'a>(taken: usize) -> Node<'a>
     }
 }
 
-fn shorter<'a>(run: Run, taken: usize) -> Node<'a>
-    requires { taken ≤ run.len }
-    ensures { result ≡ machine.shorter run taken }
-{
-    Node::Run(Run {
-        mark: run.mark,
-        len: run.len - taken,
-        first: run.first,
-        opens: run.opens,
-        closes: run.closes,
-    })
-}
-
 // Puts a node so far behind a place, if there is a place.
 fn put_behind<'a>(nodes: &mut Vec<Node<'a>>, place: usize, far: usize, node: Node<'a>)
     ensures value { nodes.new.items ≡ slice_set nodes.old.items (place + far) node.entry }
@@ -154,61 +169,4 @@ fn put_behind<'a>(nodes: &mut Vec<Node<'a>>, place: usize, far: usize, node: Nod
     if place < nodes.len() && far < nodes.len() - place {
         put(nodes, place + far, node);
     }
-}
-
-fn run_at(nodes: &[Node], place: usize) -> Option<Run>
-    ensures { result ≡ machine.run_at (slice_get nodes.now place) }
-{
-    if place < nodes.len() {
-        run_of(&nodes[place])
-    } else {
-        None
-    }
-}
-
-fn run_of(node: &Node) -> Option<Run>
-    ensures { result ≡ machine.run_at (Some node.now) }
-{
-    match node {
-        Node::Run(run) => Some(*run),
-        _ => None,
-    }
-}
-
-/// The place of the last node that is sought.
-pub(crate) fn last_place(nodes: &[Node], sought: Sought) -> Option<usize>
-    ensures value { result ≡ machine.last_place (machine.is_sought sought) nodes.now }
-    ensures within { IfSome result (λ k. k < length nodes.now) }
-{
-    let mut k = nodes.len();
-    while k > 0 {
-        if is_sought(&nodes[k - 1], sought) {
-            return Some(k - 1);
-        }
-        k -= 1;
-    }
-    None
-}
-
-fn is_sought(node: &Node, sought: Sought) -> bool
-    ensures { result ≡ machine.is_sought sought node.now }
-{
-    match (sought, node) {
-        (Sought::Bracket, Node::Opening(_)) => true,
-        (Sought::Opener(mark, first, opens), Node::Run(run)) => opens_for(mark, first, opens, run),
-        _ => false,
-    }
-}
-
-fn opens_for(mark: u8, first: usize, opens: bool, run: &Run) -> bool
-    ensures { result ≡ machine.opens_for mark first opens run.now }
-{
-    run.opens && run.mark == mark && (!(run.closes || opens) || lengths_fit(run.first, first))
-}
-
-// Rules 9 and 10 of the standard.
-fn lengths_fit(one: usize, other: usize) -> bool
-    ensures { result ≡ emphasis.lengths_fit one other }
-{
-    (one % 3 + other % 3) % 3 != 0 || (one % 3 == 0 && other % 3 == 0)
 }

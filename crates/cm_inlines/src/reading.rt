@@ -1,17 +1,19 @@
 // Inlines, read from left to right.
-ghost use Rattle.std.specs.Prelude.{◌≡◌, ◌+◌, ◌<◌, ◌≤◌, ◌-◌, ◌^◌, Some, [], ◌∷◌, ◌++◌, IfOk, IfSome, OnOk, drop, length, option_map, replicate, slice_get};
+ghost use Rattle.std.specs.Prelude.{◌≡◌, ◌+◌, ◌<◌, ◌≤◌, ◌-◌, ◌^◌, ℕ, All, List, Some, [], ◌∷◌, ◌++◌, IfOk, IfSome, OnOk, drop, length, option_map, replicate, slice_get};
 ghost use Rattle.std.specs.Str.{IsCharBoundary};
 ghost use Rattle.markdown_grammar.specs.Reading.{inlines};
 ghost use Rattle.cm_spans.specs.Missing.{Lacks};
+ghost use Rattle.cm_inlines.specs.Places.{IsLast, Lists, Shut, is_bracket, places};
 ghost use Rattle.cm_inlines.specs.States.{Closes, Reads, Sound};
 ghost use Rattle.cm_inlines.specs.Targets.{reached_pair};
-ghost use Rattle.cm_inlines.specs.Steps.{closed_nodes, image_nodes, inside_paired, last_opening, link_nodes, opening_node, opening_of, reached_by, run_node, run_nodes, span_nodes, taken_by};
+ghost use Rattle.cm_inlines.specs.Steps.{closed_nodes, found_at, image_nodes, inside_paired, last_opening, link_nodes, opening_node, opening_of, reached_by, run_node, run_nodes, span_nodes, taken_by, unlinked_nodes};
 ghost use Rattle.cm_inlines.specs.declared.node.Node.TheVariants.{Nothing};
 
-use crate::changes::{Change, change_between, put};
+use crate::changes::{Change, change_each, put};
+use crate::delimiters::Delimiters;
 use crate::inlines::Inlines;
 use crate::node::{Node, Opening, Run, Target};
-use crate::pairing::{Sought, last_place, pair_from};
+use crate::pairing::pair_runs;
 use crate::targets::{Reached, target_of};
 use cm_links::Links;
 use cm_spans::{Marks, MissingEnds, Span, span_at, words_len};
@@ -23,15 +25,26 @@ pub fn read_inlines<'a>(alloc: Global, text: &'a str, links: &Links) -> Result<I
     ensures { IfOk result (λ found. found ≡ inlines links.now text.now) }
 {
     let mut nodes = Vec::new(alloc);
+    let mut delimiters = Delimiters::new(alloc);
     let mut missing = MissingEnds::new();
     let mut at = 0;
     while at < text.len() {
-        match read_piece(alloc, &mut nodes, text, at, links, &mut missing) {
+        match read_piece(
+            alloc,
+            &mut nodes,
+            &mut delimiters,
+            text,
+            at,
+            links,
+            &mut missing,
+        ) {
             Ok(n) => at += n,
             Err(_) => return Err(Memory),
         }
     }
-    pair_from(&mut nodes, 0);
+    // A bracket that still waits begins nothing.
+    change_each(&mut nodes, delimiters.brackets.as_slice(), Change::Freeze);
+    pair_runs(alloc, &mut nodes, delimiters.runs.as_slice())?;
     Ok(Inlines::from_nodes(nodes))
 }
 
@@ -39,6 +52,7 @@ pub fn read_inlines<'a>(alloc: Global, text: &'a str, links: &Links) -> Result<I
 fn read_piece<'a>(
     alloc: Global,
     nodes: &mut Vec<Node<'a>>,
+    delimiters: &mut Delimiters,
     text: &'a str,
     at: usize,
     links: &Links,
@@ -46,8 +60,10 @@ fn read_piece<'a>(
 ) -> Result<usize, Memory>
     requires inside { at < length text.now }
     requires sound { Sound text.now at nodes.old.items }
+    requires listed { Lists delimiters.old nodes.old.items }
     requires lacks { Lacks missing.old (drop at text.now) }
     ensures reads { IfOk result (λ n. Reads links.now text.now at nodes.old.items nodes.new.items n) }
+    ensures listed { OnOk result (Lists delimiters.new nodes.new.items) }
     ensures kept { Lacks missing.new (drop at text.now) }
 {
     let n = words_len(text, at);
@@ -55,13 +71,14 @@ fn read_piece<'a>(
         push(nodes, Node::Words(&text[at..at + n]))?;
         return Ok(n);
     }
-    read_other(alloc, nodes, text, at, links, missing)
+    read_other(alloc, nodes, delimiters, text, at, links, missing)
 }
 
 // The piece at a place where no word stands.
 fn read_other<'a>(
     alloc: Global,
     nodes: &mut Vec<Node<'a>>,
+    delimiters: &mut Delimiters,
     text: &'a str,
     at: usize,
     links: &Links,
@@ -69,15 +86,18 @@ fn read_other<'a>(
 ) -> Result<usize, Memory>
     requires inside { at < length text.now }
     requires sound { Sound text.now at nodes.old.items }
+    requires listed { Lists delimiters.old nodes.old.items }
     requires lacks { Lacks missing.old (drop at text.now) }
     ensures reads { IfOk result (λ n. Reads links.now text.now at nodes.old.items nodes.new.items n) }
+    ensures listed { OnOk result (Lists delimiters.new nodes.new.items) }
     ensures kept { Lacks missing.new (drop at text.now) }
 {
     if text.as_bytes()[at] == b']' {
-        let n = close_bracket(alloc, nodes, text, at, links)?;
+        let n = close_bracket(alloc, nodes, delimiters, text, at, links)?;
         return Ok(n + 1);
     }
     let taken = span_at(text, at, missing);
+    delimiters.add(&taken.span, nodes.len())?;
     push_span(nodes, taken.span, at)?;
     Ok(taken.len)
 }
@@ -157,18 +177,22 @@ fn push_nothing<'a>(nodes: &mut Vec<Node<'a>>, len: usize) -> Result<(), Memory>
 fn close_bracket<'a>(
     alloc: Global,
     nodes: &mut Vec<Node<'a>>,
+    delimiters: &mut Delimiters,
     text: &'a str,
     at: usize,
     links: &Links,
 ) -> Result<usize, Memory>
     requires bracket { slice_get text.now at ≡ Some 93 }
     requires sound { Sound text.now at nodes.old.items }
-    ensures { IfOk result (λ n. Closes links.now text.now at nodes.old.items nodes.new.items n) }
+    requires listed { Lists delimiters.old nodes.old.items }
+    ensures value { IfOk result (λ n. Closes links.now text.now at nodes.old.items nodes.new.items n) }
+    ensures listed { OnOk result (Lists delimiters.new nodes.new.items) }
 {
-    match last_opening(nodes.as_slice()) {
+    match last_opening(nodes.as_slice(), delimiters.brackets.as_slice()) {
         Some(found) => {
             let reached = reached(alloc, text, at, links, found.opening)?;
-            close_at(nodes, found, reached)
+            delimiters.remove_bracket(found.opening);
+            close_at(alloc, nodes, delimiters, found, reached)
         }
         None => {
             push(nodes, Node::Character(']'))?;
@@ -185,12 +209,23 @@ struct Found {
 }
 
 // The last bracket that may begin a link or an image.
-fn last_opening(nodes: &[Node]) -> Option<Found>
+fn last_opening(nodes: &[Node], brackets: &[usize]) -> Option<Found>
+    requires { brackets.now ≡ places is_bracket 0 nodes.now }
     ensures { result ≡ last_opening nodes.now }
 {
-    let place = last_place(nodes, Sought::Bracket)?;
-    let opening = opening_at(nodes, place)?;
-    Some(Found { place, opening })
+    match brackets.last() {
+        Some(place) => found_at(nodes, *place),
+        None => None,
+    }
+}
+
+fn found_at(nodes: &[Node], place: usize) -> Option<Found>
+    ensures { result ≡ found_at place (opening_of (slice_get nodes.now place)) }
+{
+    match opening_at(nodes, place) {
+        Some(opening) => Some(Found { place, opening }),
+        None => None,
+    }
 }
 
 fn opening_at(nodes: &[Node], place: usize) -> Option<Opening>
@@ -236,57 +271,99 @@ fn reached(
 
 // The brackets become a link or an image, or text.
 fn close_at<'a>(
+    alloc: Global,
     nodes: &mut Vec<Node<'a>>,
+    delimiters: &mut Delimiters,
     found: Found,
     reached: Option<Reached>,
 ) -> Result<usize, Memory>
-    requires { found.place < length nodes.old.items }
-    ensures { IfOk result (λ n. (nodes.new.items ≡ closed_nodes found reached nodes.old.items) × (n ≡ taken_by reached)) }
+    requires { IsLast found delimiters.old nodes.old.items }
+    ensures value { IfOk result (λ n. (nodes.new.items ≡ closed_nodes found reached nodes.old.items) × (n ≡ taken_by reached)) }
+    ensures listed { OnOk result (Lists delimiters.new nodes.new.items) }
 {
     match reached {
         Some(reached) => {
             let len = reached.len;
             if found.opening.is_image {
-                make_image(nodes, found.place, reached.target)?;
+                make_image(alloc, nodes, delimiters, found, reached.target)?;
             } else {
-                make_link(nodes, found.place, reached.target)?;
+                make_link(alloc, nodes, delimiters, found, reached.target)?;
             }
             Ok(len)
         }
         None => {
-            put(nodes, found.place, Node::Bracket(found.opening.is_image));
-            push(nodes, Node::Character(']'))?;
+            leave_bracket(nodes, found)?;
             Ok(0)
         }
     }
 }
 
-fn make_image<'a>(nodes: &mut Vec<Node<'a>>, place: usize, target: Target) -> Result<(), Memory>
-    requires { place < length nodes.old.items }
-    ensures { OnOk result (nodes.new.items ≡ image_nodes place target nodes.old.items) }
+// Both brackets are text.
+fn leave_bracket<'a>(nodes: &mut Vec<Node<'a>>, found: Found) -> Result<(), Memory>
+    ensures { OnOk result (nodes.new.items ≡ unlinked_nodes found nodes.old.items) }
 {
-    pair_inside(nodes, place);
-    put(nodes, place, Node::OpenImage(target));
+    put(nodes, found.place, Node::Bracket(found.opening.is_image));
+    push(nodes, Node::Character(']'))
+}
+
+fn make_image<'a>(
+    alloc: Global,
+    nodes: &mut Vec<Node<'a>>,
+    delimiters: &mut Delimiters,
+    found: Found,
+    target: Target,
+) -> Result<(), Memory>
+    requires { IsLast found delimiters.old nodes.old.items }
+    ensures value { OnOk result (nodes.new.items ≡ image_nodes found.place target nodes.old.items) }
+    ensures listed { OnOk result (Lists delimiters.new nodes.new.items) }
+{
+    pair_inside(alloc, nodes, delimiters, found)?;
+    put(nodes, found.place, Node::OpenImage(target));
     push(nodes, Node::CloseImage)
 }
 
 // No link stands in a link: the brackets before it open none.
-fn make_link<'a>(nodes: &mut Vec<Node<'a>>, place: usize, target: Target) -> Result<(), Memory>
-    requires { place < length nodes.old.items }
-    ensures { OnOk result (nodes.new.items ≡ link_nodes place target nodes.old.items) }
+fn make_link<'a>(
+    alloc: Global,
+    nodes: &mut Vec<Node<'a>>,
+    delimiters: &mut Delimiters,
+    found: Found,
+    target: Target,
+) -> Result<(), Memory>
+    requires { IsLast found delimiters.old nodes.old.items }
+    ensures value { OnOk result (nodes.new.items ≡ link_nodes found.place target nodes.old.items) }
+    ensures listed { OnOk result (Lists delimiters.new nodes.new.items) }
 {
-    pair_inside(nodes, place);
-    put(nodes, place, Node::OpenLink(target));
-    change_between(nodes, 0, place, Change::Calm);
+    pair_inside(alloc, nodes, delimiters, found)?;
+    put(nodes, found.place, Node::OpenLink(target));
+    delimiters.calm(nodes);
     push(nodes, Node::CloseLink)
 }
 
-// What stands behind a place is paired, and paired no more.
-fn pair_inside<'a>(nodes: &mut Vec<Node<'a>>, place: usize)
-    requires { place < length nodes.old.items }
-    ensures value { nodes.new.items ≡ inside_paired place nodes.old.items }
+// What stands behind a bracket is paired, and paired no more.
+fn pair_inside<'a>(
+    alloc: Global,
+    nodes: &mut Vec<Node<'a>>,
+    delimiters: &mut Delimiters,
+    found: Found,
+) -> Result<(), Memory>
+    requires { IsLast found delimiters.old nodes.old.items }
+    ensures value { OnOk result (nodes.new.items ≡ inside_paired found.place nodes.old.items) }
+    ensures shut { OnOk result (Shut found.place nodes.old.items nodes.new.items delimiters.new.runs.items) }
+    ensures brackets { delimiters.new.brackets.items ≡ delimiters.old.brackets.items }
+    ensures links { delimiters.new.links.items ≡ delimiters.old.links.items }
 {
-    pair_from(nodes, place + 1);
-    let end = nodes.len();
-    change_between(nodes, place + 1, end, Change::Freeze);
+    let first = first_behind(delimiters.runs.as_slice(), found.place);
+    let left = pair_runs(alloc, nodes, &delimiters.runs[first..])?;
+    change_each(nodes, left.as_slice(), Change::Freeze);
+    delimiters.runs.truncate(first);
+    Ok(())
+}
+
+// Which of the places is the first behind one.
+fn first_behind(places: &[usize], place: usize) -> usize
+    ensures within { result ≤ length places.now }
+    ensures value { (before behind : List ℕ) → places.now ≡ before ++ behind → All (λ p. p ≤ place) before → All (λ p. place < p) behind → result ≡ length before }
+{
+    places.partition_point(|run| *run <= place)
 }

@@ -172,3 +172,74 @@ fn spans(rt: HostRuntime) -> Result<(), Fail> {
     }
     Ok(())
 }
+
+// How often something opens in texts that are meant to be slow; the numbers are those of cmark, where an image in an image
+// counts too. Were a part of the reading to take the square of its text, these would take minutes.
+const TIMES: usize = 100_000;
+
+fn opens(node: &Node) -> bool {
+    matches!(
+        node,
+        Node::OpenEmphasis | Node::OpenStrong | Node::OpenLink(_) | Node::OpenImage(_)
+    )
+}
+
+fn opened(alloc: Global, text: &str) -> Result<usize, Fail> {
+    let links = Links::new(alloc);
+    match read_inlines(alloc, text, &links) {
+        Ok(inlines) => Ok(inlines.nodes().iter().filter(|node| opens(node)).count()),
+        Err(_) => Ok(usize::MAX),
+    }
+}
+
+// The first part again and again, then the second.
+fn opened_in(alloc: Global, first: &str, second: &str) -> Result<usize, Fail> {
+    opened_around(alloc, first, "", second)
+}
+
+fn opened_around(alloc: Global, first: &str, middle: &str, second: &str) -> Result<usize, Fail> {
+    let mut text = String::new(alloc);
+    for _ in 0..TIMES {
+        text.push_str(first)?;
+    }
+    text.push_str(middle)?;
+    for _ in 0..TIMES {
+        text.push_str(second)?;
+    }
+    opened(alloc, text.as_str())
+}
+
+#[test]
+fn many_brackets(rt: HostRuntime) -> Result<(), Fail> {
+    let alloc = rt.alloc();
+    assert_eq!(rt; opened_in(alloc, "[", "]")?, 0);
+    assert_eq!(rt; opened_in(alloc, "![", "](a)")?, TIMES);
+    assert_eq!(rt; opened_in(alloc, "[a](b)", "")?, TIMES);
+    assert_eq!(rt; opened_in(alloc, "](", "")?, 0);
+    assert_eq!(rt; opened_in(alloc, "![", "[a](b)")?, TIMES);
+    assert_eq!(rt; opened_around(alloc, "[", "[a](b)", "]")?, 1);
+    assert_eq!(rt; opened_in(alloc, "[*a", "]")?, 0);
+    Ok(())
+}
+
+#[test]
+fn many_marks(rt: HostRuntime) -> Result<(), Fail> {
+    let alloc = rt.alloc();
+    assert_eq!(rt; opened_in(alloc, "*a_ ", "")?, 0);
+    assert_eq!(rt; opened_in(alloc, "*a_ ", "a* ")?, TIMES);
+    assert_eq!(rt; opened_in(alloc, "*a **b ", "c** d* ")?, 2 * TIMES);
+    assert_eq!(rt; opened_in(alloc, "a**b", "")?, TIMES / 2);
+    assert_eq!(rt; opened_in(alloc, "c*_", "")?, 1);
+    assert_eq!(rt; opened_around(alloc, "*", "a", "*")?, TIMES / 2);
+    assert_eq!(rt; opened_in(alloc, "a*b**c***d_", "")?, 2 * TIMES);
+    Ok(())
+}
+
+#[test]
+fn many_of_both(rt: HostRuntime) -> Result<(), Fail> {
+    let alloc = rt.alloc();
+    assert_eq!(rt; opened_in(alloc, "*![", "](a)*")?, 2 * TIMES);
+    assert_eq!(rt; opened_in(alloc, "*[", "](a)")?, TIMES / 2 + 1);
+    assert_eq!(rt; opened_in(alloc, "[*a ", "a*](b)")?, TIMES + 1);
+    Ok(())
+}
