@@ -69,7 +69,8 @@ fn takes_out(path: &[u8], entry: &[u8]) -> bool
     covers(path, without_slash(entry))
 }
 
-fn without_slash(entry: &[u8]) -> &[u8]
+/// An entry without one `/` at its end.
+pub fn without_slash(entry: &[u8]) -> &[u8]
     ensures { result.now ≡ without_slash entry.now }
 {
     match entry {
@@ -78,7 +79,8 @@ fn without_slash(entry: &[u8]) -> &[u8]
     }
 }
 
-fn covers(path: &[u8], entry: &[u8]) -> bool
+/// Whether the path is the entry, or lies below it.
+pub fn covers(path: &[u8], entry: &[u8]) -> bool
     ensures { result ≡ covers path.now entry.now }
 {
     path == entry || is_below(path, entry)

@@ -1,7 +1,7 @@
 // The names of posts.
-ghost use Rattle.std.specs.Prelude.{◌≡◌, option_and_then};
+ghost use Rattle.std.specs.Prelude.{◌≡◌, IfSome, option_and_then};
 ghost use Rattle.std.specs.Option.{option_map};
-ghost use Rattle.site_dates.specs.Moment.{read_moment};
+ghost use Rattle.site_dates.specs.Moment.{IsMoment, read_moment};
 ghost use Rattle.site_dates.specs.Offset.{IsOffset};
 ghost use Rattle.site_files.specs.PostNames.{behind_dash, dated_name, dated_parts, has_title, is_post_name, with_moment};
 
@@ -21,7 +21,8 @@ pub struct DatedName<'a> {
 /// `-`; `None` exactly where it does not.
 pub fn dated_name(name: &str, offset: i32) -> Option<DatedName<'_>>
     requires { IsOffset offset }
-    ensures { option_map dated_parts result ≡ dated_name offset name.now }
+    ensures parts { option_map dated_parts result ≡ dated_name offset name.now }
+    ensures range { IfSome result (λ dated. IsMoment dated.moment) }
 {
     match name.split_at_checked(10) {
         Some((date, rest)) => dated_rest(date, rest, offset),
@@ -32,7 +33,8 @@ pub fn dated_name(name: &str, offset: i32) -> Option<DatedName<'_>>
 // The same, of the first ten bytes and the rest.
 fn dated_rest<'a>(date: &str, rest: &'a str, offset: i32) -> Option<DatedName<'a>>
     requires { IsOffset offset }
-    ensures { option_map dated_parts result ≡ option_and_then (with_moment (read_moment date.now offset)) (behind_dash rest.entry.now) }
+    ensures parts { option_map dated_parts result ≡ option_and_then (with_moment (read_moment date.now offset)) (behind_dash rest.entry.now) }
+    ensures range { IfSome result (λ dated. IsMoment dated.moment) }
 {
     match rest.strip_prefix('-') {
         Some(title) => dated_title(date, title, offset),
@@ -43,7 +45,8 @@ fn dated_rest<'a>(date: &str, rest: &'a str, offset: i32) -> Option<DatedName<'a
 // The same, of the title.
 fn dated_title<'a>(date: &str, title: &'a str, offset: i32) -> Option<DatedName<'a>>
     requires { IsOffset offset }
-    ensures { option_map dated_parts result ≡ with_moment (read_moment date.now offset) title.entry.now }
+    ensures parts { option_map dated_parts result ≡ with_moment (read_moment date.now offset) title.entry.now }
+    ensures range { IfSome result (λ dated. IsMoment dated.moment) }
 {
     match read_moment(date, offset) {
         Some(moment) => Some(DatedName { moment, title }),

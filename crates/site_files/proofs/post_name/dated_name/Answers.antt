@@ -6,12 +6,12 @@ use Rattle.site_files.specs.PostNames.{behind_dash, with_moment}
 use Rattle.site_files.proofs.Dated.{no_cut}
 use Rattle.site_files.proofs.post_name.dated_name.Goals as goal
 
-pub returns-in-Some : goal.returns-in-Some
-returns-in-Some c =
-    let made = simp (to_z-of_z, c.ranges.offset) at c.dated_rest.ensures in
+pub returns-in-Some-clause-parts : goal.returns-in-Some-clause-parts
+returns-in-Some-clause-parts c =
+    let made = simp (to_z-of_z, c.ranges.offset) at c.dated_rest.ensures.parts in
     made ∙ ap₂ (λ date rest. option_and_then (with_moment (read_moment date c.args.offset)) (behind_dash rest)) c.in-Some.ensures.front c.in-Some.ensures.back
 
-pub returns-in-None : goal.returns-in-None
-returns-in-None c =
+pub returns-in-None-clause-parts : goal.returns-in-None-clause-parts
+returns-in-None-clause-parts c =
     ap (option_and_then (with_moment (read_moment (take 10 c.args.name.now) c.args.offset)))
     (no_cut c.args.name.now 10 (λ at. absurd (cc (c.in-None.ensures.variant.1 at))))

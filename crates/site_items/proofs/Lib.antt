@@ -1,0 +1,5 @@
+mod BelowPosts
+mod Capitals
+mod Cutting
+mod Placing
+mod Utf8Tests

@@ -1,0 +1,20 @@
+use Rattle.std.proofs.Common.{◌≡◌, subst, true, false, refl, List, ℕ, Ok}
+use Rattle.std.specs.Result.{MatchResult}
+use Rattle.std.specs.Str.{is_utf8}
+use Rattle.std.proofs.lemmas.Str.{is_utf8-from_IsUtf8}
+use Rattle.site_items.specs.Outcomes.{IsFault}
+use Rattle.site_items.specs.Seeking.{ruled_text}
+use Rattle.site_items.proofs.Utf8Tests.{not_utf8}
+use Rattle.site_items.proofs.item.Item.read.Goals as goal
+
+pub returns-in-Ok : goal.returns-in-Ok
+returns-in-Ok c =
+    let same = c.in-Ok.ensures.cases.0 in
+    let fits : is_utf8 c.args.bytes.now ≡ true = is_utf8-from_IsUtf8 c.args.bytes.now c.in-Ok.ensures.cases.1 in
+    let made : List ℕ → Type 0 = λ s. let found = ruled_text c.args.rules.now c.args.kind c.args.path.now s in MatchResult c.text_item.result (λ item. found ≡ Ok item) (IsFault found) in
+    rw fits (subst made same c.text_item.ensures)
+
+pub returns-in-Err : goal.returns-in-Err
+returns-in-Err c =
+    let other : is_utf8 c.args.bytes.now ≡ false = not_utf8 c.args.bytes.now c.in-Err.ensures.cases.0 in
+    rw (other, c.utf8_fault.ensures) refl

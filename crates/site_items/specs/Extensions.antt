@@ -1,0 +1,22 @@
+-- The extensions of outputs.
+use Rattle.std.specs.Prelude.{ℕ, ◌==◌, Bool, false, ◌||◌, List, [], ◌∷◌, codes, if◌then◌else◌}
+use Rattle.std.specs.List.{list_any, slice_split}
+use Rattle.std.specs.Str.{bytes_eq}
+
+abbrev pub is_comma : ℕ → Bool
+is_comma b = b == 44
+
+-- a `.` and one of the names between commas
+abbrev pub is_listed : List ℕ → List ℕ → Bool
+is_listed names [] = false
+is_listed names (dot ∷ name) = list_any (bytes_eq name) (slice_split is_comma names)
+
+abbrev pub html : List ℕ
+html = codes ".html"
+
+-- HTML where the extension is Markdown's, and else the extension itself
+abbrev pub output_ext : List ℕ → List ℕ → List ℕ
+output_ext markdown ext = if is_listed markdown ext then html else ext
+
+abbrev pub is_page_ext : List ℕ → Bool
+is_page_ext ext = bytes_eq ext html || bytes_eq ext (codes ".xhtml") || bytes_eq ext (codes ".htm")

@@ -1,0 +1,185 @@
+-- What a file is as an item of the site: its variables, address and body, or its first fault; nothing where it is left out.
+use Rattle.std.specs.Prelude.{ℕ, ◌-◌, nat_lt, nat_eq, ℤ, Bool, true, false, not, ◌&&◌, ◌||◌, List, [], ◌++◌, length, take, codes, fold, Option, Some, None, Ok, Err, int_lt, if◌then◌else◌}
+use Rattle.std.specs.List.{after_last, ends_with}
+use Rattle.std.specs.Option.{option_or}
+use Rattle.std.specs.Str.{is_utf8}
+use Rattle.site_base.specs.Path.{segments}
+use Rattle.site_base.specs.Plain.{Plain, nil, bool, text, list, Pairs, no_pairs, set, key_list}
+use Rattle.site_base.specs.Values.{value_text}
+use Rattle.site_base.specs.declared.faults.FaultKind.TheVariants as fault
+use Rattle.permalinks.specs.Url.{url}
+use Rattle.site_config.specs.declared.config.Config.{Config}
+use Rattle.site_config.specs.declared.scope.Scope.{Scope}
+use Rattle.site_files.specs.Names.{extension, file_name, is_slash, stem}
+use Rattle.site_items.specs.Addresses.{above_posts, collection_of, dest_of, found_url, is_page, is_post, name_of, parts, template}
+use Rattle.site_items.specs.Dates.{date_value, given_date, name_date, name_title}
+use Rattle.site_items.specs.Defaults.{variable, variables}
+use Rattle.site_items.specs.Extensions.{output_ext}
+use Rattle.site_items.specs.Labels.{add_name, names_of_many, names_of_one, text_items}
+use Rattle.site_items.specs.Matter.{body, own_variables}
+use Rattle.site_items.specs.Outcomes.{Outcome, ◌>>=◌}
+use Rattle.site_items.specs.Titles.{title}
+use Rattle.site_items.specs.declared.item.Item.{Item}
+use Rattle.site_items.specs.declared.kind.Kind.{Kind}
+use Rattle.site_items.specs.declared.kind.Kind.TheVariants as kind
+
+-- the type by which a scope of `defaults` names an item
+abbrev pub type_name : Config → Kind → List ℕ
+type_name config kind.Page = codes "pages"
+type_name config kind.Draft = codes "drafts"
+type_name config k = name_of (collection_of config k)
+
+-- ---- whether it is built
+
+abbrev pub is_draft : Kind → Bool
+is_draft kind.Draft = true
+is_draft k = false
+
+-- the variable `published`
+abbrev pub is_published : Plain → Outcome Bool
+is_published nil = Ok true
+is_published (bool b) = Ok b
+is_published v = Err (0, fault.Config)
+
+-- the moment of a document: that of its variable, else that in its name, else for a draft the present one
+abbrev pub document_date : ℤ → ℤ → Kind → List ℕ → Option ℤ → Option ℤ
+document_date offset now k name given =
+    if is_page k then None
+    else if is_draft k then option_or given (option_or (name_date offset name) (Some now))
+    else option_or given (name_date offset name)
+
+-- a document of a later moment, unless the future is built
+abbrev pub is_left_out : ℤ → Bool → Option ℤ → Bool
+is_left_out now future None = false
+is_left_out now future (Some moment) = int_lt now moment && not future
+
+-- ---- names
+
+-- the title in the name of a document's file; of a draft all of it
+abbrev pub title_part : ℤ → Kind → List ℕ → List ℕ
+title_part offset k name = if is_draft k then name else name_title offset name
+
+abbrev pub is_nil : Plain → Bool
+is_nil nil = true
+is_nil v = false
+
+-- a variable where it is there, and else this value
+abbrev pub set_missing : List ℕ → Plain → Pairs → Pairs
+set_missing name v vars = if is_nil (variable name vars) then set name v vars else vars
+
+-- the folders above `_posts`, of a post below one
+abbrev pub folders_above : Kind → List ℕ → List (List ℕ)
+folders_above kind.Post path = above_posts (segments path)
+folders_above k path = []
+
+-- the categories of a post: the folders above `_posts`, and those that it names
+abbrev pub categories : Kind → List ℕ → Pairs → Pairs
+categories k path vars =
+    let above = fold add_name no_pairs (folders_above k path) in
+    fold add_name (fold add_name above (names_of_one (variable (codes "category") vars))) (names_of_many (variable (codes "categories") vars))
+
+abbrev pub tags : Pairs → Pairs
+tags vars = fold add_name (fold add_name no_pairs (names_of_one (variable (codes "tag") vars))) (names_of_many (variable (codes "tags") vars))
+
+-- names as a value
+abbrev pub names_value : Pairs → Plain
+names_value names = list (text_items (key_list names))
+
+-- ---- variables
+
+-- what is known of an item before its address: documents have a date, a slug and a title, posts have categories
+abbrev pub set_if : Bool → List ℕ → Plain → Pairs → Pairs
+set_if true name v vars = set name v vars
+set_if false name v vars = vars
+
+-- the slug and the title of a document, which its own variables may give
+abbrev pub named : List ℕ → Pairs → Pairs
+named part vars = set_missing (codes "title") (text (title part)) (set_missing (codes "slug") (text part) vars)
+
+abbrev pub slug_of : Pairs → List ℕ
+slug_of vars = value_text (variable (codes "slug") vars)
+
+-- a URL up to its last `/`, with it
+abbrev pub folder_of : List ℕ → List ℕ
+folder_of address = take (length address - length (after_last is_slash address)) address
+
+-- without one `/` at its end, unless that is all
+abbrev pub has_end : List ℕ → Bool
+has_end address = nat_lt 1 (length address) && ends_with nat_eq address (codes "/")
+
+abbrev pub without_end : List ℕ → List ℕ
+without_end address = if has_end address then take (length address - 1) address else address
+
+abbrev pub id_of : List ℕ → List ℕ → List ℕ
+id_of address slug_text = folder_of (without_end address) ++ slug_text
+
+-- the variables that all items have
+abbrev pub placed : List ℕ → List ℕ → Pairs → Pairs
+placed path address vars =
+    set (codes "ext") (text (extension (file_name path))) (set (codes "url") (text address)
+    (set (codes "relative_path") (text path) (set (codes "path") (text path) vars)))
+
+abbrev pub page_variables : List ℕ → List ℕ → Pairs → Pairs
+page_variables path address vars = set (codes "dir") (text (folder_of address)) (set (codes "name") (text (file_name path)) vars)
+
+-- those of documents; `own` are the variables in which categories and tags are looked up
+abbrev pub document_variables : Config → Kind → List ℕ → List ℕ → Option ℤ → Pairs → Pairs
+document_variables config k path address moment vars =
+    set (codes "id") (text (id_of address (slug_of vars))) (set (codes "tags") (names_value (tags vars))
+    (set_if (is_post k) (codes "categories") (names_value (categories k path vars)) (set (codes "date") (date_value config.timezone moment)
+    (set_if (is_draft k) (codes "draft") (bool true) (set (codes "collection") (text (name_of (collection_of config k))) vars)))))
+
+abbrev pub kind_variables : Config → Kind → List ℕ → List ℕ → Option ℤ → Pairs → Pairs
+kind_variables config k path address moment vars =
+    if is_page k then page_variables path address vars else document_variables config k path address moment vars
+
+abbrev pub kind_named : ℤ → Kind → List ℕ → Pairs → Pairs
+kind_named offset k name vars = if is_page k then vars else named (title_part offset k name) vars
+
+-- ---- items
+
+abbrev pub item_at : Config → Kind → List ℕ → Option ℤ → Pairs → List ℕ → List ℕ → List ℕ → Outcome (Option Item)
+item_at config k path moment vars text_body ext address = dest_of config k address ext >>= λ dest. Ok (Some (record {
+  moment = moment;
+  url = address;
+  dest = dest;
+  vars = kind_variables config k path address moment (placed path address vars);
+  body = text_body;
+}))
+
+-- an item that is built, whose variables with slug and title these are, and whose output has this extension
+abbrev pub built_with : Config → Kind → List ℕ → Option ℤ → List ℕ → List ℕ → Pairs → Outcome (Option Item)
+built_with config k path moment text_body ext vars =
+    template config ext (stem (file_name path)) k (variable (codes "permalink") vars)
+    >>= λ t. found_url (url t (parts config k path ext moment (slug_of vars) (key_list (categories k path vars))))
+    >>= item_at config k path moment vars text_body ext
+
+abbrev pub built_item : Config → Kind → List ℕ → Option ℤ → Pairs → List ℕ → Outcome (Option Item)
+built_item config k path moment vars text_body = built_with config k path moment text_body (output_ext config.markdown_ext (extension (file_name path))) vars
+
+abbrev pub named_item : Config → Kind → List ℕ → Option ℤ → Pairs → List ℕ → Outcome (Option Item)
+named_item config k path moment vars text_body = built_item config k path moment (kind_named config.timezone k (stem (file_name path)) vars) text_body
+
+-- an item that is published, whose variable `date` names this moment
+abbrev pub dated_item : Config → ℤ → Bool → Kind → List ℕ → Pairs → List ℕ → Option ℤ → Outcome (Option Item)
+dated_item config now future k path vars text_body given =
+    let moment = document_date config.timezone now k (stem (file_name path)) given in
+    if is_left_out now future moment then Ok None else named_item config k path moment vars text_body
+
+abbrev pub published_item : Config → ℤ → Bool → Kind → List ℕ → Pairs → List ℕ → Bool → Outcome (Option Item)
+published_item config now future k path vars text_body published =
+    if published || config.unpublished then given_date config.timezone (variable (codes "date") vars) >>= dated_item config now future k path vars text_body
+    else Ok None
+
+-- an item whose variables these are
+abbrev pub item_with : Config → ℤ → Bool → Kind → List ℕ → List ℕ → Pairs → Outcome (Option Item)
+item_with config now future k path text_body vars =
+    is_published (variable (codes "published") vars) >>= published_item config now future k path vars text_body
+
+abbrev pub text_item : Config → List Scope → ℤ → Bool → Kind → List ℕ → List ℕ → Outcome (Option Item)
+text_item config ordered now future k path s =
+    own_variables s >>= λ own. item_with config now future k path (body s) (variables ordered path (type_name config k) own)
+
+-- the item that a file is
+abbrev pub item : Config → List Scope → ℤ → Bool → Kind → List ℕ → List ℕ → Outcome (Option Item)
+item config ordered now future k path bytes = if is_utf8 bytes then text_item config ordered now future k path bytes else Err (0, fault.NotUtf8)

@@ -1,0 +1,12 @@
+pub mod Addresses
+pub mod Dates
+pub mod Defaults
+pub mod Extensions
+pub mod Files
+pub mod Items
+pub mod Labels
+pub mod Matter
+pub mod Outcomes
+pub mod Parts
+pub mod Seeking
+pub mod Titles

@@ -1,0 +1,41 @@
+-- The variables and the body of a text: what its front matter sets, and what stands behind that.
+use Rattle.std.specs.Prelude.{ℕ, List, take, drop, Ok, Err}
+use Rattle.site_base.specs.Plain.{Pairs, no_pairs}
+use Rattle.site_base.specs.declared.faults.FaultKind.TheVariants as fault
+use Rattle.front_yaml.specs.Front.{front}
+use Rattle.front_yaml.specs.Reading.{Reading}
+use Rattle.front_yaml.specs.Yaml.{yaml_pairs}
+use Rattle.front_yaml.specs.declared.front_matter.Front.{Front}
+use Rattle.front_yaml.specs.declared.front_matter.Front.TheVariants.{Page, Open, Plain}
+use Rattle.front_yaml.specs.declared.faults.YamlError.{YamlError}
+use Rattle.front_yaml.specs.declared.faults.YamlError.TheVariants as yaml_error
+use Rattle.site_items.specs.Outcomes.{Outcome}
+use Rattle.site_items.specs.declared.item_error.ItemError.{ItemError}
+use Rattle.site_items.specs.declared.item_error.ItemError.TheVariants as item_error
+
+abbrev pub in_file : Reading Pairs → Outcome Pairs
+in_file (Ok ps) = Ok ps
+in_file (Err f) = Err (f.0, fault.Yaml f.1)
+
+-- the same of an answer
+abbrev pub error_in_file : YamlError → ItemError
+error_in_file yaml_error.Memory = item_error.Memory
+error_in_file (yaml_error.Fault f) = item_error.Fault (record { line = f.line; kind = fault.Yaml f.kind })
+
+-- the variables that the front matter sets, read with its first line `---`, so that lines are counted in the file; where it is
+-- not closed, or is none, it sets none
+abbrev pub variables_in : List ℕ → Front → Outcome Pairs
+variables_in text (Page start end body) = in_file (yaml_pairs (take end text))
+variables_in text Open = Ok no_pairs
+variables_in text Plain = Ok no_pairs
+
+abbrev pub body_in : List ℕ → Front → List ℕ
+body_in text (Page start end body) = drop body text
+body_in text Open = text
+body_in text Plain = text
+
+abbrev pub own_variables : List ℕ → Outcome Pairs
+own_variables text = variables_in text (front text)
+
+abbrev pub body : List ℕ → List ℕ
+body text = body_in text (front text)

@@ -1,0 +1,97 @@
+// Values that a configuration gives to items.
+ghost use Rattle.std.specs.Prelude.{◌≡◌, ◌≤◌, IfOk, OnOk, length, map};
+ghost use Rattle.std.specs.List.{position_or_len};
+ghost use Rattle.site_items.specs.Defaults.{by_strength, fits, is_for_path, is_for_type, is_stronger, set_all, strength, variables};
+
+use site_base::{GrowingHash, Hash, Memory, Text, copy};
+use site_config::Scope;
+use site_files::{covers, without_slash};
+use std::alloc::Global;
+
+/// The scopes in the order in which their values count: of two that fit, the later wins. The longer path is the later, then
+/// the one with a type, then the one that stands later in the configuration.
+pub fn by_strength<'a>(alloc: Global, scopes: &'a [Scope]) -> Result<Vec<&'a Scope>, Memory>
+    ensures { IfOk result (λ ordered. map (λ s. s.now) ordered.items ≡ by_strength scopes.now) }
+{
+    let mut ordered = Vec::new(alloc);
+    for scope in scopes {
+        let place = place_of(ordered.as_slice(), scope);
+        ordered.insert(place, scope)?;
+    }
+    Ok(ordered)
+}
+
+// The place of the first that is stronger, or behind all.
+fn place_of(ordered: &[&Scope], scope: &Scope) -> usize
+    ensures within { result ≤ length ordered.now }
+    ensures value { result ≡ position_or_len (is_stronger scope.now) (map (λ s. s.now) ordered.now) }
+{
+    let own = strength(scope);
+    match ordered.iter().position(|other| own < strength(other)) {
+        Some(place) => place,
+        None => ordered.len(),
+    }
+}
+
+// Two for each byte of the path, and one for a type.
+fn strength(scope: &Scope) -> u128
+    ensures { result ≡ strength scope.now }
+{
+    let path = without_slash(scope.path.as_str().as_bytes()).len() as u128;
+    2 * path + u128::from(scope.kind.is_some())
+}
+
+/// The variables of an item at a path and of a type: its own, and below them what the scopes that fit give it, in their
+/// order.
+pub fn variables(
+    alloc: Global,
+    ordered: &[&Scope],
+    path: &str,
+    type_name: &str,
+    own: &Hash,
+) -> Result<Hash, Memory>
+    ensures { IfOk result (λ made. made ≡ variables (map (λ s. s.now) ordered.now) path.now type_name.now own.now) }
+{
+    let mut made = GrowingHash::new(alloc);
+    for scope in ordered {
+        if fits(scope, path, type_name) {
+            set_copies(alloc, &mut made, &scope.values)?;
+        }
+    }
+    set_copies(alloc, &mut made, own)?;
+    Ok(made.finish())
+}
+
+fn set_copies(alloc: Global, under: &mut GrowingHash, values: &Hash) -> Result<(), Memory>
+    ensures { OnOk result (under.new ≡ set_all values.now under.old) }
+{
+    for pair in values.as_slice() {
+        under.set(
+            Text::copy(alloc, pair.key.as_str())?,
+            copy(alloc, &pair.value)?,
+        )?;
+    }
+    Ok(())
+}
+
+fn fits(scope: &Scope, path: &str, type_name: &str) -> bool
+    ensures { result ≡ fits path.now type_name.now scope.now }
+{
+    is_for_path(scope, path) && is_for_type(scope, type_name)
+}
+
+fn is_for_path(scope: &Scope, path: &str) -> bool
+    ensures { result ≡ is_for_path path.now scope.now }
+{
+    let place = without_slash(scope.path.as_str().as_bytes());
+    place.is_empty() || covers(path.as_bytes(), place)
+}
+
+fn is_for_type(scope: &Scope, type_name: &str) -> bool
+    ensures { result ≡ is_for_type type_name.now scope.now.kind }
+{
+    match &scope.kind {
+        Some(wanted) => type_name == wanted.as_str(),
+        None => true,
+    }
+}

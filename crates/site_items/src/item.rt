@@ -1,0 +1,359 @@
+// Items of the site.
+ghost use Rattle.std.specs.Prelude.{◌≡◌, IfOk, IfSome, MatchResult, OnOk, codes};
+ghost use Rattle.site_base.specs.Plain.{set, text};
+ghost use Rattle.site_base.specs.View.{plain};
+ghost use Rattle.site_config.specs.Forms.{given};
+ghost use Rattle.site_dates.specs.Moment.{IsMoment};
+ghost use Rattle.site_dates.specs.Offset.{IsOffset};
+ghost use Rattle.site_items.specs.Items.{document_variables, folder_of, has_end, id_of, is_left_out, is_published, named_item, page_variables, placed, without_end};
+ghost use Rattle.site_items.specs.Outcomes.{IsFault};
+ghost use Rattle.site_items.specs.Seeking.{address_of, all_variables, ruled_dated, ruled_item, ruled_text, ruled_with, sought_item, template_of};
+
+use crate::addresses::{Sought, dest_of, url_of};
+use crate::dates::{date_value, given_date, item_date};
+use crate::defaults::variables;
+use crate::extensions::output_ext;
+use crate::item_error::{ItemError, config_fault, utf8_fault};
+use crate::kind::Kind;
+use crate::lookup::variable;
+use crate::matter::{body, own_variables};
+use crate::names::{categories, names_value, set_names, slug_of, tags};
+use crate::templates::template;
+use site_base::{Hash, Memory, SitePath, Text, Value};
+use site_config::{Config, Scope};
+use site_files::{extension, file_name, stem};
+use std::alloc::Global;
+use std::str;
+
+/// An item of the site, as its file makes it.
+#[derive(Drop)]
+pub struct Item {
+    /// The moment of a document that has a date, in seconds from the beginning of 1970.
+    pub moment: Option<i64>,
+    pub url: Text,
+    /// The path of its output, where it has one.
+    pub dest: Option<SitePath>,
+    /// Its variables, but for those that name its neighbours.
+    pub vars: Hash,
+    pub body: Text,
+}
+
+/// What holds for all items of a site.
+#[derive(Clone, Copy)]
+pub struct Rules<'a> {
+    pub config: &'a Config,
+    /// The configuration's scopes, by their strength.
+    pub scopes: &'a [&'a Scope],
+    /// The present moment, in seconds from the beginning of 1970.
+    pub now: i64,
+    /// Whether documents of a later moment are built.
+    pub future: bool,
+}
+
+impl Item {
+    /// The item that a file of a kind is; `None` where it is left out, since it is not published, or its date is later.
+    ///
+    /// `Fault` comes exactly where the file has a fault before it is known to be left out, and names the first: it is no
+    /// UTF-8 (`NotUtf8`), its front matter is no mapping (`Yaml`, with its line), its variable `published` is neither nil
+    /// nor a bool (`Config`), `date` is neither nil nor a date (`BadDate`), `permalink` is neither nil nor a text, or a
+    /// template whose placeholder has no value, or makes no path of a site (`Config`).
+    pub fn read(
+        alloc: Global,
+        rules: &Rules,
+        kind: Kind,
+        path: &str,
+        bytes: &[u8],
+    ) -> Result<Option<Item>, ItemError>
+        requires offset { IsOffset rules.now.config.now.timezone }
+        requires now { IsMoment rules.now.now }
+        ensures { let found = ruled_item rules.entry.now kind path.now bytes.now in
+            MatchResult result (λ made. found ≡ Ok made) (IsFault found) }
+    {
+        match str::from_utf8(bytes) {
+            Ok(text) => text_item(alloc, rules, kind, path, text),
+            Err(_) => Err(utf8_fault()),
+        }
+    }
+}
+
+fn text_item(
+    alloc: Global,
+    rules: &Rules,
+    kind: Kind,
+    path: &str,
+    text: &str,
+) -> Result<Option<Item>, ItemError>
+    requires offset { IsOffset rules.now.config.now.timezone }
+    requires now { IsMoment rules.now.now }
+    ensures { let found = ruled_text rules.entry.now kind path.now text.now in
+        MatchResult result (λ made. found ≡ Ok made) (IsFault found) }
+{
+    let own = own_variables(alloc, text)?;
+    let vars = variables(
+        alloc,
+        rules.scopes,
+        path,
+        kind.type_name(rules.config),
+        &own,
+    )?;
+    item_with(alloc, rules, kind, path, body(text), vars)
+}
+
+// An item whose variables these are.
+fn item_with(
+    alloc: Global,
+    rules: &Rules,
+    kind: Kind,
+    path: &str,
+    body: &str,
+    vars: Hash,
+) -> Result<Option<Item>, ItemError>
+    requires offset { IsOffset rules.now.config.now.timezone }
+    requires now { IsMoment rules.now.now }
+    ensures { let found = ruled_with rules.entry.now kind path.now body.now vars in
+        MatchResult result (λ made. found ≡ Ok made) (IsFault found) }
+{
+    if !is_published(variable(&vars, "published"))? && !rules.config.unpublished {
+        return Ok(None);
+    }
+    let given = given_date(rules.config.timezone, variable(&vars, "date"))?;
+    dated_item(alloc, rules, kind, path, body, vars, given)
+}
+
+// The variable `published`.
+fn is_published(value: Option<&Value>) -> Result<bool, ItemError>
+    ensures { MatchResult result (λ is_set. is_published (given value.entry) ≡ Ok is_set) (IsFault (is_published (given value.entry))) }
+{
+    match value {
+        None | Some(Value::Nil) => Ok(true),
+        Some(Value::Bool(is_set)) => Ok(*is_set),
+        Some(_) => Err(config_fault()),
+    }
+}
+
+// An item that is published, whose variable `date` names this moment.
+fn dated_item(
+    alloc: Global,
+    rules: &Rules,
+    kind: Kind,
+    path: &str,
+    body: &str,
+    vars: Hash,
+    given: Option<i64>,
+) -> Result<Option<Item>, ItemError>
+    requires offset { IsOffset rules.now.config.now.timezone }
+    requires now { IsMoment rules.now.now }
+    requires given { IfSome given IsMoment }
+    ensures { let found = ruled_dated rules.entry.now kind path.now vars body.now given in
+        MatchResult result (λ made. found ≡ Ok made) (IsFault found) }
+{
+    let moment = item_date(
+        rules.config.timezone,
+        rules.now,
+        kind,
+        stem(file_name(path)),
+        given,
+    );
+    if is_left_out(rules, moment) {
+        return Ok(None);
+    }
+    named_item(alloc, rules.config, kind, path, body, vars, moment)
+}
+
+// Whether a document is of a later moment, and the future is not built.
+fn is_left_out(rules: &Rules, moment: Option<i64>) -> bool
+    ensures { result ≡ is_left_out rules.entry.now.now rules.entry.now.future moment }
+{
+    match moment {
+        Some(moment) => rules.now < moment && !rules.future,
+        None => false,
+    }
+}
+
+fn named_item(
+    alloc: Global,
+    config: &Config,
+    kind: Kind,
+    path: &str,
+    body: &str,
+    mut vars: Hash,
+    moment: Option<i64>,
+) -> Result<Option<Item>, ItemError>
+    requires offset { IsOffset config.now.timezone }
+    requires moment { IfSome moment IsMoment }
+    ensures { let found = named_item config.now kind path.now moment vars body.now in
+        MatchResult result (λ made. found ≡ Ok made) (IsFault found) }
+{
+    let name = file_name(path);
+    set_names(alloc, &mut vars, config.timezone, kind, stem(name))?;
+    let sought = Sought {
+        config,
+        kind,
+        path,
+        ext: output_ext(config.markdown_ext.as_str(), extension(name)),
+        moment,
+    };
+    built_item(alloc, &sought, vars, body)
+}
+
+// An item that is built, whose variables have its slug and title.
+fn built_item(
+    alloc: Global,
+    sought: &Sought,
+    vars: Hash,
+    body: &str,
+) -> Result<Option<Item>, ItemError>
+    requires offset { IsOffset sought.now.config.now.timezone }
+    requires moment { IfSome sought.now.moment IsMoment }
+    ensures { let found = sought_item sought.now vars body.now in
+        MatchResult result (λ made. found ≡ Ok made) (IsFault found) }
+{
+    let template = template_of(alloc, sought, &vars)?;
+    let url = address(alloc, sought, template.as_str(), &vars)?;
+    let dest = dest_of(alloc, sought.config, sought.kind, url.as_str(), sought.ext)?;
+    let vars = set_variables(alloc, sought, url.as_str(), vars)?;
+    Ok(Some(Item {
+        moment: sought.moment,
+        url,
+        dest,
+        vars,
+        body: Text::copy(alloc, body)?,
+    }))
+}
+
+fn template_of(alloc: Global, sought: &Sought, vars: &Hash) -> Result<Text, ItemError>
+    ensures { let found = template_of sought.now vars.now in
+        MatchResult result (λ text. found ≡ Ok text) (IsFault found) }
+{
+    template(
+        alloc,
+        sought.config,
+        sought.ext,
+        stem(file_name(sought.path)),
+        sought.kind,
+        variable(vars, "permalink"),
+    )
+}
+
+fn address(alloc: Global, sought: &Sought, template: &str, vars: &Hash) -> Result<Text, ItemError>
+    requires offset { IsOffset sought.now.config.now.timezone }
+    requires moment { IfSome sought.now.moment IsMoment }
+    ensures { let found = address_of sought.now template.now vars.now in
+        MatchResult result (λ text. found ≡ Ok text) (IsFault found) }
+{
+    let slug = slug_of(alloc, vars)?;
+    let categories = categories(alloc, sought.kind, sought.path, vars)?;
+    url_of(alloc, template, sought, &slug, &categories)
+}
+
+// The variables that stand over the item's own.
+fn set_variables(alloc: Global, sought: &Sought, url: &str, mut vars: Hash) -> Result<Hash, Memory>
+    requires offset { IsOffset sought.now.config.now.timezone }
+    requires moment { IfSome sought.now.moment IsMoment }
+    ensures { IfOk result (λ made. made ≡ all_variables sought.now url.now vars) }
+{
+    set_placed(alloc, &mut vars, sought.path, url)?;
+    if sought.kind.is_page() {
+        set_page_variables(alloc, &mut vars, sought.path, url)?;
+        return Ok(vars);
+    }
+    set_document_variables(alloc, &mut vars, sought, url)?;
+    Ok(vars)
+}
+
+fn set_placed(alloc: Global, vars: &mut Hash, path: &str, url: &str) -> Result<(), Memory>
+    ensures { OnOk result (vars.new ≡ placed path.now url.now vars.old) }
+{
+    set_text(alloc, vars, "path", path)?;
+    set_text(alloc, vars, "relative_path", path)?;
+    set_text(alloc, vars, "url", url)?;
+    set_text(alloc, vars, "ext", extension(file_name(path)))
+}
+
+fn set_page_variables(alloc: Global, vars: &mut Hash, path: &str, url: &str) -> Result<(), Memory>
+    ensures { OnOk result (vars.new ≡ page_variables path.now url.now vars.old) }
+{
+    set_text(alloc, vars, "name", file_name(path))?;
+    set_text(alloc, vars, "dir", folder_of(url))
+}
+
+fn set_document_variables(
+    alloc: Global,
+    vars: &mut Hash,
+    sought: &Sought,
+    url: &str,
+) -> Result<(), Memory>
+    requires offset { IsOffset sought.now.config.now.timezone }
+    requires moment { IfSome sought.now.moment IsMoment }
+    ensures { OnOk result (vars.new ≡ document_variables sought.now.config.now sought.now.kind sought.now.path.now url.now sought.now.moment vars.old) }
+{
+    let categories = categories(alloc, sought.kind, sought.path, vars)?;
+    let tags = tags(alloc, vars)?;
+    let slug = slug_of(alloc, vars)?;
+    set_text(
+        alloc,
+        vars,
+        "collection",
+        sought.kind.collection_name(sought.config),
+    )?;
+    if sought.kind.is_draft() {
+        set(alloc, vars, "draft", Value::Bool(true))?;
+    }
+    let date = date_value(alloc, sought.config.timezone, sought.moment)?;
+    set(alloc, vars, "date", date)?;
+    if sought.kind.is_post() {
+        let value = names_value(alloc, &categories)?;
+        set(alloc, vars, "categories", value)?;
+    }
+    let value = names_value(alloc, &tags)?;
+    set(alloc, vars, "tags", value)?;
+    set_id(alloc, vars, url, slug.as_str())
+}
+
+// The folder of the URL, and the slug.
+fn set_id(alloc: Global, vars: &mut Hash, url: &str, slug: &str) -> Result<(), Memory>
+    ensures { OnOk result (vars.new ≡ set (codes "id") (text (id_of url.now slug.now)) vars.old) }
+{
+    let mut id = Text::copy(alloc, folder_of(without_end(url)))?;
+    id.push_str(slug)?;
+    set(alloc, vars, "id", Value::Text(id))
+}
+
+// A URL up to its last `/`, with it.
+fn folder_of(url: &str) -> &str
+    ensures { result.now ≡ folder_of url.now }
+{
+    &url[..url.len() - file_name(url).len()]
+}
+
+// A URL without one `/` at its end, unless that is all.
+fn without_end(url: &str) -> &str
+    ensures { result.now ≡ without_end url.now }
+{
+    if has_end(url) {
+        &url[..url.len() - 1]
+    } else {
+        url
+    }
+}
+
+fn has_end(url: &str) -> bool
+    ensures { result ≡ has_end url.now }
+{
+    if url.len() <= 1 {
+        return false;
+    }
+    url.ends_with("/")
+}
+
+fn set_text(alloc: Global, vars: &mut Hash, name: &str, value: &str) -> Result<(), Memory>
+    ensures { OnOk result (vars.new ≡ set name.now (text value.now) vars.old) }
+{
+    set(alloc, vars, name, Value::Text(Text::copy(alloc, value)?))
+}
+
+fn set(alloc: Global, vars: &mut Hash, name: &str, value: Value) -> Result<(), Memory>
+    ensures { OnOk result (vars.new ≡ set name.now (plain value) vars.old) }
+{
+    vars.set(Text::copy(alloc, name)?, value)
+}

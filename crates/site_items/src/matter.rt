@@ -1,0 +1,50 @@
+// Front matter, and the body behind it.
+ghost use Rattle.std.specs.Prelude.{◌≡◌, MatchResult};
+ghost use Rattle.site_items.specs.Matter.{body, error_in_file, own_variables};
+ghost use Rattle.site_items.specs.Outcomes.{IsFault};
+
+use crate::item_error::{ItemError, LineFault};
+use front_yaml::{Front, YamlError, read_mapping, split_front};
+use site_base::{FaultKind, Hash};
+use std::alloc::Global;
+
+/// The variables that the front matter of a text sets, in their order; none where it has no front matter, or one that is
+/// not closed.
+///
+/// `Fault` comes exactly where the front matter is no mapping of the YAML subset: `Yaml` with the first fault's kind and
+/// its line in the file, which is 1 where there is a value of another kind.
+pub fn own_variables(alloc: Global, text: &str) -> Result<Hash, ItemError>
+    ensures { MatchResult result (λ vars. own_variables text.now ≡ Ok vars) (IsFault (own_variables text.now)) }
+{
+    match split_front(text.as_bytes()) {
+        // Its first line is read too, so that lines are counted in the file.
+        Front::Page { yaml_end, .. } => match read_mapping(alloc, &text[..yaml_end]) {
+            Ok(vars) => Ok(vars),
+            Err(error) => Err(in_file(error)),
+        },
+        Front::Open | Front::Plain => Ok(Hash::new(alloc)),
+    }
+}
+
+// The error of front matter as one of its file.
+fn in_file(error: YamlError) -> ItemError
+    ensures { result ≡ error_in_file error }
+{
+    match error {
+        YamlError::Fault(fault) => ItemError::Fault(LineFault {
+            line: fault.line,
+            kind: FaultKind::Yaml(fault.kind),
+        }),
+        YamlError::Memory => ItemError::Memory,
+    }
+}
+
+/// What stands behind the front matter of a text, and all of it where it has none, or one that is not closed.
+pub fn body(text: &str) -> &str
+    ensures { result.now ≡ body text.now }
+{
+    match split_front(text.as_bytes()) {
+        Front::Page { body, .. } => &text[body..],
+        Front::Open | Front::Plain => text,
+    }
+}
