@@ -57,9 +57,12 @@ pub fn cut_up(alloc: Global, text: &str) -> Result<Pieces, Memory>
     let mut pieces = Vec::new(alloc);
     let mut at = 0;
     let mut line = 1;
+    // The last piece, whose lines are not counted: behind the end no line is asked for.
+    let mut passed = &bytes[..0];
     let mut trims = false;
     while at < bytes.len() {
         let rest = tail(bytes, at);
+        line += line_ends(passed) as u64;
         let front = front_of(rest);
         let len = match len_of(&front, rest.len()) {
             Some(len) => len,
@@ -72,7 +75,7 @@ pub fn cut_up(alloc: Global, text: &str) -> Result<Pieces, Memory>
         };
         push_pieces(&mut pieces, &front, at, line, trims, rest)?;
         trims = trims_after(&front, rest);
-        line += line_ends(&rest[..len]) as u64;
+        passed = &rest[..len];
         at += len;
     }
     Ok(Pieces {
