@@ -20,6 +20,16 @@ def measure(command, path):
     return time.perf_counter() - started, usage.ru_maxrss * KIB, os.waitstatus_to_exitcode(status)
 
 
+def written(path, make):
+    """Writes the text that `make` makes, in a process of its own: what this process holds when it forks counts to the peak of what it runs."""
+    child = os.fork()
+    if child == 0:
+        with open(path, "w", newline="") as file:
+            file.write(make())
+        os._exit(0)
+    os.waitpid(child, 0)
+
+
 def best(command, path):
     """The quickest of three runs."""
     return min(measure(command, path) for _ in range(3))

@@ -1,6 +1,6 @@
 // HTML as the standard has it.
 use crate::rows::{CONTAINERS, INLINES, LEAVES};
-use crate::{HtmlError, to_html};
+use crate::{CommonMark, Convert, HtmlError, to_html};
 use std::alloc::{AllocError, Global};
 use std::process::Abort;
 use std::test::Fail;
@@ -54,6 +54,15 @@ fn no_more_than_may(rt: HostRuntime) -> Result<(), Fail> {
         let found = to_html(rt.alloc(), "a", most);
         assert!(rt; matches!(found, Err(HtmlError::TooLong)), "{most}");
     }
+    Ok(())
+}
+
+#[test]
+fn converted(rt: HostRuntime) -> Result<(), Fail> {
+    let found = CommonMark.html(rt.alloc(), "*a*", MOST)?;
+    assert_eq!(rt; found.as_str(), "<p><em>a</em></p>\n");
+    let refused = CommonMark.html(rt.alloc(), "*a*", 3);
+    assert!(rt; matches!(refused, Err(HtmlError::TooLong)));
     Ok(())
 }
 
