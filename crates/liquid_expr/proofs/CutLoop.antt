@@ -61,16 +61,19 @@ then_found (Comment n m) len s e = let k : n + m ≡ len = cc in subst (λ j. th
 joined : (front more : List Piece) (all : Cut) → with_front front (with_front more all) ≡ with_front (front ++ more) all
 joined front more all = ap (λ (x : List Piece). cut_is x all.unclosed) (sym (append_assoc front more all.pieces))
 
-pub goes_on : (front : List Piece) (bytes : List ℕ) (at line len : ℕ) (trims : Bool) (total : Cut) → at < length bytes → found_len (front_of (drop at bytes)) ≡ Some len
-    → with_front front (cut_from (rest_at bytes at line trims)) ≡ total
-    → with_front (front ++ pieces_of (front_of (drop at bytes)) (rest_at bytes at line trims)) (cut_from (rest_at bytes (at + len) (line + line_ends (take len (drop at bytes))) (trims_after (front_of (drop at bytes)) (drop at bytes)))) ≡ total
-goes_on front bytes at line len trims total lt found so_far =
+-- the pieces of what stands at a place, and those behind it
+pub one_front : (bytes : List ℕ) (at line len : ℕ) (trims : Bool) → at < length bytes → found_len (front_of (drop at bytes)) ≡ Some len
+    → cut_from (rest_at bytes at line trims)
+    ≡ with_front (pieces_of (front_of (drop at bytes)) (rest_at bytes at line trims)) (cut_from (rest_at bytes (at + len) (line + line_ends (take len (drop at bytes))) (trims_after (front_of (drop at bytes)) (drop at bytes))))
+one_front bytes at line len trims lt found =
     let next = front_of (drop at bytes) in
     let then = trims_after next (drop at bytes) in
     let here : Rest = rest_at bytes at line trims in
-    let later : Rest = rest_at bytes (at + len) (line + line_ends (take len (drop at bytes))) then in
-    let one : cut_from here ≡ with_front (pieces_of next here) (cut_from later) = at_some bytes at line trims lt ∙ then_found next len here found ∙ ap (λ r. with_front (pieces_of next here) (cut_from r)) (past_is bytes at line len trims then) in
-    sym (joined front (pieces_of next here) (cut_from later)) ∙ ap (with_front front) (sym one) ∙ so_far
+    at_some bytes at line trims lt ∙ then_found next len here found ∙ ap (λ r. with_front (pieces_of next here) (cut_from r)) (past_is bytes at line len trims then)
+
+pub more_front : (front more : List Piece) (all : List Piece) (here later : Rest) (total : Cut) → all ≡ front ++ more → cut_from here ≡ with_front more (cut_from later)
+    → with_front front (cut_from here) ≡ total → with_front all (cut_from later) ≡ total
+more_front front more all here later total is one so_far = rw is (sym (joined front more (cut_from later)) ∙ ap (with_front front) (sym one) ∙ so_far)
 
 pub then_none : (next : Front) (s : Rest) → found_len next ≡ None → then_rest next cut_from s ≡ cut_is [] (Some s.line)
 then_none Unclosed s e = refl
@@ -83,14 +86,14 @@ then_none (Comment n m) s e = absurd cc
 closing : (front : List Piece) (unclosed : Option ℕ) → with_front front (cut_is [] unclosed) ≡ cut_is front unclosed
 closing front unclosed = ap (λ (x : List Piece). cut_is x unclosed) (append-nil front)
 
-pub stops : (front : List Piece) (bytes : List ℕ) (at line : ℕ) (trims : Bool) (total : Cut) → at < length bytes → found_len (front_of (drop at bytes)) ≡ None
-    → with_front front (cut_from (rest_at bytes at line trims)) ≡ total → cut_is front (Some line) ≡ total
-stops front bytes at line trims total lt none so_far =
-    sym (closing front (Some line)) ∙ ap (with_front front) (sym (at_some bytes at line trims lt ∙ then_none (front_of (drop at bytes)) (rest_at bytes at line trims) none)) ∙ so_far
+pub no_front : (bytes : List ℕ) (at line : ℕ) (trims : Bool) → at < length bytes → found_len (front_of (drop at bytes)) ≡ None
+    → cut_from (rest_at bytes at line trims) ≡ cut_is [] (Some line)
+no_front bytes at line trims lt none = at_some bytes at line trims lt ∙ then_none (front_of (drop at bytes)) (rest_at bytes at line trims) none
 
-pub ends : (front : List Piece) (bytes : List ℕ) (at line : ℕ) (trims : Bool) (total : Cut) → length bytes ≤ at
-    → with_front front (cut_from (rest_at bytes at line trims)) ≡ total → cut_is front None ≡ total
-ends front bytes at line trims total le so_far =
+pub nothing_left : (bytes : List ℕ) (at line : ℕ) (trims : Bool) → length bytes ≤ at → cut_from (rest_at bytes at line trims) ≡ cut_is [] None
+nothing_left bytes at line trims le =
     let none : eqb (length (drop at bytes)) 0 ≡ true = eq-eqb (length (drop at bytes)) 0 (omega (arith, length-drop at bytes)) in
-    let nothing : cut_from (rest_at bytes at line trims) ≡ cut_is [] None = cut_from_is (rest_at bytes at line trims) ∙ rw none refl in
-    sym (closing front None) ∙ ap (with_front front) (sym nothing) ∙ so_far
+    cut_from_is (rest_at bytes at line trims) ∙ rw none refl
+
+pub closes : (front : List Piece) (unclosed : Option ℕ) (here : Rest) (total : Cut) → cut_from here ≡ cut_is [] unclosed → with_front front (cut_from here) ≡ total → cut_is front unclosed ≡ total
+closes front unclosed here total e so_far = sym (closing front unclosed) ∙ ap (with_front front) (sym e) ∙ so_far

@@ -12,6 +12,7 @@ use Rattle.liquid_grammar.specs.declared.piece.Front.{Front}
 use Rattle.liquid_grammar.specs.declared.piece.Front.TheVariants.{Text, Output, Tag, Raw, Comment, Unclosed}
 use Rattle.liquid_grammar.specs.Pieces.{first_place, begins, opens, is_tag, is_white, white_len, tag_place, tag_at, markup_at, front_of, has_first_dash, has_last_dash, span, inside_at, stripped_at, Rest, Cut, past, pieces_of, trims_after, raw_text, dropped_text, cut_is, with_front, cut_from, cut_of, line_ends}
 use Rattle.liquid_expr.specs.Spans.{IsSpanOf}
+use Rattle.liquid_expr.specs.CutSteps.{AreSpans}
 use Rattle.liquid_expr.specs.Fits.{Fits, found_len}
 use Rattle.liquid_expr.proofs.PlacesLaws.{place_le, place_at}
 use Rattle.liquid_expr.proofs.FrontFits.{mark_fits, front_fits}
@@ -302,3 +303,20 @@ module _ (text : List ℕ) (u : IsUtf8 text) where
   -- a piece of the text
   pub span_at : (ps : List Piece) (unclosed : Option ℕ) (i : ℕ) (d : Piece) → cut_is ps unclosed ≡ cut_of text → i < length ps → IsSpanOf text (get_or ps i d).inner
   span_at ps unclosed i d e lt = each_at HasSpan ps i d lt (subst (λ (c : Cut). EachOf HasSpan c.pieces) (sym e) spans_of)
+
+-- some of the pieces of a text, one after another
+spans_last : (text : List ℕ) (ps more : List Piece) → EachOf (λ (p : Piece). IsSpanOf text p.inner) (ps ++ more) → AreSpans text ps
+spans_last text [] more a = tt
+spans_last text (p ∷ ps) more a = (a.0, spans_last text ps more a.1)
+
+spans_middle : (text : List ℕ) (front ps more : List Piece) → EachOf (λ (p : Piece). IsSpanOf text p.inner) (front ++ (ps ++ more)) → AreSpans text ps
+spans_middle text [] ps more a = spans_last text ps more a
+spans_middle text (p ∷ front) ps more a = spans_middle text front ps more a.1
+
+pub spans_between : (text : List ℕ) → IsUtf8 text → (front ps more : List Piece) (unclosed : Option ℕ) → cut_is (front ++ (ps ++ more)) unclosed ≡ cut_of text → AreSpans text ps
+spans_between text u front ps more unclosed e = spans_middle text front ps more (subst (λ (c : Cut). EachOf (λ (p : Piece). IsSpanOf text p.inner) c.pieces) (sym e) (spans_of text u))
+
+pub span_there : (text : List ℕ) (ps : List Piece) (i : ℕ) (d : Piece) → i < length ps → AreSpans text ps → IsSpanOf text (get_or ps i d).inner
+span_there text [] i d lt a = absurd (omega arith)
+span_there text (p ∷ ps) zero d lt a = a.0
+span_there text (p ∷ ps) (suc i) d lt a = span_there text ps i d (omega arith) a.1

@@ -1,4 +1,5 @@
 pub mod Ahead
+pub mod CutSteps
 pub mod Fits
 pub mod Gives
 pub mod Readings

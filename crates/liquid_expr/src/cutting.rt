@@ -4,6 +4,7 @@ ghost use Rattle.liquid_grammar.specs.declared.piece.PieceKind.TheVariants as ki
 ghost use Rattle.liquid_grammar.specs.Pieces.{len_of, pieces_of, cut_of, cut_is, cut, text_piece, markup_piece, dropped_piece};
 ghost use Rattle.liquid_expr.specs.Fits.{Fits};
 ghost use Rattle.liquid_expr.specs.Gives.{GivesCut};
+ghost use Rattle.liquid_expr.specs.CutSteps.{left, whole, IsPlaced, Cuts};
 
 use crate::front::{front_of, len_of, trims_after};
 use crate::places::{line_ends, tail};
@@ -53,35 +54,74 @@ pub fn cut(alloc: Global, text: &str) -> Result<Vec<Piece>, CutError>
 pub fn cut_up(alloc: Global, text: &str) -> Result<Pieces, Memory>
     ensures { IfOk result (λ all. cut_is all.list.items all.unclosed ≡ cut_of text.now) }
 {
-    let bytes = text.as_bytes();
-    let mut pieces = Vec::new(alloc);
-    let mut at = 0;
-    let mut line = 1;
-    // The last piece, whose lines are not counted: behind the end no line is asked for.
-    let mut passed = &bytes[..0];
-    let mut trims = false;
-    while at < bytes.len() {
-        let rest = tail(bytes, at);
-        line += line_ends(passed) as u64;
+    let mut cutter = Cutter::new(text);
+    let mut list = Vec::new(alloc);
+    'pieces: loop {
+        match cutter.next(&mut list)? {
+            Next::Pieces => {}
+            Next::End(unclosed) => return Ok(Pieces { list, unclosed }),
+        }
+    }
+}
+
+/// What stands next in a text that is cut piece by piece.
+pub enum Next {
+    /// Pieces, which were added.
+    Pieces,
+    /// The end, or a `{{`, a `{%` or a `raw` without its end, which starts in this line.
+    End(Option<u64>),
+}
+
+/// A text that is cut piece by piece.
+#[derive(Drop)]
+pub struct Cutter<'a> {
+    text: &'a [u8],
+    // Where what is left stands, and whether its first white space is stripped.
+    at: usize,
+    trims: bool,
+    // The last piece, whose lines are not counted, since behind the end no line is asked for, and its line.
+    passed: &'a [u8],
+    line: u64,
+}
+
+impl<'a> Cutter<'a> {
+    /// The whole text is left.
+    pub fn new(text: &'a str) -> Cutter<'a>
+        ensures whole { left result ≡ whole text.now }
+        ensures placed { IsPlaced result }
+    {
+        let text = text.as_bytes();
+        Cutter {
+            text,
+            at: 0,
+            trims: false,
+            passed: &text[..0],
+            line: 1,
+        }
+    }
+
+    /// Adds the pieces at the front of what is left: one, or a tag of a raw text or a comment with what it holds.
+    pub fn next(&mut self, pieces: &mut Vec<Piece>) -> Result<Next, Memory>
+        requires { IsPlaced self.old }
+        ensures { IfOk result (λ next. Cuts next pieces.old.items pieces.new.items self.old self.new) }
+    {
+        if self.at >= self.text.len() {
+            return Ok(Next::End(None));
+        }
+        let rest = tail(self.text, self.at);
+        let line = self.line + line_ends(self.passed) as u64;
         let front = front_of(rest);
         let len = match len_of(&front, rest.len()) {
             Some(len) => len,
-            None => {
-                return Ok(Pieces {
-                    list: pieces,
-                    unclosed: Some(line),
-                });
-            }
+            None => return Ok(Next::End(Some(line))),
         };
-        push_pieces(&mut pieces, &front, at, line, trims, rest)?;
-        trims = trims_after(&front, rest);
-        passed = &rest[..len];
-        at += len;
+        push_pieces(pieces, &front, self.at, line, self.trims, rest)?;
+        self.at += len;
+        self.trims = trims_after(&front, rest);
+        self.passed = &rest[..len];
+        self.line = line;
+        Ok(Next::Pieces)
     }
-    Ok(Pieces {
-        list: pieces,
-        unclosed: None,
-    })
 }
 
 // Adds the pieces of what stands at the front of `text`, which is the rest from `at` on.

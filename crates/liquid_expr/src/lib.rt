@@ -17,7 +17,7 @@ mod stop;
 mod tag;
 mod token;
 
-pub use cutting::{CutError, Pieces, cut, cut_up};
+pub use cutting::{CutError, Cutter, Next, Pieces, cut, cut_up};
 pub use naming::{
     TagText, inside, read_include, read_language, read_name_parts, read_path, tag_text,
 };

@@ -112,6 +112,15 @@ then_run (Err e) run = Err e
 abbrev pub piece_step : List ℕ → Piece → Flat → Result Flat Fault
 piece_step text p f = step p.line (move_in f.verbatim p.line (item_of text p)) f
 
+abbrev pub then_step : Result Flat Fault → (Flat → Result Flat Fault) → Result Flat Fault
+then_step (Ok f) more = more f
+then_step (Err e) more = Err e
+
+-- some pieces of a text, one after another
+abbrev pub steps : List ℕ → List Piece → Flat → Result Flat Fault
+steps text [] f = Ok f
+steps text (p ∷ ps) f = then_step (piece_step text p f) (λ g. steps text ps g)
+
 -- the pieces of a text, one after another
 module _ (text : List ℕ) (unclosed : Option ℕ) where
   abbrev pub run : List Piece → Flat → Result (List Node) Fault

@@ -2,7 +2,8 @@
 ghost use Rattle.std.specs.Prelude.{◌≡◌, None};
 ghost use Rattle.liquid_grammar.specs.Trees.{tree, move_in};
 ghost use Rattle.liquid_grammar.specs.Items.{item_in};
-ghost use Rattle.liquid_parse.specs.Machine.{flat_of, flat_is, step, finish, Steps};
+ghost use Rattle.liquid_parse.specs.Machine.{flat_of, flat_is, step, steps, finish, Steps};
+ghost use Rattle.liquid_expr.specs.CutSteps.{AreSpans};
 ghost use Rattle.liquid_parse.specs.Parsed.{Parses, Finishes};
 
 use crate::building::{Building, move_of, open_line};
@@ -10,8 +11,8 @@ use crate::error::{ItemError, ParseError};
 use crate::item::item_in;
 use crate::node::Node;
 use crate::template::Template;
-use liquid_expr::{cut_up, inside};
-use liquid_grammar::{PieceKind, Verbatim};
+use liquid_expr::{Cutter, Next, inside};
+use liquid_grammar::{Piece, PieceKind, Verbatim};
 use site_base::FaultKind;
 use std::alloc::Global;
 
@@ -30,6 +31,28 @@ fn put(
         Err(ItemError::Fault(kind)) => Err(ParseError::Fault(line, kind)),
         Err(ItemError::Memory) => Err(ParseError::Memory),
     }
+}
+
+// Adds what some pieces of a text say.
+fn put_all(
+    alloc: Global,
+    building: &mut Building,
+    text: &str,
+    pieces: &[Piece],
+) -> Result<(), ParseError>
+    requires { AreSpans text.now pieces.now }
+    ensures { Steps result (flat_of building.new) (steps text.now pieces.now (flat_of building.old)) }
+{
+    for piece in pieces {
+        put(
+            alloc,
+            building,
+            piece.line,
+            piece.kind,
+            inside(text, piece.inner),
+        )?;
+    }
+    Ok(())
 }
 
 // The nodes, where the text ends and no block, raw text or comment is open.
@@ -57,20 +80,18 @@ fn finish(building: Building, unclosed: Option<u64>) -> Result<Vec<Node>, ParseE
 pub fn parse(alloc: Global, text: &str) -> Result<Template, ParseError>
     ensures { Parses result (tree text.now) }
 {
-    let pieces = cut_up(alloc, text)?;
     let mut building = Building {
         nodes: Vec::new(alloc),
         stack: Vec::new(alloc),
         verbatim: Verbatim::Not,
     };
-    for piece in &pieces.list {
-        put(
-            alloc,
-            &mut building,
-            piece.line,
-            piece.kind,
-            inside(text, piece.inner),
-        )?;
+    let mut cutter = Cutter::new(text);
+    let mut pieces = Vec::new(alloc);
+    'fronts: loop {
+        pieces.clear();
+        match cutter.next(&mut pieces)? {
+            Next::Pieces => put_all(alloc, &mut building, text, pieces.as_slice())?,
+            Next::End(unclosed) => return Ok(Template::from_nodes(finish(building, unclosed)?)),
+        }
     }
-    Ok(Template::from_nodes(finish(building, pieces.unclosed)?))
 }
