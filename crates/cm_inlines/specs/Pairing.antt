@@ -41,6 +41,7 @@ IsLike closer mark first opens = (mark ≡ closer.mark) × (first % 3 ≡ closer
 -- the floor for closers like one is a place, and the others stay
 pub record Raised (old new : Misses) (closer : Run) (place : ℕ) : Type 0 where
   pub floors : (mark first : ℕ) (opens : Bool) → (floor_of new mark first opens ≡ floor_of old mark first opens) ⊎ IsLike closer mark first opens × (floor_of new mark first opens ≡ place)
+  pub noted : (closer.mark ≡ 42) ⊎ (closer.mark ≡ 95) → floor_for new closer ≡ place
 
 -- ---- openers
 
