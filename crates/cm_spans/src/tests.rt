@@ -118,18 +118,14 @@ fn lengths(rt: HostRuntime) {
 
 #[test]
 fn breaks(rt: HostRuntime) {
-    assert!(rt;
-        matches!(
-            span_at("  \nb", 0, &mut MissingEnds::new()).span,
-            Span::HardBreak
-        )
-    );
-    assert!(rt;
-        matches!(
-            span_at(" \nb", 0, &mut MissingEnds::new()).span,
-            Span::SoftBreak
-        )
-    );
+    let rows = [("  \nb", true), (" \nb", false)];
+    for (text, is_hard) in rows {
+        assert!(rt; text.is_char_boundary(0));
+        assert!(rt; text.len() > 0);
+        let span = span_at(text, 0, &mut MissingEnds::new()).span;
+        assert_eq!(rt; matches!(span, Span::HardBreak), is_hard);
+        assert_eq!(rt; matches!(span, Span::SoftBreak), !is_hard);
+    }
 }
 
 #[test]
