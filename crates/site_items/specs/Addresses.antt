@@ -1,4 +1,4 @@
--- Where an item stands: the template of its URL, what the placeholders stand for, the URL, and the path of its output.
+-- Where an item stands: the template of its URL, what the placeholders stand for, the URL, and the path of its output. After Jekyll 4's manual, "Permalinks".
 use Rattle.std.specs.Prelude.{ℕ, ◌-◌, nat_eq, ℤ, Bool, true, false, not, List, [], ◌∷◌, ◌++◌, length, take, drop, codes, map, Option, Some, None, is_some, Ok, Err, option_and_then, unwrap_or, slice_get, ◌&&◌, if◌then◌else◌}
 use Rattle.std.specs.Char.{to_ascii_lowercase}
 use Rattle.std.specs.List.{ends_with, join_with_byte, starts_with}

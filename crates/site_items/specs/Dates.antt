@@ -1,4 +1,4 @@
--- The dates of documents.
+-- The dates of documents, after Jekyll 4's manual, "Posts".
 use Rattle.std.specs.Prelude.{ℕ, ℤ, List, codes, Option, Some, None, Ok, Err, unwrap_or}
 use Rattle.std.specs.Option.{option_map}
 use Rattle.site_base.specs.Plain.{Plain, nil, text}

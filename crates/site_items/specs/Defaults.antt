@@ -1,4 +1,4 @@
--- The values that a configuration's `defaults` give to an item, and the item's own before them.
+-- The values that a configuration's `defaults` give to an item, and the item's own before them. After Jekyll 4's manual, "Front Matter Defaults".
 use Rattle.std.specs.Prelude.{ℕ, ◌+◌, ◌*◌, ◌==◌, nat_lt, Bool, true, ◌&&◌, ◌||◌, List, [], length, Option, Some, None, is_some, fold, unwrap_or, if◌then◌else◌}
 use Rattle.std.specs.List.{insert, position_or_len}
 use Rattle.std.specs.Str.{bytes_eq}

@@ -1,4 +1,4 @@
--- The extensions of outputs.
+-- The extensions of outputs, after Jekyll 4's manual, "Configuration Options".
 use Rattle.std.specs.Prelude.{ℕ, ◌==◌, Bool, false, ◌||◌, List, [], ◌∷◌, codes, if◌then◌else◌}
 use Rattle.std.specs.List.{list_any, slice_split}
 use Rattle.std.specs.Str.{bytes_eq}

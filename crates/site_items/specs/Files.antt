@@ -1,4 +1,4 @@
--- What files are that are no items: layouts, includes, and files that are copied.
+-- What files are that are no items: layouts, includes, and files that are copied. After Jekyll 4's manual, "Directory Structure".
 use Rattle.std.specs.Prelude.{ℕ, List, ◌∷◌, codes, Option, Some, None, is_some, Ok, Err, if◌then◌else◌}
 use Rattle.std.specs.Str.{is_utf8}
 use Rattle.site_base.specs.Path.{path_refusal}

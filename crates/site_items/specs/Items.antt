@@ -1,4 +1,4 @@
--- What a file is as an item of the site: its variables, address and body, or its first fault; nothing where it is left out.
+-- What a file is as an item of the site: its variables, address and body, or its first fault; nothing where it is left out. After Jekyll 4's manual, "Variables".
 use Rattle.std.specs.Prelude.{ℕ, ◌-◌, nat_lt, nat_eq, ℤ, Bool, true, false, not, ◌&&◌, ◌||◌, List, [], ◌++◌, length, take, codes, fold, Option, Some, None, Ok, Err, int_lt, if◌then◌else◌}
 use Rattle.std.specs.List.{after_last, ends_with}
 use Rattle.std.specs.Option.{option_or}

@@ -1,4 +1,4 @@
--- Names of categories and tags.
+-- Names of categories and tags, after Jekyll 4's manual, "Posts".
 use Rattle.std.specs.Prelude.{ℕ, ◌==◌, Bool, not, ◌||◌, List, [], ◌∷◌, length, map, fold, if◌then◌else◌}
 use Rattle.std.specs.List.{slice_split}
 use Rattle.site_base.specs.Plain.{Plain, nil, text, list, Items, no_items, item, Pairs, no_pairs, set, key_list, item_list}

@@ -1,4 +1,4 @@
--- The variables and the body of a text: what its front matter sets, and what stands behind that.
+-- The variables and the body of a text: what its front matter sets, and what stands behind that. After Jekyll 4's manual, "Front Matter".
 use Rattle.std.specs.Prelude.{ℕ, List, take, drop, Ok, Err}
 use Rattle.site_base.specs.Plain.{Pairs, no_pairs}
 use Rattle.site_base.specs.declared.faults.FaultKind.TheVariants as fault

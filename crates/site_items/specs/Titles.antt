@@ -1,4 +1,4 @@
--- Titles made of the names of files.
+-- Titles made of the names of files, as Jekyll 4 makes them, in ASCII.
 use Rattle.std.specs.Prelude.{ℕ, ◌==◌, Bool, List, [], ◌∷◌, ◌++◌, map}
 use Rattle.std.specs.Char.{to_ascii_lowercase, to_ascii_uppercase}
 use Rattle.std.specs.List.{slice_split}
