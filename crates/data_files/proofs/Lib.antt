@@ -1,4 +1,5 @@
 pub mod ItemLaws
 pub mod MemberLaws
 pub mod ReadingLaws
+pub mod RecordLaws
 pub mod TableLaws

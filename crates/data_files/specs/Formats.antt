@@ -5,7 +5,7 @@ use Rattle.site_base.specs.View.{plain}
 use Rattle.site_base.specs.declared.value.Value.{Value}
 use Rattle.front_yaml.specs.Yaml.{yaml}
 use Rattle.data_files.specs.Json.{json}
-use Rattle.data_files.specs.Tables.{IsTable}
+use Rattle.data_files.specs.Tables.{table_of}
 use Rattle.data_files.specs.declared.refusal.Refusal.{Refusal}
 use Rattle.data_files.specs.declared.refusal.Refusal.TheVariants as refusal
 use Rattle.data_files.specs.declared.format.Format.{Format}
@@ -29,15 +29,15 @@ format path =
 abbrev pub Says : Format → List ℕ → Value → Type 0
 Says form.Yaml s v = yaml s ≡ Ok (plain v)
 Says form.Json s v = json s ≡ Some (plain v)
-Says form.Csv s v = IsTable 44 s (Some (plain v))
-Says form.Tsv s v = IsTable 9 s (Some (plain v))
+Says form.Csv s v = table_of 44 s ≡ Some (plain v)
+Says form.Tsv s v = table_of 9 s ≡ Some (plain v)
 
 -- the text has no value in the format; memory may be wanting with any text
 abbrev pub Refuses : Format → List ℕ → DataError → Type 0
 Refuses form.Yaml s (data_error.Yaml fault) = yaml s ≡ Err (fault.line, fault.kind)
 Refuses form.Json s data_error.Refused = json s ≡ None
-Refuses form.Csv s data_error.Refused = IsTable 44 s None
-Refuses form.Tsv s data_error.Refused = IsTable 9 s None
+Refuses form.Csv s data_error.Refused = table_of 44 s ≡ None
+Refuses form.Tsv s data_error.Refused = table_of 9 s ≡ None
 Refuses f s data_error.Memory = Unit {0}
 Refuses f s e = ⊥
 

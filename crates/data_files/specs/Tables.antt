@@ -5,7 +5,7 @@ use Rattle.csv.specs.declared.parser.Config.{Config}
 use Rattle.csv.specs.declared.parser.State.TheVariants as st
 use Rattle.data_files.specs.declared.refusal.Refusal.{Refusal}
 use Rattle.data_files.specs.declared.refusal.Refusal.TheVariants as refusal
-use Rattle.csv.specs.Reading.{AreRecords, default_config, strip_bom}
+use Rattle.csv.specs.Reading.{AreRecords, default_config, records, strip_bom}
 
 -- each field by its name; the later of two equal names counts
 abbrev pub fill : List (List ℕ) → List (List ℕ) → Pairs → Pairs
@@ -25,7 +25,17 @@ table (names ∷ rows) = option_map list (hashes names rows)
 abbrev pub separated : ℕ → Config
 separated b = record default_config { delimiter = b }
 
--- the records of a text behind a byte-order mark
+-- the value of a text of records, behind a byte-order mark
+abbrev pub table_of : ℕ → List ℕ → Option Plain
+table_of separator s = table (records (separated separator) (strip_bom s))
+
+-- the same of an answer; memory may be wanting with any text
+abbrev pub IsNoTable : Refusal → ℕ → List ℕ → Type 0
+IsNoTable refusal.Refused separator s = table_of separator s ≡ None
+IsNoTable refusal.Memory separator s = Unit {0}
+
+-- ---- records as a reader finds them, which private clauses cite
+
 abbrev pub AreRows : ℕ → List ℕ → List (List (List ℕ)) → Type 0
 AreRows separator s rows = AreRecords (separated separator) st.StartRecord (strip_bom s) rows
 
@@ -33,7 +43,7 @@ AreRows separator s rows = AreRecords (separated separator) st.StartRecord (stri
 abbrev pub IsTable : ℕ → List ℕ → Option Plain → Type 0
 IsTable separator s made = (rows : List (List (List ℕ))) × AreRows separator s rows × (table rows ≡ made)
 
--- a record has another number of fields; memory may be wanting with any text
-abbrev pub IsNoTable : Refusal → ℕ → List ℕ → Type 0
-IsNoTable refusal.Refused separator s = IsTable separator s None
-IsNoTable refusal.Memory separator s = Unit {0}
+-- a reader that found a record of another number of fields
+abbrev pub FoundNone : Refusal → ℕ → List ℕ → Type 0
+FoundNone refusal.Refused separator s = IsTable separator s None
+FoundNone refusal.Memory separator s = Unit {0}

@@ -1,5 +1,5 @@
 // Data files.
-ghost use Rattle.std.specs.Prelude.{◌≡◌};
+ghost use Rattle.std.specs.Prelude.{◌≡◌, is_some};
 ghost use Rattle.data_files.specs.Formats.{as_data, format, Reads, ReadsFile};
 ghost use Rattle.data_files.specs.declared.format.Format.TheVariants as form;
 
@@ -24,6 +24,13 @@ pub fn read_data(alloc: Global, path: &SitePath, text: &str) -> Result<Option<Va
         Some(format) => Ok(Some(read_as(alloc, format, text)?)),
         None => Ok(None),
     }
+}
+
+/// Whether a path is one of a data file, by its end.
+pub fn is_data(path: &SitePath) -> bool
+    ensures { result ≡ is_some (format path.now) }
+{
+    format_of(path.as_bytes()).is_some()
 }
 
 fn format_of(path: &[u8]) -> Option<Format>

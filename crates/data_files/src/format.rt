@@ -2,7 +2,7 @@
 
 /// How the text of a data file is written.
 #[derive(Clone, Copy, PartialEq, Eq)]
-pub(crate) enum Format {
+pub enum Format {
     Yaml,
     Json,
     Csv,

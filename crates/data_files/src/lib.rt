@@ -10,7 +10,8 @@ mod refusal;
 mod tables;
 
 pub use data_error::DataError;
-pub use files::read_data;
+pub use files::{is_data, read_data};
+pub use format::Format;
 pub use json_texts::read_json;
 pub use refusal::Refusal;
 pub use tables::{read_csv, read_tsv};

@@ -5,7 +5,7 @@ ghost use Rattle.csv.specs.Records.{fields_of};
 ghost use Rattle.site_base.specs.Plain.{no_pairs};
 ghost use Rattle.site_base.specs.View.{plain};
 ghost use Rattle.data_files.specs.Readings.{with_last};
-ghost use Rattle.data_files.specs.Tables.{IsTable, IsNoTable};
+ghost use Rattle.data_files.specs.Tables.{FoundNone, IsNoTable, IsTable, table_of};
 ghost use Rattle.data_files.specs.Columns.{placed, picked, picked_field, row_of, text_or_nil, place_set, GoesOn};
 
 use crate::refusal::Refusal;
@@ -19,7 +19,7 @@ use std::alloc::Global;
 /// `Refused` comes exactly where a record has another number of fields than the first.
 pub fn read_csv(alloc: Global, text: &str) -> Result<Value, Refusal>
     ensures { MatchResult result
-        (λ value. IsTable 44 text.now (Some (plain value)))
+        (λ value. table_of 44 text.now ≡ Some (plain value))
         (λ error. IsNoTable error 44 text.now) }
 {
     read_table(alloc, text.as_bytes(), b',')
@@ -28,7 +28,7 @@ pub fn read_csv(alloc: Global, text: &str) -> Result<Value, Refusal>
 /// The same of records with tabs between their fields.
 pub fn read_tsv(alloc: Global, text: &str) -> Result<Value, Refusal>
     ensures { MatchResult result
-        (λ value. IsTable 9 text.now (Some (plain value)))
+        (λ value. table_of 9 text.now ≡ Some (plain value))
         (λ error. IsNoTable error 9 text.now) }
 {
     read_table(alloc, text.as_bytes(), b'\t')
@@ -36,8 +36,19 @@ pub fn read_tsv(alloc: Global, text: &str) -> Result<Value, Refusal>
 
 fn read_table(alloc: Global, text: &[u8], separator: u8) -> Result<Value, Refusal>
     ensures { MatchResult result
-        (λ value. IsTable separator text.now (Some (plain value)))
+        (λ value. table_of separator text.now ≡ Some (plain value))
         (λ error. IsNoTable error separator text.now) }
+{
+    match read_records(alloc, text, separator) {
+        Ok(value) => Ok(value),
+        Err(error) => Err(error),
+    }
+}
+
+fn read_records(alloc: Global, text: &[u8], separator: u8) -> Result<Value, Refusal>
+    ensures { MatchResult result
+        (λ value. IsTable separator text.now (Some (plain value)))
+        (λ error. FoundNone error separator text.now) }
 {
     let rdr = ReaderBuilder::new()
         .has_headers(false)

@@ -40,7 +40,7 @@ pub(crate) fn text_of(bytes: Vec<u8>) -> Result<Text, Memory>
     ensures { IfOk result (λ text. text ≡ bytes.items) }
 {
     match String::from_utf8(bytes) {
-        Ok(text) => Ok(Text::from_string(text)),
+        Ok(text) => Text::from_string(text),
         Err(_) => Err(Memory),
     }
 }

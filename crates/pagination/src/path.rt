@@ -13,7 +13,7 @@ pub fn page_path(alloc: Global, pattern: &str, number: u32) -> Result<Text, Memo
     ensures { IfOk result (λ path. path ≡ page_path pattern.now number) }
 {
     match path_text(alloc, pattern, number) {
-        Ok(path) => Ok(Text::from_string(path)),
+        Ok(path) => Text::from_string(path),
         Err(_) => Err(Memory),
     }
 }

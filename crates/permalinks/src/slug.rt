@@ -13,7 +13,7 @@ pub fn slugify(alloc: Global, text: &str) -> Result<Text, Memory>
     ensures { IfOk result (λ made. made ≡ slug text.now) }
 {
     match slug_text(alloc, text) {
-        Ok(slug) => Ok(Text::from_string(slug)),
+        Ok(slug) => Text::from_string(slug),
         Err(_) => Err(Memory),
     }
 }

@@ -5,7 +5,7 @@ ghost use Rattle.std.specs.String.{string_bytes};
 ghost use Rattle.permalinks.specs.Url.{IsRefusal, IsCut, is_colon, is_name, name_len, both, part_text, parts_text, filled, behind_slashes, with_slashes, url};
 
 use crate::UrlParts;
-use site_base::Text;
+use site_base::{Memory, Text};
 use std::alloc::{AllocError, Global};
 
 /// Why there is no URL, or no path for it.
@@ -39,7 +39,10 @@ pub fn url(alloc: Global, template: &str, parts: &UrlParts) -> Result<Text, UrlE
         (IsRefusal (url template.now parts.now)) }
 {
     let text = filled(alloc, template, parts)?;
-    Ok(Text::from_string(with_slashes(alloc, text.as_str())?))
+    match Text::from_string(with_slashes(alloc, text.as_str())?) {
+        Ok(text) => Ok(text),
+        Err(Memory) => Err(UrlError::Memory),
+    }
 }
 
 fn filled(alloc: Global, template: &str, parts: &UrlParts) -> Result<String, UrlError>

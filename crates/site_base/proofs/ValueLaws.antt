@@ -1,12 +1,14 @@
 -- Lists and hashes of values, as their plain trees see them.
-use Rattle.std.proofs.Common.{◌≡◌, ℕ, zero, suc, ◌<◌, ◌≤◌, cond, List, [], ◌∷◌, ◌++◌, length, get_or, refl, ap, arith, Some, None, slice_get, nat_lt, sym, ◌∙◌}
+use Rattle.std.proofs.Common.{◌≡◌, ℕ, zero, suc, ◌<◌, ◌≤◌, cond, List, [], ◌∷◌, ◌++◌, length, get_or, refl, ap, arith, Some, None, slice_get, nat_lt, sym, ◌∙◌, is_some, if◌then◌else◌, true, rules}
 use Rattle.std.specs.List.{position, position_or_len}
 use Rattle.std.specs.Str.{bytes_eq}
+use Rattle.std.proofs.lemmas.Slice.Eq.{bytes_eq-Decides}
 use Rattle.std.proofs.Math.ListN.{set as set_at}
-use Rattle.site_base.specs.Plain.{no_items, item, onto, no_pairs, pair, onto_pairs, count, count_pairs, item_list, get, set}
+use Rattle.site_base.specs.Plain.{Plain, nil, no_items, item, onto, Pairs, no_pairs, pair, onto_pairs, count, count_pairs, item_list, get, set, taken}
 use Rattle.site_base.specs.View.{plain, items_of, pairs_of}
 use Rattle.site_base.specs.declared.value.Value.{Value}
 use Rattle.site_base.specs.declared.value.Pair.{Pair}
+use Rattle.site_base.specs.declared.value.Value.TheVariants as the
 
 pub count_length : (vs : List Value) → count (items_of vs) ≡ length vs
 count_length [] = refl
@@ -85,3 +87,24 @@ items_length l r e = sym (count_length l) ∙ ap count e ∙ count_length r
 
 pub pairs_length : (l r : List Pair) → pairs_of l ≡ pairs_of r → length l ≡ length r
 pairs_length l r e = sym (count_pairs_length l) ∙ ap count_pairs e ∙ count_pairs_length r
+
+-- what is taken out may be put back
+
+pub taken_found : (k : List ℕ) (ps : List Pair) (i : ℕ) (d : Pair) → Some i ≡ position (λ p. bytes_eq k p.key) ps
+    → pairs_of (set_at ps i (pair_of (get_or ps i d).key the.Nil)) ≡ taken k (pairs_of ps)
+taken_found k ps i d e =
+    set_found k the.Nil ps i d e
+    ∙ ap (λ found. if is_some found then set k nil (pairs_of ps) else pairs_of ps) (get_found k ps i d e)
+
+pub taken_missing : (k : List ℕ) (ps : List Pair) → None ≡ position (λ p. bytes_eq k p.key) ps → pairs_of ps ≡ taken k (pairs_of ps)
+taken_missing k ps e = ap (λ found. if is_some found then set k nil (pairs_of ps) else pairs_of ps) (get_missing k ps e)
+
+key_same : (k : List ℕ) → bytes_eq k k ≡ true
+key_same k = search (rules, bytes_eq-Decides)
+
+pub set_set : (k : List ℕ) (v w : Plain) (ps : Pairs) → set k v (set k w ps) ≡ set k v ps
+set_set k v w no_pairs = grind (arith, key_same k)
+set_set k v w (pair l u ps) = grind (arith, key_same k, set_set k v w ps)
+
+pub set_taken : (k : List ℕ) (v : Plain) (ps : Pairs) → set k v (taken k ps) ≡ set k v ps
+set_taken k v ps = grind (arith, set_set k v nil ps)

@@ -14,5 +14,6 @@ pub mod Places
 pub mod Plain
 pub mod Recursion
 pub mod Sizes
+pub mod Texts
 pub mod Values
 pub mod View

@@ -1,5 +1,5 @@
 -- What a value is: the plain tree that every contract sees in its place.
-use Rattle.std.specs.Prelude.{ℕ, suc, ◌+◌, ℤ, Bool, List, [], ◌∷◌, Option, Some, None, if◌then◌else◌}
+use Rattle.std.specs.Prelude.{ℕ, suc, ◌+◌, ℤ, Bool, List, [], ◌∷◌, Option, Some, None, is_some, if◌then◌else◌}
 use Rattle.std.specs.Str.{bytes_eq}
 
 mutual
@@ -59,6 +59,10 @@ get k (pair l w ps) = if bytes_eq k l then Some w else get k ps
 abbrev pub set : List ℕ → Plain → Pairs → Pairs
 set k v no_pairs = pair k v no_pairs
 set k v (pair l w ps) = if bytes_eq k l then pair l v ps else pair l w (set k v ps)
+
+-- nil stands at the place of the first pair with the key
+abbrev pub taken : List ℕ → Pairs → Pairs
+taken k ps = if is_some (get k ps) then set k nil ps else ps
 
 -- how many constructors there are: what recursion over values goes down on
 abbrev mutual

@@ -2,6 +2,7 @@
 //! come from and go to, and the definitions and laws that their contracts share.
 #![tactic(auto)]
 
+mod boxed;
 mod bytes;
 mod errors;
 mod faults;
@@ -18,6 +19,7 @@ mod text;
 mod value;
 mod words;
 
+pub use boxed::Boxed;
 pub use bytes::FileBytes;
 pub use errors::{Failed, ListError, Memory, ReadError};
 pub use faults::{FaultKind, SiteFault, YamlKind};

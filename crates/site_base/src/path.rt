@@ -7,7 +7,7 @@ ghost use Rattle.std.specs.Cmp.Lexicographic.{pointwise, slice_cmp, nat_list_eq_
 ghost use Rattle.std.proofs.Common.{rules};
 ghost use Rattle.site_base.specs.Path.{path_refusal, IsSitePath, is_dots, has_dots, has_empty_segment, has_control};
 
-use crate::Memory;
+use crate::{Memory, Text};
 use std::alloc::Global;
 use std::cmp::Ordering;
 use std::marker::Model;
@@ -35,19 +35,18 @@ pub enum PathError {
 /// A relative path of segments between `/`, which clauses see as its bytes.
 #[derive(Drop)]
 pub struct SitePath {
-    text: String,
+    text: Text,
 }
 
 impl Model for SitePath {
     ghost use Rattle.std.specs.Prelude.{List, ℕ};
-    ghost use Rattle.std.specs.String.{string_bytes};
     ghost use Rattle.site_base.specs.Path.{IsSitePath};
 
     ghost Value = { List ℕ };
 
-    ghost view = { λ a. string_bytes a.text };
+    ghost view = { λ a. a.text };
 
-    ghost invariant = { λ a. IsSitePath (string_bytes a.text) };
+    ghost invariant = { λ a. IsSitePath a.text };
 }
 
 impl SitePath {
@@ -61,9 +60,9 @@ impl SitePath {
         if let Some(refusal) = refusal(text.as_bytes()) {
             return Err(refusal);
         }
-        match String::from_str(alloc, text) {
+        match Text::copy(alloc, text) {
             Ok(text) => Ok(SitePath { text }),
-            Err(_) => Err(PathError::Memory),
+            Err(Memory) => Err(PathError::Memory),
         }
     }
 
@@ -83,9 +82,9 @@ impl SitePath {
     pub fn copy(&self, alloc: Global) -> Result<SitePath, Memory>
         ensures { IfOk result (λ path. path ≡ self.now) }
     {
-        match String::from_str(alloc, self.text()) {
+        match Text::copy(alloc, self.text()) {
             Ok(text) => Ok(SitePath { text }),
-            Err(_) => Err(Memory),
+            Err(Memory) => Err(Memory),
         }
     }
 }
@@ -96,7 +95,7 @@ impl PartialEq for SitePath {
     ghost laws = { partial_equiv_from_equiv nat_list_eq_equiv };
 
     fn eq(&self, other: &Self) -> bool {
-        self.text() == other.text()
+        self.as_bytes() == other.as_bytes()
     }
 }
 
@@ -124,7 +123,7 @@ impl Ord for SitePath {
     ghost matches_eq = { texts_ties };
 
     fn cmp(&self, other: &Self) -> Ordering {
-        self.text().cmp(other.text())
+        self.as_bytes().cmp(other.as_bytes())
     }
 }
 

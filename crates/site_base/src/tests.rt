@@ -79,6 +79,25 @@ fn ends_fail_at_listed_calls(rt: HostRuntime) -> Result<(), Fail> {
     Ok(())
 }
 
+// Texts of fourteen bytes and of fifteen.
+#[test]
+fn texts_grow_out_of_their_place(rt: HostRuntime) -> Result<(), Fail> {
+    let alloc = rt.alloc();
+    let mut text = Text::new(alloc);
+    text.push_str("twelve bytes")?;
+    text.push_str("\u{e9}")?;
+    assert_eq!(rt; text.as_str(), "twelve bytes\u{e9}");
+    assert_eq!(rt; Text::copy(alloc, text.as_str())?.len(), 14);
+    text.push_str("!")?;
+    assert_eq!(rt; text.as_str(), "twelve bytes\u{e9}!");
+    text.push_str("?")?;
+    let bytes = text.into_bytes()?;
+    assert_eq!(rt; bytes.as_slice(), "twelve bytes\u{e9}!?".as_bytes());
+    let made = Text::from_string(String::from_utf8(bytes).unwrap_or_else(|_| String::new(alloc)))?;
+    assert_eq!(rt; made.as_bytes().len(), 16);
+    Ok(())
+}
+
 #[test]
 fn joins_texts_and_words(rt: HostRuntime) -> Result<(), Fail> {
     let alloc = rt.alloc();

@@ -6,6 +6,7 @@ mod growing;
 mod growth;
 mod lookups;
 mod matching;
+mod room;
 mod writing;
 
 pub use coding::code;
@@ -58,6 +59,10 @@ pub struct Pair {
 pub struct Hash {
     pairs: Vec<Pair>,
 }
+
+const _: () = prove!(size_of::<Value>() == 32);
+
+const _: () = prove!(size_of::<Pair>() == 48);
 
 impl Model for List {
     ghost use Rattle.site_base.specs.Plain.{Items};

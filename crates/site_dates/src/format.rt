@@ -9,7 +9,7 @@ ghost use Rattle.site_dates.specs.Format.{IsRefusal, is_percent, both, part_text
 
 use crate::directive::directive_at;
 use crate::local::LocalTime;
-use site_base::Text;
+use site_base::{Memory, Text};
 use std::alloc::{AllocError, Global};
 
 /// Why a moment was not written.
@@ -49,7 +49,10 @@ pub fn format_moment(
 {
     let mut text = String::new(alloc);
     push_pattern(&mut text, pattern, &LocalTime::at(seconds, offset))?;
-    Ok(Text::from_string(text))
+    match Text::from_string(text) {
+        Ok(text) => Ok(text),
+        Err(Memory) => Err(FormatError::Memory),
+    }
 }
 
 fn push_pattern(text: &mut String, pattern: &str, time: &LocalTime) -> Result<(), FormatError>

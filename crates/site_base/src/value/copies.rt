@@ -26,7 +26,7 @@ impl List {
     pub fn copy(&self, alloc: Global) -> Result<List, Memory>
         ensures { IfOk result (λ list. list ≡ self.now) }
     {
-        let mut items = Vec::new(alloc);
+        let mut items = Vec::with_capacity(alloc, self.items.len())?;
         for value in &self.items {
             items.push(copy(alloc, value)?)?;
         }
@@ -39,7 +39,7 @@ impl Hash {
     pub fn copy(&self, alloc: Global) -> Result<Hash, Memory>
         ensures { IfOk result (λ hash. hash ≡ self.now) }
     {
-        let mut pairs = Vec::new(alloc);
+        let mut pairs = Vec::with_capacity(alloc, self.pairs.len())?;
         for pair in &self.pairs {
             pairs.push(Pair {
                 key: Text::copy(alloc, pair.key.as_str())?,

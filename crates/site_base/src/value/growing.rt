@@ -6,6 +6,7 @@ ghost use Rattle.std.specs.BTreeMap.{get};
 ghost use Rattle.std.specs.Str.{bytes_eq};
 
 use crate::value::lookups::place_of;
+use crate::value::room::add;
 use crate::{Hash, Memory, Pair, Text, Value};
 use std::alloc::Global;
 use std::collections::BTreeMap;
@@ -121,7 +122,7 @@ fn add_pair(
     ensures err { OnErr result (pairs.new.items ≡ pairs.old.items) }
     ensures indexed { IsIndexed pairs.new.items places.new }
 {
-    pairs.push(pair)?;
+    add(pairs, pair)?;
     match note_last(places, pairs.as_slice()) {
         Ok(()) => Ok(()),
         Err(Memory) => {

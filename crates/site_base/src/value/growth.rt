@@ -1,11 +1,14 @@
 // Lists and hashes that grow.
 ghost use Rattle.std.specs.Prelude.{◌≡◌, IfOk, OnOk, OnErr};
-ghost use Rattle.site_base.specs.Plain.{no_items, item, onto, no_pairs, pair, onto_pairs, set};
+ghost use Rattle.std.specs.Option.{option_map};
+ghost use Rattle.site_base.specs.Plain.{no_items, item, onto, no_pairs, pair, onto_pairs, get, set, taken};
 ghost use Rattle.site_base.specs.View.{plain};
 
 use crate::value::lookups::place_of;
+use crate::value::room::add;
 use crate::{Hash, List, Memory, Pair, Text, Value};
 use std::alloc::Global;
+use std::mem;
 
 impl List {
     /// The empty list; it takes no memory.
@@ -23,8 +26,7 @@ impl List {
         ensures ok { OnOk result (self.new ≡ onto self.old (item (plain value) no_items)) }
         ensures err { OnErr result (self.new ≡ self.old) }
     {
-        self.items.push(value)?;
-        Ok(())
+        add(&mut self.items, value)
     }
 }
 
@@ -53,8 +55,7 @@ impl Hash {
         ensures ok { OnOk result (self.new ≡ onto_pairs self.old (pair key (plain value) no_pairs)) }
         ensures err { OnErr result (self.new ≡ self.old) }
     {
-        self.pairs.push(Pair { key, value })?;
-        Ok(())
+        add(&mut self.pairs, Pair { key, value })
     }
 
     /// Gives the first pair with the key this value, or adds a pair at the end where there is none.
@@ -64,8 +65,19 @@ impl Hash {
     {
         match place_of(key.as_str(), self.pairs.as_slice()) {
             Some(place) => self.pairs[place].value = value,
-            None => self.pairs.push(Pair { key, value })?,
+            None => add(&mut self.pairs, Pair { key, value })?,
         }
         Ok(())
+    }
+
+    /// Takes the value of the first pair with the key out, and leaves nil in its place; `None` exactly where no pair has the key.
+    pub fn take(&mut self, key: &str) -> Option<Value>
+        ensures value { option_map plain result ≡ get key.now self.old }
+        ensures rest { self.new ≡ taken key.now self.old }
+    {
+        match place_of(key, self.pairs.as_slice()) {
+            Some(place) => Some(mem::replace(&mut self.pairs[place].value, Value::Nil)),
+            None => None,
+        }
     }
 }

@@ -76,5 +76,7 @@ impl Hash {
 pub(crate) fn place_of(key: &str, pairs: &[Pair]) -> Option<usize>
     ensures { result ≡ position (λ pair. bytes_eq key.now pair.key) pairs.now }
 {
-    pairs.iter().position(|pair| pair.key.as_str() == key)
+    pairs
+        .iter()
+        .position(|pair| pair.key.as_bytes() == key.as_bytes())
 }

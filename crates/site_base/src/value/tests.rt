@@ -43,13 +43,24 @@ fn grows_by_many_keys(rt: HostRuntime) -> Result<(), Fail> {
     for turn in 0..2 {
         for number in 0..40 {
             let key = format!(in alloc; "key {number}")?;
-            growing.set(Text::from_string(key), Value::Int(turn))?;
+            growing.set(Text::from_string(key)?, Value::Int(turn))?;
         }
     }
     let hash = growing.finish();
     assert_eq!(rt; hash.len(), 40);
     assert!(rt; matches!(hash.get("key 39"), Some(Value::Int(1))));
     assert!(rt; matches!(hash.get("key 7"), Some(Value::Int(1))));
+    Ok(())
+}
+
+#[test]
+fn takes_a_value_out(rt: HostRuntime) -> Result<(), Fail> {
+    let alloc = rt.alloc();
+    let mut hash = Hash::new(alloc);
+    hash.set(Text::copy(alloc, "a")?, text(alloc, "x")?)?;
+    assert_eq!(rt; shown(hash.take("a").as_ref()), Some("x"));
+    assert!(rt; matches!(hash.get("a"), Some(Value::Nil)));
+    assert!(rt; hash.take("b").is_none());
     Ok(())
 }
 
@@ -79,10 +90,11 @@ fn sample(alloc: Global) -> Result<Value, Fail> {
     let mut outer = List::new(alloc);
     outer.push(Value::Hash(hash))?;
     outer.push(Value::Bool(true))?;
-    outer.push(Value::Item(ItemName {
+    let name = ItemName {
         path: SitePath::read(alloc, "a/b.md")?,
         part: 12,
-    }))?;
+    };
+    outer.push(Value::Item(name))?;
     Ok(Value::List(outer))
 }
 

@@ -15,7 +15,7 @@ pub fn value_text(alloc: Global, value: &Value) -> Result<Text, Memory>
 {
     let mut out = String::new(alloc);
     push_text(value, &mut out)?;
-    Ok(Text::from_string(out))
+    Text::from_string(out)
 }
 
 #[cycle(text)]

@@ -16,10 +16,10 @@ returns-in-Some-clause-ok c =
     (c.in-Some.ensures ∙ ap (λ (k : List ℕ). position (λ p. bytes_eq k p.key) c.as_slice.result.now) c.as_str.ensures ∙ ap (λ (ps : List Pair). position (λ p. bytes_eq key p.key) ps) c.as_slice.ensures.value)
     ∙ ap (set key (plain c.args.value)) c.self.view_is
 
-pub returns-in_ok-push-in-None-clause-ok : goal.returns-in_ok-push-in-None-clause-ok
-returns-in_ok-push-in-None-clause-ok c =
+pub returns-in_ok-add-in-None-clause-ok : goal.returns-in_ok-add-in-None-clause-ok
+returns-in_ok-add-in-None-clause-ok c =
     let key = c.args.key in
-    ap pairs_of c.in_ok-push-in-None.ensures.items
+    ap pairs_of c.in_ok-add-in-None.ensures.ok
     ∙ set_missing key c.args.value c.self.inside.pairs.items
     (c.in-None.ensures ∙ ap (λ (k : List ℕ). position (λ p. bytes_eq k p.key) c.as_slice.result.now) c.as_str.ensures ∙ ap (λ (ps : List Pair). position (λ p. bytes_eq key p.key) ps) c.as_slice.ensures.value)
     ∙ ap (set key (plain c.args.value)) c.self.view_is

@@ -4,7 +4,7 @@ use Rattle.csv.specs.declared.parser.State.TheVariants as st
 use Rattle.csv.specs.declared.reader.Trim.TheVariants as trim
 use Rattle.data_files.specs.Columns.{IsOf}
 use Rattle.data_files.specs.Tables.{separated}
-use Rattle.data_files.proofs.tables.read_table.Given as goal
+use Rattle.data_files.proofs.tables.read_records.Given as goal
 
 abbrev pub invariant-loop-row : goal.invariant-loop-row
 invariant-loop-row l = (l.row-iterator.rdr.trim ≡ trim.None) × Ready l.row-iterator.rdr × (0 < l.row-iterator.left) × (l.row-iterator.rdr.config ≡ separated l.separator)
