@@ -1,13 +1,12 @@
 -- What readings add to a list, one after another.
 use Rattle.std.proofs.Common.{◌≡◌, ℕ, zero, suc, ◌+◌, ◌-◌, ◌<◌, ◌≤◌, List, [], ◌∷◌, ◌++◌, length, drop, Option, Some, None, Err, refl, sym, ap, ◌∙◌, append_assoc, arith}
-use Rattle.std.proofs.lemmas.List.{append-nil, drop-drop, drop-map}
+use Rattle.std.proofs.lemmas.List.{append-nil, drop-drop, length-map}
 use Rattle.liquid_grammar.specs.Tokens.{Token}
 use Rattle.liquid_grammar.specs.Readings.{Reading, after, More, stop, wrong, one, with_first, many_after, many}
 use Rattle.liquid_expr.specs.declared.stop.Stop.{Stop}
 use Rattle.liquid_expr.specs.declared.stop.Stop.TheVariants.{NoReading, Memory}
-use Rattle.liquid_expr.specs.declared.token.Token.{Token as Rust}
-use Rattle.liquid_expr.specs.Token.{token_of}
-use Rattle.liquid_expr.specs.Ahead.{tokens_of}
+use Rattle.liquid_expr.specs.declared.tokens.Tokens.{Tokens}
+use Rattle.liquid_expr.specs.Tokens.{token_in, tokens_of, count}
 use Rattle.liquid_expr.specs.Steps.{added, more_added, codes_of, Adds, AddsMore}
 
 -- what was read, where something was added
@@ -133,6 +132,6 @@ pub pass_more : {A B S U : Type 0} (code : A → List S) (more : B → List U) (
 pass_more code more old new old' new' m all NoReading h f = f h
 pass_more code more old new old' new' m all Memory h f = tt
 
--- the tokens behind the first
-pub rest_is : (tokens rest : List Rust) (n : ℕ) → rest ≡ drop n tokens → tokens_of rest ≡ drop n (tokens_of tokens)
-rest_is tokens rest n e = ap tokens_of e ∙ sym (drop-map token_of n tokens)
+-- each place has a token
+pub counted : (ts : Tokens) → length (tokens_of ts) ≡ count ts
+counted ts = length-map ts.places.now (token_in ts.text.now)

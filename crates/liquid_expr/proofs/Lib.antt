@@ -2,6 +2,7 @@ pub mod Adding
 pub mod CutLoop
 pub mod FrontFits
 pub mod OperandLaws
+pub mod PlaceLaws
 pub mod PlacesLaws
 pub mod TokenLaws
 pub mod TokenLoop

@@ -1,12 +1,9 @@
 -- What a whole text says, from its tokens.
-use Rattle.std.proofs.Common.{◌≡◌, ℕ, Bool, true, false, ◌||◌, eqb, List, [], ◌∷◌, length, Some, None, Ok, Err, refl, sym, ap, ◌∙◌}
+use Rattle.std.proofs.Common.{◌≡◌, ℕ, Bool, true, false, eqb, List, [], ◌∷◌, length, Some, None, Ok, Err, refl, sym, ap, ◌∙◌}
 use Rattle.std.specs.List.{list_any}
 use Rattle.std.proofs.lemmas.Bool.{eq-eqb}
 use Rattle.liquid_grammar.specs.Tokens.{Token, is_large, tokens}
 use Rattle.liquid_grammar.specs.Readings.{Reading, More, wrong, syntax_fault, overflow, checked, whole_reading, reads_tokens, reads}
-use Rattle.liquid_expr.specs.declared.token.Token.{Token as Rust}
-use Rattle.liquid_expr.specs.Token.{token_of}
-use Rattle.liquid_expr.specs.Ahead.{tokens_of}
 use Rattle.liquid_expr.specs.Steps.{codes_of, added, Adds}
 use Rattle.liquid_expr.proofs.Adding.{parts}
 use Rattle.liquid_grammar.specs.declared.step.Step.{Step}
@@ -14,10 +11,6 @@ use Rattle.liquid_grammar.specs.Operands.{Operand, steps_of, operand_of, operand
 use Rattle.liquid_expr.specs.declared.stop.Stop.{Stop}
 use Rattle.liquid_expr.specs.declared.stop.Stop.TheVariants.{NoReading, Memory}
 use Rattle.liquid_expr.specs.Readings.{alone, IsRead, IsMore}
-
-pub large_of : (ts : List Rust) → list_any (λ t. is_large (token_of t)) ts ≡ list_any is_large (tokens_of ts)
-large_of [] = refl
-large_of (t ∷ ts) = ap (λ b. is_large (token_of t) || b) (large_of ts)
 
 -- lists of single values are the values themselves
 codes_alone : {A : Type 0} (xs : List A) → codes_of alone xs ≡ xs

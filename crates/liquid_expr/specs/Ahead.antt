@@ -1,17 +1,11 @@
 -- What stands ahead, without where it stands.
-use Rattle.std.specs.Prelude.{ℕ, List, map, Option, Some, None}
+use Rattle.std.specs.Prelude.{ℕ, List, Option, Some, None}
 use Rattle.std.specs.Borrow.{Bor}
-use Rattle.liquid_grammar.specs.Tokens as grammar
 use Rattle.liquid_grammar.specs.Expressions as expressions
-use Rattle.liquid_expr.specs.declared.token.Token.{Token}
 use Rattle.liquid_expr.specs.declared.ahead.Start.{Start}
 use Rattle.liquid_expr.specs.declared.ahead.Start.TheVariants as start
 use Rattle.liquid_expr.specs.declared.ahead.Follow.{Follow}
 use Rattle.liquid_expr.specs.declared.ahead.Follow.TheVariants as follow
-use Rattle.liquid_expr.specs.Token.{token_of}
-
-abbrev pub tokens_of : List Token → List grammar.Token
-tokens_of ts = map token_of ts
 
 abbrev pub start_is : Start → expressions.Start
 start_is (start.Variable name) = expressions.starts_variable name.now

@@ -1,5 +1,5 @@
 -- A text that is cut piece by piece: what is left of it, and what a step adds.
-use Rattle.std.specs.Prelude.{◌≡◌, ℕ, ◌+◌, ◌≤◌, ◌<◌, false, List, [], ◌∷◌, ◌++◌, length, drop, Option}
+use Rattle.std.specs.Prelude.{◌≡◌, ℕ, ◌+◌, ◌≤◌, ◌<◌, false, List, [], ◌∷◌, ◌++◌, length, drop}
 use Rattle.liquid_grammar.specs.declared.piece.Piece.{Piece}
 use Rattle.liquid_grammar.specs.Pieces.{Rest, size, line_ends, cut_is, with_front, cut_from}
 use Rattle.liquid_expr.specs.Spans.{IsSpanOf}

@@ -6,3 +6,4 @@ pub mod Readings
 pub mod Spans
 pub mod Steps
 pub mod Token
+pub mod Tokens

@@ -1,13 +1,16 @@
 // What the next tokens are.
-ghost use Rattle.std.specs.Prelude.{◌≡◌, ◌+◌, ◌≤◌, drop, length, codes, IfOk};
+ghost use Rattle.std.specs.Prelude.{◌≡◌, ◌+◌, ◌≤◌, drop, codes, IfOk};
+ghost use Rattle.liquid_grammar.specs.declared.literal.Literal.TheVariants as literals;
 ghost use Rattle.liquid_grammar.specs.Expressions.{word_literal, is_joining, word_start, start_of, follow_of, closes_bracket, closes_range, goes_to, is_comma, is_bar, is_colon, word_at};
 ghost use Rattle.liquid_grammar.specs.Conditions.{is_assign, comparison, joint_of, joint};
 ghost use Rattle.liquid_grammar.specs.Tags.{is_reserved, name_at, is_word};
-ghost use Rattle.liquid_expr.specs.Ahead.{tokens_of, text_of, start_is, follow_is};
+ghost use Rattle.liquid_expr.specs.Ahead.{text_of, start_is, follow_is};
+ghost use Rattle.liquid_expr.specs.Tokens.{tokens_of, count};
 
 use crate::token::Token;
-use liquid_grammar::{Comparison, Joint, Literal, Mark};
-use site_base::{Memory, Text};
+use crate::tokens::{Tokens, first, rest};
+use liquid_grammar::{Comparison, Joint, Literal, Mark, ShortText};
+use site_base::{Boxed, Memory};
 use std::alloc::Global;
 
 /// What starts an operand.
@@ -29,31 +32,27 @@ pub(crate) enum Follow<'a> {
     End,
 }
 
-/// What follows the first tokens.
-pub(crate) fn rest<'a, 'b>(tokens: &'b [Token<'a>], len: usize) -> &'b [Token<'a>]
-    ensures { result.now ≡ drop len tokens.now }
+pub(crate) fn start_of<'a>(alloc: Global, tokens: Tokens<'a>) -> Result<Start<'a>, Memory>
+    ensures { IfOk result (λ start. start_is start ≡ start_of (tokens_of tokens.entry)) }
 {
-    if len <= tokens.len() {
-        &tokens[len..]
-    } else {
-        &[]
+    match first(tokens) {
+        Some(Token::Word(name)) => Ok(word_start(name)),
+        Some(Token::Text(text)) => match text_literal(alloc, text) {
+            Ok(literal) => Ok(Start::Literal(literal)),
+            Err(Memory) => Err(Memory),
+        },
+        Some(Token::Whole(number)) => Ok(Start::Literal(Literal::Int(number))),
+        Some(Token::Large) => Ok(Start::Literal(Literal::Int(0))),
+        Some(Token::Mark(Mark::OpenRange)) => Ok(Start::Range),
+        _ => Ok(Start::Nothing),
     }
 }
 
-pub(crate) fn start_of<'a>(alloc: Global, tokens: &[Token<'a>]) -> Result<Start<'a>, Memory>
-    ensures { IfOk result (λ start. start_is start ≡ start_of (tokens_of tokens.now)) }
+fn text_literal(alloc: Global, text: &str) -> Result<Literal, Memory>
+    ensures { IfOk result (λ literal. literal ≡ literals.Text text.now) }
 {
-    match tokens {
-        [Token::Word(name), ..] => Ok(word_start(*name)),
-        [Token::Text(text), ..] => match Text::copy(alloc, *text) {
-            Ok(text) => Ok(Start::Literal(Literal::Text(text))),
-            Err(Memory) => Err(Memory),
-        },
-        [Token::Whole(number), ..] => Ok(Start::Literal(Literal::Int(*number))),
-        [Token::Large, ..] => Ok(Start::Literal(Literal::Int(0))),
-        [Token::Mark(Mark::OpenRange), ..] => Ok(Start::Range),
-        _ => Ok(Start::Nothing),
-    }
+    let text = ShortText::copy(alloc, text)?;
+    Ok(Literal::Text(Boxed::new(alloc, text)?))
 }
 
 fn word_start<'a>(name: &'a str) -> Start<'a>
@@ -97,95 +96,97 @@ fn is_joining(name: &str) -> bool
     name == "and" || name == "or" || name == "contains"
 }
 
-pub(crate) fn follow_of<'a>(tokens: &[Token<'a>]) -> Follow<'a>
-    ensures { follow_is result ≡ follow_of (tokens_of tokens.now) }
+pub(crate) fn follow_of<'a>(tokens: Tokens<'a>) -> Follow<'a>
+    ensures { follow_is result ≡ follow_of (tokens_of tokens.entry) }
 {
-    match tokens {
-        [Token::Mark(Mark::Dot), Token::Word(name), ..] => Follow::Name(*name),
-        [Token::Mark(Mark::Dot), ..] => Follow::Nothing,
-        [Token::Mark(Mark::OpenBracket), ..] => Follow::Bracket,
+    match first(tokens) {
+        Some(Token::Mark(Mark::Dot)) => match word_at(rest(tokens, 1)) {
+            Some(name) => Follow::Name(name),
+            None => Follow::Nothing,
+        },
+        Some(Token::Mark(Mark::OpenBracket)) => Follow::Bracket,
         _ => Follow::End,
     }
 }
 
-pub(crate) fn closes_bracket(tokens: &[Token]) -> bool
-    ensures { result ≡ closes_bracket (tokens_of tokens.now) }
+pub(crate) fn closes_bracket(tokens: Tokens) -> bool
+    ensures { result ≡ closes_bracket (tokens_of tokens.entry) }
 {
-    matches!(tokens, [Token::Mark(Mark::CloseBracket), ..])
+    matches!(first(tokens), Some(Token::Mark(Mark::CloseBracket)))
 }
 
-pub(crate) fn closes_range(tokens: &[Token]) -> bool
-    ensures { result ≡ closes_range (tokens_of tokens.now) }
+pub(crate) fn closes_range(tokens: Tokens) -> bool
+    ensures { result ≡ closes_range (tokens_of tokens.entry) }
 {
-    matches!(tokens, [Token::Mark(Mark::CloseRange), ..])
+    matches!(first(tokens), Some(Token::Mark(Mark::CloseRange)))
 }
 
-pub(crate) fn goes_to(tokens: &[Token]) -> bool
-    ensures { result ≡ goes_to (tokens_of tokens.now) }
+pub(crate) fn goes_to(tokens: Tokens) -> bool
+    ensures { result ≡ goes_to (tokens_of tokens.entry) }
 {
-    matches!(tokens, [Token::Mark(Mark::To), ..])
+    matches!(first(tokens), Some(Token::Mark(Mark::To)))
 }
 
 /// What follows the first tokens, of which there are so many.
-pub(crate) fn behind<'a, 'b>(tokens: &'b [Token<'a>], len: usize) -> &'b [Token<'a>]
-    requires { len ≤ length tokens.now }
-    ensures seen { tokens_of result.now ≡ drop len (tokens_of tokens.now) }
-    ensures len { length result.now + len ≡ length tokens.now }
+pub(crate) fn behind<'a>(tokens: Tokens<'a>, len: usize) -> Tokens<'a>
+    requires { len ≤ count tokens }
+    ensures seen { tokens_of result ≡ drop len (tokens_of tokens.entry) }
+    ensures len { count result + len ≡ count tokens.entry }
 {
     rest(tokens, len)
 }
 
-pub(crate) fn is_comma(tokens: &[Token]) -> bool
-    ensures { result ≡ is_comma (tokens_of tokens.now) }
+pub(crate) fn is_comma(tokens: Tokens) -> bool
+    ensures { result ≡ is_comma (tokens_of tokens.entry) }
 {
-    matches!(tokens, [Token::Mark(Mark::Comma), ..])
+    matches!(first(tokens), Some(Token::Mark(Mark::Comma)))
 }
 
-pub(crate) fn is_bar(tokens: &[Token]) -> bool
-    ensures { result ≡ is_bar (tokens_of tokens.now) }
+pub(crate) fn is_bar(tokens: Tokens) -> bool
+    ensures { result ≡ is_bar (tokens_of tokens.entry) }
 {
-    matches!(tokens, [Token::Mark(Mark::Bar), ..])
+    matches!(first(tokens), Some(Token::Mark(Mark::Bar)))
 }
 
-pub(crate) fn is_colon(tokens: &[Token]) -> bool
-    ensures { result ≡ is_colon (tokens_of tokens.now) }
+pub(crate) fn is_colon(tokens: Tokens) -> bool
+    ensures { result ≡ is_colon (tokens_of tokens.entry) }
 {
-    matches!(tokens, [Token::Mark(Mark::Colon), ..])
+    matches!(first(tokens), Some(Token::Mark(Mark::Colon)))
 }
 
-pub(crate) fn is_assign(tokens: &[Token]) -> bool
-    ensures { result ≡ is_assign (tokens_of tokens.now) }
+pub(crate) fn is_assign(tokens: Tokens) -> bool
+    ensures { result ≡ is_assign (tokens_of tokens.entry) }
 {
-    matches!(tokens, [Token::Mark(Mark::Assign), ..])
+    matches!(first(tokens), Some(Token::Mark(Mark::Assign)))
 }
 
 /// The word at the front.
-pub(crate) fn word_at<'a>(tokens: &[Token<'a>]) -> Option<&'a str>
-    ensures { text_of result ≡ word_at (tokens_of tokens.now) }
+pub(crate) fn word_at<'a>(tokens: Tokens<'a>) -> Option<&'a str>
+    ensures { text_of result ≡ word_at (tokens_of tokens.entry) }
 {
-    match tokens {
-        [Token::Word(name), ..] => Some(*name),
+    match first(tokens) {
+        Some(Token::Word(name)) => Some(name),
         _ => None,
     }
 }
 
 /// The comparison at the front.
-pub(crate) fn comparison(tokens: &[Token]) -> Option<Comparison>
-    ensures { result ≡ comparison (tokens_of tokens.now) }
+pub(crate) fn comparison(tokens: Tokens) -> Option<Comparison>
+    ensures { result ≡ comparison (tokens_of tokens.entry) }
 {
-    match tokens {
-        [Token::Mark(Mark::Compare(how)), ..] => Some(*how),
-        [Token::Word(name), ..] if *name == "contains" => Some(Comparison::Contains),
+    match first(tokens) {
+        Some(Token::Mark(Mark::Compare(how))) => Some(how),
+        Some(Token::Word(name)) if name == "contains" => Some(Comparison::Contains),
         _ => None,
     }
 }
 
 /// The joint at the front.
-pub(crate) fn joint(tokens: &[Token]) -> Option<Joint>
-    ensures { result ≡ joint (tokens_of tokens.now) }
+pub(crate) fn joint(tokens: Tokens) -> Option<Joint>
+    ensures { result ≡ joint (tokens_of tokens.entry) }
 {
-    match tokens {
-        [Token::Word(name), ..] => joint_of(name),
+    match first(tokens) {
+        Some(Token::Word(name)) => joint_of(name),
         _ => None,
     }
 }
@@ -210,8 +211,8 @@ fn is_reserved(name: &str) -> bool
 }
 
 /// The name of a variable at the front.
-pub(crate) fn name_at<'a>(tokens: &[Token<'a>]) -> Option<&'a str>
-    ensures { text_of result ≡ name_at (tokens_of tokens.now) }
+pub(crate) fn name_at<'a>(tokens: Tokens<'a>) -> Option<&'a str>
+    ensures { text_of result ≡ name_at (tokens_of tokens.entry) }
 {
     match word_at(tokens) {
         Some(name) => { if is_reserved(name) { None } else { Some(name) } }
@@ -220,8 +221,8 @@ pub(crate) fn name_at<'a>(tokens: &[Token<'a>]) -> Option<&'a str>
 }
 
 /// Whether `or` stands at the front.
-pub(crate) fn is_or(tokens: &[Token]) -> bool
-    ensures { result ≡ is_word (codes "or") (tokens_of tokens.now) }
+pub(crate) fn is_or(tokens: Tokens) -> bool
+    ensures { result ≡ is_word (codes "or") (tokens_of tokens.entry) }
 {
     match word_at(tokens) {
         Some(name) => name == "or",
@@ -230,8 +231,8 @@ pub(crate) fn is_or(tokens: &[Token]) -> bool
 }
 
 /// Whether `in` stands at the front.
-pub(crate) fn is_in(tokens: &[Token]) -> bool
-    ensures { result ≡ is_word (codes "in") (tokens_of tokens.now) }
+pub(crate) fn is_in(tokens: Tokens) -> bool
+    ensures { result ≡ is_word (codes "in") (tokens_of tokens.entry) }
 {
     match word_at(tokens) {
         Some(name) => name == "in",

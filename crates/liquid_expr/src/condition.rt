@@ -2,25 +2,28 @@
 ghost use Rattle.std.specs.Prelude.{◌≡◌, ◌≤◌, length, IfOk, refl};
 ghost use Rattle.liquid_grammar.specs.Readings.{many};
 ghost use Rattle.liquid_grammar.specs.Conditions.{comparison, compared, test_at, joined_test, next_test, condition, next_parameter};
-ghost use Rattle.liquid_expr.specs.Ahead.{tokens_of};
+ghost use Rattle.liquid_expr.specs.Tokens.{tokens_of, count};
 ghost use Rattle.liquid_expr.specs.Readings.{IsRead};
 
 use crate::ahead::{behind, comparison, is_assign, joint, word_at};
 use crate::reading::{FromTokens, Repeats, many};
 use crate::stop::Stop;
-use crate::token::Token;
-use liquid_grammar::{Boxed, Condition, Expr, Joined, Operand, Parameter, Params, Test};
-use site_base::Text;
+use crate::tokens::Tokens;
+use liquid_grammar::{
+    Condition, Expr, Extras, Joined, Operand, Parameter, Params, ShortText, Test,
+};
+use site_base::Boxed;
 use std::alloc::Global;
 
 // What follows the first operand of a test.
-fn compared(alloc: Global, first: Operand, tokens: &[Token]) -> Result<(Test, usize), Stop>
-    ensures value { IsRead result (compared first (comparison (tokens_of tokens.now)) (tokens_of tokens.now)) }
-    ensures within { IfOk result (λ found. found.1 ≤ length tokens.now) }
+fn compared(alloc: Global, first: Operand, tokens: Tokens) -> Result<(Test, usize), Stop>
+    ensures value { IsRead result (compared first (comparison (tokens_of tokens.entry)) (tokens_of tokens.entry)) }
+    ensures within { IfOk result (λ found. found.1 ≤ count tokens.entry) }
 {
     match comparison(tokens) {
         Some(how) => {
             let (second, len) = Operand::read(alloc, behind(tokens, 1))?;
+            let first = Boxed::new(alloc, first)?;
             let second = Boxed::new(alloc, second)?;
             Ok((Test::Compares(first, how, second), 1 + len))
         }
@@ -34,7 +37,7 @@ impl FromTokens for Test {
     ghost reading = { test_at };
 
     #[tactic(auto, unfolding(liquid_grammar::specs::Conditions::test_at))]
-    fn read(alloc: Global, tokens: &[Token]) -> Result<(Test, usize), Stop> {
+    fn read(alloc: Global, tokens: Tokens) -> Result<(Test, usize), Stop> {
         let (first, len) = Operand::read(alloc, tokens)?;
         let (test, more) = compared(alloc, first, behind(tokens, len))?;
         Ok((test, len + more))
@@ -49,7 +52,7 @@ impl Repeats for Tests {
 
     ghost more = { next_test };
 
-    fn next(alloc: Global, tokens: &[Token]) -> Result<Option<(Joined, usize)>, Stop> {
+    fn next(alloc: Global, tokens: Tokens) -> Result<Option<(Joined, usize)>, Stop> {
         let joint = match joint(tokens) {
             Some(joint) => joint,
             None => return Ok(None),
@@ -67,9 +70,10 @@ impl FromTokens for Condition {
     ghost reading = { condition };
 
     #[tactic(auto, unfolding(liquid_grammar::specs::Conditions::condition))]
-    fn read(alloc: Global, tokens: &[Token]) -> Result<(Condition, usize), Stop> {
+    fn read(alloc: Global, tokens: Tokens) -> Result<(Condition, usize), Stop> {
         let (first, len) = Test::read(alloc, tokens)?;
         let (rest, more) = many::<Tests>(alloc, behind(tokens, len))?;
+        let rest = Extras::from_several(alloc, rest)?;
         Ok((Condition { first, rest }, len + more))
     }
 }
@@ -82,7 +86,7 @@ impl Repeats for Parameters {
 
     ghost more = { next_parameter };
 
-    fn next(alloc: Global, tokens: &[Token]) -> Result<Option<(Parameter, usize)>, Stop> {
+    fn next(alloc: Global, tokens: Tokens) -> Result<Option<(Parameter, usize)>, Stop> {
         let name = match word_at(tokens) {
             Some(name) => name,
             None => return Ok(None),
@@ -90,7 +94,7 @@ impl Repeats for Parameters {
         if !is_assign(behind(tokens, 1)) {
             return Ok(None);
         }
-        let name = Text::copy(alloc, name)?;
+        let name = ShortText::copy(alloc, name)?;
         let (value, len) = Expr::read(alloc, behind(tokens, 2))?;
         Ok(Some((Parameter { name, value }, 2 + len)))
     }
@@ -103,7 +107,7 @@ impl FromTokens for Params {
 
     ghost reading = { many next_parameter };
 
-    fn read(alloc: Global, tokens: &[Token]) -> Result<(Params, usize), Stop> {
+    fn read(alloc: Global, tokens: Tokens) -> Result<(Params, usize), Stop> {
         many::<Parameters>(alloc, tokens)
     }
 }

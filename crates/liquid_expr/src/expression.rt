@@ -1,41 +1,69 @@
 // Expressions.
 ghost use Rattle.std.specs.Prelude.{◌≡◌, ◌≤◌, ◌∷◌, length, IfOk, MatchResult, refl};
 ghost use Rattle.liquid_grammar.specs.Expressions.{operand, next_argument, arguments, filter_end, next_filter, expression};
-ghost use Rattle.liquid_expr.specs.Ahead.{tokens_of};
+ghost use Rattle.liquid_expr.specs.Tokens.{tokens_of, count};
 ghost use Rattle.liquid_expr.specs.Readings.{IsRead};
 
 use crate::ahead::{behind, is_bar, is_colon, is_comma, word_at};
 use crate::operand::operand;
 use crate::reading::{FromTokens, Repeats, many};
 use crate::stop::Stop;
-use crate::token::Token;
-use liquid_grammar::{Expr, Filter, Mark, Operand, Several};
-use site_base::Text;
+use crate::token::mark_at;
+use crate::tokens::Tokens;
+use liquid_grammar::{Expr, Extras, Filter, Mark, Operand, Several, ShortText};
 use std::alloc::Global;
 
 /// No more brackets than these may be open.
 const MOST_BRACKETS: u32 = 100;
 
-// How many steps the operand at the front has, or somewhat more: as many as its names, literals and brackets, which no mark
-// of a filter, a comparison or a list stands between.
-fn step_count(tokens: &[Token]) -> usize {
-    tokens
-        .iter()
-        .take_while(|token| !ends_operand(token))
-        .filter(|token| makes_step(token))
-        .count()
+// How many steps the operand at the front has, or somewhat more: as many as its names, literals and opening brackets. It looks no
+// further than the operand goes, so that many operands one behind another are counted in the time of their tokens.
+fn step_count(tokens: Tokens) -> usize {
+    let mut count: usize = 0;
+    let mut may_name = true;
+    for place in tokens.places {
+        let mark = mark_in(tokens.text, *place);
+        if ends_operand(mark, may_name) {
+            return count;
+        }
+        if makes_step(mark) {
+            count = count.saturating_add(1);
+        }
+        may_name = lets_name_follow(mark);
+    }
+    count
 }
 
-fn ends_operand(token: &Token) -> bool {
+// The mark at the place of a token, if the token is a mark. It looks at two bytes, however long the token is.
+fn mark_in(text: &str, place: u32) -> Option<Mark> {
+    let bytes = text.as_bytes().get(place as usize..).unwrap_or(&[]);
+    match mark_at(bytes) {
+        Some((mark, _)) => Some(mark),
+        None => None,
+    }
+}
+
+// Whether no operand goes on with it: a mark of a filter, a comparison or a list, or a name or a literal where none may follow.
+fn ends_operand(mark: Option<Mark>, may_name: bool) -> bool {
+    match mark {
+        Some(mark) => matches!(
+            mark,
+            Mark::Bar | Mark::Colon | Mark::Comma | Mark::Assign | Mark::Compare(_)
+        ),
+        None => !may_name,
+    }
+}
+
+// Whether a name or a literal may follow it in an operand: behind a dot and inside of brackets.
+fn lets_name_follow(mark: Option<Mark>) -> bool {
     matches!(
-        token,
-        Token::Mark(Mark::Bar | Mark::Colon | Mark::Comma | Mark::Assign | Mark::Compare(_))
+        mark,
+        Some(Mark::Dot | Mark::To | Mark::OpenBracket | Mark::OpenRange)
     )
 }
 
-fn makes_step(token: &Token) -> bool {
-    !matches!(token, Token::Mark(_))
-        || matches!(token, Token::Mark(Mark::OpenBracket | Mark::OpenRange))
+fn makes_step(mark: Option<Mark>) -> bool {
+    matches!(mark, None | Some(Mark::OpenBracket | Mark::OpenRange))
 }
 
 impl FromTokens for Operand {
@@ -43,7 +71,7 @@ impl FromTokens for Operand {
 
     ghost reading = { operand };
 
-    fn read(alloc: Global, tokens: &[Token]) -> Result<(Operand, usize), Stop> {
+    fn read(alloc: Global, tokens: Tokens) -> Result<(Operand, usize), Stop> {
         let mut steps = Vec::with_capacity(alloc, step_count(tokens))?;
         let len = operand(alloc, tokens, MOST_BRACKETS, &mut steps)?;
         Ok((Operand::from_steps(steps), len))
@@ -58,7 +86,7 @@ impl Repeats for Arguments {
 
     ghost more = { next_argument };
 
-    fn next(alloc: Global, tokens: &[Token]) -> Result<Option<(Operand, usize)>, Stop> {
+    fn next(alloc: Global, tokens: Tokens) -> Result<Option<(Operand, usize)>, Stop> {
         if !is_comma(tokens) {
             return Ok(None);
         }
@@ -79,9 +107,9 @@ pub(crate) fn in_front<T: Drop>(first: T, others: Several<T>) -> Result<Several<
 }
 
 /// The arguments of a filter, or the values of a tag: operands between commas.
-pub(crate) fn operands(alloc: Global, tokens: &[Token]) -> Result<(Several<Operand>, usize), Stop>
-    ensures value { IsRead result (arguments (tokens_of tokens.now)) }
-    ensures within { IfOk result (λ found. found.1 ≤ length tokens.now) }
+pub(crate) fn operands(alloc: Global, tokens: Tokens) -> Result<(Several<Operand>, usize), Stop>
+    ensures value { IsRead result (arguments (tokens_of tokens.entry)) }
+    ensures within { IfOk result (λ found. found.1 ≤ count tokens.entry) }
 {
     let (first, len) = Operand::read(alloc, tokens)?;
     let (others, more) = many::<Arguments>(alloc, behind(tokens, len))?;
@@ -89,15 +117,16 @@ pub(crate) fn operands(alloc: Global, tokens: &[Token]) -> Result<(Several<Opera
 }
 
 // A filter without its bar and its name.
-fn filter_end(alloc: Global, name: Text, tokens: &[Token]) -> Result<(Filter, usize), Stop>
-    ensures value { IsRead result (filter_end name (tokens_of tokens.now)) }
-    ensures within { IfOk result (λ found. found.1 ≤ length tokens.now) }
+fn filter_end(alloc: Global, name: ShortText, tokens: Tokens) -> Result<(Filter, usize), Stop>
+    ensures value { IsRead result (filter_end name (tokens_of tokens.entry)) }
+    ensures within { IfOk result (λ found. found.1 ≤ count tokens.entry) }
 {
     if !is_colon(tokens) {
-        let arguments = Several::from_vec(Vec::new(alloc));
+        let arguments = Extras::none();
         return Ok((Filter { name, arguments }, 0));
     }
     let (arguments, len) = operands(alloc, behind(tokens, 1))?;
+    let arguments = Extras::from_several(alloc, arguments)?;
     Ok((Filter { name, arguments }, 1 + len))
 }
 
@@ -109,12 +138,12 @@ impl Repeats for Filters {
 
     ghost more = { next_filter };
 
-    fn next(alloc: Global, tokens: &[Token]) -> Result<Option<(Filter, usize)>, Stop> {
+    fn next(alloc: Global, tokens: Tokens) -> Result<Option<(Filter, usize)>, Stop> {
         if !is_bar(tokens) {
             return Ok(None);
         }
         let name = match word_at(behind(tokens, 1)) {
-            Some(name) => Text::copy(alloc, name)?,
+            Some(name) => ShortText::copy(alloc, name)?,
             None => return Err(Stop::NoReading),
         };
         let (filter, len) = filter_end(alloc, name, behind(tokens, 2))?;
@@ -130,9 +159,10 @@ impl FromTokens for Expr {
     ghost reading = { expression };
 
     #[tactic(auto, unfolding(liquid_grammar::specs::Expressions::expression))]
-    fn read(alloc: Global, tokens: &[Token]) -> Result<(Expr, usize), Stop> {
+    fn read(alloc: Global, tokens: Tokens) -> Result<(Expr, usize), Stop> {
         let (operand, len) = Operand::read(alloc, tokens)?;
         let (filters, more) = many::<Filters>(alloc, behind(tokens, len))?;
+        let filters = Extras::from_several(alloc, filters)?;
         Ok((Expr { operand, filters }, len + more))
     }
 }

@@ -16,6 +16,7 @@ mod spans;
 mod stop;
 mod tag;
 mod token;
+mod tokens;
 
 pub use cutting::{CutError, Cutter, Next, Pieces, cut, cut_up};
 pub use naming::{

@@ -2,15 +2,15 @@
 ghost use Rattle.std.specs.Prelude.{◌≡◌, ◌+◌, ◌<◌, ◌≤◌, length, IfOk, IfSome, refl};
 ghost use Rattle.liquid_grammar.specs.declared.tag.LoopKind.TheVariants as loop_kind;
 ghost use Rattle.liquid_grammar.specs.Tags.{loop_key, keyed_part, named_part, next_part, same_key, has_key, keys, fits_for, fits_table_row, fits, loop_over, loop_at};
-ghost use Rattle.liquid_expr.specs.Ahead.{tokens_of, text_of};
+ghost use Rattle.liquid_expr.specs.Ahead.{text_of};
+ghost use Rattle.liquid_expr.specs.Tokens.{tokens_of, count};
 ghost use Rattle.liquid_expr.specs.Readings.{IsRead, IsMore};
 
 use crate::ahead::{behind, is_colon, is_in, name_at, word_at};
 use crate::reading::{FromTokens, Repeats, many};
 use crate::stop::Stop;
-use crate::token::Token;
-use liquid_grammar::{Expr, Loop, LoopKey, LoopKind, LoopPart};
-use site_base::Text;
+use crate::tokens::Tokens;
+use liquid_grammar::{Expr, Loop, LoopKey, LoopKind, LoopPart, ShortText};
 use std::alloc::Global;
 
 fn loop_key(name: &str) -> Option<LoopKey>
@@ -31,10 +31,10 @@ fn loop_key(name: &str) -> Option<LoopKey>
 fn keyed_part(
     alloc: Global,
     key: Option<LoopKey>,
-    tokens: &[Token],
+    tokens: Tokens,
 ) -> Result<Option<(LoopPart, usize)>, Stop>
-    ensures value { IsMore result (keyed_part key (tokens_of tokens.now)) }
-    ensures within { IfOk result (λ found. IfSome found (λ one. (0 < one.1) × (one.1 ≤ length tokens.now + 1))) }
+    ensures value { IsMore result (keyed_part key (tokens_of tokens.entry)) }
+    ensures within { IfOk result (λ found. IfSome found (λ one. (0 < one.1) × (one.1 ≤ count tokens.entry + 1))) }
 {
     let key = match key {
         Some(key) => key,
@@ -55,7 +55,7 @@ impl Repeats for LoopParts {
 
     ghost more = { next_part };
 
-    fn next(alloc: Global, tokens: &[Token]) -> Result<Option<(LoopPart, usize)>, Stop> {
+    fn next(alloc: Global, tokens: Tokens) -> Result<Option<(LoopPart, usize)>, Stop> {
         match word_at(tokens) {
             Some(name) => {
                 if name == "reversed" {
@@ -128,11 +128,11 @@ fn fits(kind: LoopKind, parts: &[LoopPart]) -> bool
 fn loop_over(
     alloc: Global,
     kind: LoopKind,
-    name: Text,
-    tokens: &[Token],
+    name: ShortText,
+    tokens: Tokens,
 ) -> Result<(Loop, usize), Stop>
-    ensures value { IsRead result (loop_over kind name (tokens_of tokens.now)) }
-    ensures within { IfOk result (λ found. found.1 ≤ length tokens.now) }
+    ensures value { IsRead result (loop_over kind name (tokens_of tokens.entry)) }
+    ensures within { IfOk result (λ found. found.1 ≤ count tokens.entry) }
 {
     let (list, len) = Expr::read(alloc, tokens)?;
     let (parts, more) = many::<LoopParts>(alloc, behind(tokens, len))?;
@@ -144,9 +144,9 @@ fn loop_over(
 }
 
 #[tactic(auto, unfolding(liquid_grammar::specs::Tags::loop_at))]
-fn loop_at(alloc: Global, kind: LoopKind, tokens: &[Token]) -> Result<(Loop, usize), Stop>
-    ensures value { IsRead result (loop_at kind (tokens_of tokens.now)) }
-    ensures within { IfOk result (λ found. found.1 ≤ length tokens.now) }
+fn loop_at(alloc: Global, kind: LoopKind, tokens: Tokens) -> Result<(Loop, usize), Stop>
+    ensures value { IsRead result (loop_at kind (tokens_of tokens.entry)) }
+    ensures within { IfOk result (λ found. found.1 ≤ count tokens.entry) }
 {
     let name = match name_at(tokens) {
         Some(name) => name,
@@ -155,7 +155,7 @@ fn loop_at(alloc: Global, kind: LoopKind, tokens: &[Token]) -> Result<(Loop, usi
     if !is_in(behind(tokens, 1)) {
         return Err(Stop::NoReading);
     }
-    let name = Text::copy(alloc, name)?;
+    let name = ShortText::copy(alloc, name)?;
     let (found, len) = loop_over(alloc, kind, name, behind(tokens, 2))?;
     Ok((found, 2 + len))
 }
@@ -168,7 +168,7 @@ impl FromTokens for ForLoop {
 
     ghost reading = { loop_at loop_kind.For };
 
-    fn read(alloc: Global, tokens: &[Token]) -> Result<(Loop, usize), Stop> {
+    fn read(alloc: Global, tokens: Tokens) -> Result<(Loop, usize), Stop> {
         loop_at(alloc, LoopKind::For, tokens)
     }
 }
@@ -181,7 +181,7 @@ impl FromTokens for RowLoop {
 
     ghost reading = { loop_at loop_kind.TableRow };
 
-    fn read(alloc: Global, tokens: &[Token]) -> Result<(Loop, usize), Stop> {
+    fn read(alloc: Global, tokens: Tokens) -> Result<(Loop, usize), Stop> {
         loop_at(alloc, LoopKind::TableRow, tokens)
     }
 }

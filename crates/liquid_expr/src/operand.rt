@@ -2,33 +2,30 @@
 ghost use Rattle.std.specs.Prelude.{◌≡◌, ◌+◌, ◌<◌, ◌≤◌, length, IfOk, IfSome};
 ghost use Rattle.liquid_grammar.specs.Readings.{many};
 ghost use Rattle.liquid_grammar.specs.Expressions.{operand_in, operand_inside, link, bracket, range_at};
-ghost use Rattle.liquid_expr.specs.Ahead.{tokens_of};
+ghost use Rattle.liquid_expr.specs.Tokens.{tokens_of, count};
 ghost use Rattle.liquid_expr.specs.Steps.{link_steps, codes_of, Adds, AddsMore};
 ghost use Rattle.liquid_grammar.specs.Operands.{steps_of};
 
-use crate::ahead::{
-    Follow, Start, closes_bracket, closes_range, follow_of, goes_to, rest, start_of,
-};
+use crate::ahead::{Follow, Start, closes_bracket, closes_range, follow_of, goes_to, start_of};
 use crate::stop::Stop;
-use crate::token::Token;
-use liquid_grammar::Step;
-use site_base::Text;
+use crate::tokens::{Tokens, rest};
+use liquid_grammar::{ShortText, Step};
 use std::alloc::Global;
 
 /// Reads an operand with at most this many open brackets, and adds its steps; says how many tokens it has.
 #[cycle(operand)]
 pub(crate) fn operand(
     alloc: Global,
-    tokens: &[Token],
+    tokens: Tokens,
     depth: u32,
     steps: &mut Vec<Step>,
 ) -> Result<usize, Stop>
-    ensures value { Adds steps_of result steps.old.items steps.new.items (operand_in depth (tokens_of tokens.now)) }
-    ensures within { IfOk result (λ n. n ≤ length tokens.now) }
+    ensures value { Adds steps_of result steps.old.items steps.new.items (operand_in depth (tokens_of tokens.entry)) }
+    ensures within { IfOk result (λ n. n ≤ count tokens.entry) }
 {
     match start_of(alloc, tokens)? {
         Start::Variable(name) => {
-            steps.push(Step::Variable(Text::copy(alloc, name)?))?;
+            steps.push(Step::Variable(ShortText::copy(alloc, name)?))?;
             let links = path(alloc, rest(tokens, 1), depth, steps)?;
             Ok(links + 1)
         }
@@ -46,9 +43,9 @@ pub(crate) fn operand(
 
 // What follows a variable.
 #[cycle(operand)]
-fn path(alloc: Global, tokens: &[Token], depth: u32, steps: &mut Vec<Step>) -> Result<usize, Stop>
-    ensures value { Adds (codes_of link_steps) result steps.old.items steps.new.items (many (link (operand_inside depth)) (tokens_of tokens.now)) }
-    ensures within { IfOk result (λ n. n ≤ length tokens.now) }
+fn path(alloc: Global, tokens: Tokens, depth: u32, steps: &mut Vec<Step>) -> Result<usize, Stop>
+    ensures value { Adds (codes_of link_steps) result steps.old.items steps.new.items (many (link (operand_inside depth)) (tokens_of tokens.entry)) }
+    ensures within { IfOk result (λ n. n ≤ count tokens.entry) }
 {
     let mut used = 0;
     while let Some(len) = next_link(alloc, rest(tokens, used), depth, steps)? {
@@ -61,16 +58,16 @@ fn path(alloc: Global, tokens: &[Token], depth: u32, steps: &mut Vec<Step>) -> R
 #[cycle(operand)]
 fn next_link(
     alloc: Global,
-    tokens: &[Token],
+    tokens: Tokens,
     depth: u32,
     steps: &mut Vec<Step>,
 ) -> Result<Option<usize>, Stop>
-    ensures value { AddsMore link_steps result steps.old.items steps.new.items (link (operand_inside depth) (tokens_of tokens.now)) }
-    ensures within { IfOk result (λ found. IfSome found (λ n. (0 < n) × (n ≤ length tokens.now))) }
+    ensures value { AddsMore link_steps result steps.old.items steps.new.items (link (operand_inside depth) (tokens_of tokens.entry)) }
+    ensures within { IfOk result (λ found. IfSome found (λ n. (0 < n) × (n ≤ count tokens.entry))) }
 {
     match follow_of(tokens) {
         Follow::Name(name) => {
-            steps.push(Step::Member(Text::copy(alloc, name)?))?;
+            steps.push(Step::Member(ShortText::copy(alloc, name)?))?;
             Ok(Some(2))
         }
         Follow::Bracket => {
@@ -84,14 +81,9 @@ fn next_link(
 
 // What stands after `[`.
 #[cycle(operand)]
-fn bracket(
-    alloc: Global,
-    tokens: &[Token],
-    depth: u32,
-    steps: &mut Vec<Step>,
-) -> Result<usize, Stop>
-    ensures value { Adds link_steps result steps.old.items steps.new.items (bracket (operand_inside depth) (tokens_of tokens.now)) }
-    ensures within { IfOk result (λ n. n ≤ length tokens.now) }
+fn bracket(alloc: Global, tokens: Tokens, depth: u32, steps: &mut Vec<Step>) -> Result<usize, Stop>
+    ensures value { Adds link_steps result steps.old.items steps.new.items (bracket (operand_inside depth) (tokens_of tokens.entry)) }
+    ensures within { IfOk result (λ n. n ≤ count tokens.entry) }
 {
     if depth == 0 {
         return Err(Stop::NoReading);
@@ -106,9 +98,9 @@ fn bracket(
 
 // What stands after `(`.
 #[cycle(operand)]
-fn range(alloc: Global, tokens: &[Token], depth: u32, steps: &mut Vec<Step>) -> Result<usize, Stop>
-    ensures value { Adds steps_of result steps.old.items steps.new.items (range_at (operand_inside depth) (tokens_of tokens.now)) }
-    ensures within { IfOk result (λ n. n ≤ length tokens.now) }
+fn range(alloc: Global, tokens: Tokens, depth: u32, steps: &mut Vec<Step>) -> Result<usize, Stop>
+    ensures value { Adds steps_of result steps.old.items steps.new.items (range_at (operand_inside depth) (tokens_of tokens.entry)) }
+    ensures within { IfOk result (λ n. n ≤ count tokens.entry) }
 {
     if depth == 0 {
         return Err(Stop::NoReading);
@@ -130,14 +122,18 @@ fn range(alloc: Global, tokens: &[Token], depth: u32, steps: &mut Vec<Step>) -> 
 #[cfg(test)]
 mod tests {
     use super::*;
-    use crate::token::tokens;
+    use crate::tokens::token_places;
     use std::test::*;
 
     // How many tokens an operand at the front has.
     fn count(alloc: Global, text: &str) -> Option<usize> {
-        let list = tokens(alloc, text).ok()??;
+        let places = token_places(alloc, text).ok()??;
+        let tokens = Tokens {
+            text,
+            places: &places.list,
+        };
         let mut steps = Vec::new(alloc);
-        operand(alloc, &list, 100, &mut steps).ok()
+        operand(alloc, tokens, 100, &mut steps).ok()
     }
 
     #[test]

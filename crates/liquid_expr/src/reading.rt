@@ -1,16 +1,12 @@
 // Readings of tokens.
 ghost use Rattle.std.specs.Prelude.{◌≡◌, ◌<◌, ◌≤◌, List, [], length, IfOk, IfSome};
-ghost use Rattle.std.specs.List.{list_any};
 ghost use Rattle.liquid_grammar.specs.Tokens as grammar;
-ghost use Rattle.liquid_grammar.specs.Tokens.{is_large};
 ghost use Rattle.liquid_grammar.specs.Readings.{Reading, More, stop, many, reads};
-ghost use Rattle.liquid_expr.specs.Token.{token_of};
-ghost use Rattle.liquid_expr.specs.Ahead.{tokens_of};
+ghost use Rattle.liquid_expr.specs.Tokens.{tokens_of, count};
 ghost use Rattle.liquid_expr.specs.Readings.{IsRead, IsMore, GivesRead};
 
-use crate::ahead::rest;
 use crate::stop::{ReadExprError, Stop};
-use crate::token::{Token, is_large, tokens};
+use crate::tokens::{Places, Tokens, rest, token_places};
 use liquid_grammar::Several;
 use std::alloc::Global;
 
@@ -21,9 +17,9 @@ pub(crate) trait FromTokens {
     ghost reading: { List grammar.Token → Reading Self.Value };
 
     /// Reads what stands at the front, and says how many tokens it has.
-    fn read(alloc: Global, tokens: &[Token]) -> Result<(Self::Value, usize), Stop>
-        ensures value { IsRead result (reading (tokens_of tokens.now)) }
-        ensures within { IfOk result (λ found. found.1 ≤ length tokens.now) };
+    fn read(alloc: Global, tokens: Tokens) -> Result<(Self::Value, usize), Stop>
+        ensures value { IsRead result (reading (tokens_of tokens.entry)) }
+        ensures within { IfOk result (λ found. found.1 ≤ count tokens.entry) };
 }
 
 /// What can come again and again.
@@ -33,9 +29,9 @@ pub(crate) trait Repeats {
     ghost more: { List grammar.Token → More Self.Item };
 
     /// Reads the next one, if there is one, and says how many tokens it has.
-    fn next(alloc: Global, tokens: &[Token]) -> Result<Option<(Self::Item, usize)>, Stop>
-        ensures value { IsMore result (more (tokens_of tokens.now)) }
-        ensures within { IfOk result (λ found. IfSome found (λ one. (0 < one.1) × (one.1 ≤ length tokens.now))) };
+    fn next(alloc: Global, tokens: Tokens) -> Result<Option<(Self::Item, usize)>, Stop>
+        ensures value { IsMore result (more (tokens_of tokens.entry)) }
+        ensures within { IfOk result (λ found. IfSome found (λ one. (0 < one.1) × (one.1 ≤ count tokens.entry))) };
 
     ghost ends: { more [] ≡ stop };
 }
@@ -43,10 +39,10 @@ pub(crate) trait Repeats {
 /// Reads as many as there are, and says how many tokens they have.
 pub(crate) fn many<R: Repeats>(
     alloc: Global,
-    tokens: &[Token],
+    tokens: Tokens,
 ) -> Result<(Several<R::Item>, usize), Stop>
-    ensures value { IsRead result (many R.more (tokens_of tokens.now)) }
-    ensures within { IfOk result (λ found. found.1 ≤ length tokens.now) }
+    ensures value { IsRead result (many R.more (tokens_of tokens.entry)) }
+    ensures within { IfOk result (λ found. found.1 ≤ count tokens.entry) }
 {
     let mut list = Vec::new(alloc);
     let mut used = 0;
@@ -57,12 +53,6 @@ pub(crate) fn many<R: Repeats>(
     Ok((Several::from_vec(list), used))
 }
 
-fn has_large(tokens: &[Token]) -> bool
-    ensures { result ≡ list_any (λ token. is_large (token_of token)) tokens.now }
-{
-    tokens.iter().any(is_large)
-}
-
 /// Reads a whole text.
 pub(crate) fn read_whole<T: FromTokens>(
     alloc: Global,
@@ -70,16 +60,20 @@ pub(crate) fn read_whole<T: FromTokens>(
 ) -> Result<T::Value, ReadExprError>
     ensures { GivesRead result (reads T.reading text.now) }
 {
-    let list = match tokens(alloc, text)? {
-        Some(list) => list,
+    let Places { list, has_large } = match token_places(alloc, text)? {
+        Some(places) => places,
         None => return Err(ReadExprError::Syntax),
     };
-    match T::read(alloc, &list) {
+    let tokens = Tokens {
+        text,
+        places: &list,
+    };
+    match T::read(alloc, tokens) {
         Ok((value, len)) => {
             if len != list.len() {
                 return Err(ReadExprError::Syntax);
             }
-            if has_large(&list) {
+            if has_large {
                 return Err(ReadExprError::Overflow);
             }
             Ok(value)

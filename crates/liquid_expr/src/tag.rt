@@ -3,16 +3,15 @@ ghost use Rattle.std.specs.Prelude.{◌≡◌, ◌≤◌, length, IfOk, refl};
 ghost use Rattle.liquid_grammar.specs.Readings.{many};
 ghost use Rattle.liquid_grammar.specs.Expressions.{arguments};
 ghost use Rattle.liquid_grammar.specs.Tags.{nothing_more, variable_name, assignment, next_value, values, cycle_end, cycle};
-ghost use Rattle.liquid_expr.specs.Ahead.{tokens_of};
+ghost use Rattle.liquid_expr.specs.Tokens.{tokens_of, count};
 ghost use Rattle.liquid_expr.specs.Readings.{IsRead};
 
 use crate::ahead::{behind, is_assign, is_colon, is_comma, is_or, name_at};
 use crate::expression::{Arguments, in_front, operands};
 use crate::reading::{FromTokens, Repeats, many};
 use crate::stop::Stop;
-use crate::token::Token;
-use liquid_grammar::{Assign, Cycle, Expr, Operand, Several};
-use site_base::Text;
+use crate::tokens::Tokens;
+use liquid_grammar::{Assign, Cycle, Expr, Operand, Several, ShortText};
 use std::alloc::Global;
 
 /// What stands in a tag that is its name alone.
@@ -23,7 +22,7 @@ impl FromTokens for Nothing {
 
     ghost reading = { nothing_more };
 
-    fn read(_alloc: Global, _tokens: &[Token]) -> Result<((), usize), Stop> {
+    fn read(_alloc: Global, _tokens: Tokens) -> Result<((), usize), Stop> {
         Ok(((), 0))
     }
 }
@@ -32,13 +31,13 @@ impl FromTokens for Nothing {
 pub(crate) enum Name {}
 
 impl FromTokens for Name {
-    type Value = Text;
+    type Value = ShortText;
 
     ghost reading = { variable_name };
 
-    fn read(alloc: Global, tokens: &[Token]) -> Result<(Text, usize), Stop> {
+    fn read(alloc: Global, tokens: Tokens) -> Result<(ShortText, usize), Stop> {
         match name_at(tokens) {
-            Some(name) => Ok((Text::copy(alloc, name)?, 1)),
+            Some(name) => Ok((ShortText::copy(alloc, name)?, 1)),
             None => Err(Stop::NoReading),
         }
     }
@@ -50,7 +49,7 @@ impl FromTokens for Assign {
     ghost reading = { assignment };
 
     #[tactic(auto, unfolding(liquid_grammar::specs::Tags::assignment))]
-    fn read(alloc: Global, tokens: &[Token]) -> Result<(Assign, usize), Stop> {
+    fn read(alloc: Global, tokens: Tokens) -> Result<(Assign, usize), Stop> {
         let name = match name_at(tokens) {
             Some(name) => name,
             None => return Err(Stop::NoReading),
@@ -58,7 +57,7 @@ impl FromTokens for Assign {
         if !is_assign(behind(tokens, 1)) {
             return Err(Stop::NoReading);
         }
-        let name = Text::copy(alloc, name)?;
+        let name = ShortText::copy(alloc, name)?;
         let (value, len) = Expr::read(alloc, behind(tokens, 2))?;
         Ok((Assign { name, value }, 2 + len))
     }
@@ -72,7 +71,7 @@ impl Repeats for Choices {
 
     ghost more = { next_value };
 
-    fn next(alloc: Global, tokens: &[Token]) -> Result<Option<(Operand, usize)>, Stop> {
+    fn next(alloc: Global, tokens: Tokens) -> Result<Option<(Operand, usize)>, Stop> {
         if !(is_comma(tokens) || is_or(tokens)) {
             return Ok(None);
         }
@@ -91,7 +90,7 @@ impl FromTokens for Values {
 
     ghost reading = { values };
 
-    fn read(alloc: Global, tokens: &[Token]) -> Result<(Several<Operand>, usize), Stop> {
+    fn read(alloc: Global, tokens: Tokens) -> Result<(Several<Operand>, usize), Stop> {
         let (first, len) = Operand::read(alloc, tokens)?;
         let (others, more) = many::<Choices>(alloc, behind(tokens, len))?;
         Ok((in_front(first, others)?, len + more))
@@ -99,9 +98,9 @@ impl FromTokens for Values {
 }
 
 // What follows the first operand of a cycle.
-fn cycle_end(alloc: Global, first: Operand, tokens: &[Token]) -> Result<(Cycle, usize), Stop>
-    ensures value { IsRead result (cycle_end first (tokens_of tokens.now)) }
-    ensures within { IfOk result (λ found. found.1 ≤ length tokens.now) }
+fn cycle_end(alloc: Global, first: Operand, tokens: Tokens) -> Result<(Cycle, usize), Stop>
+    ensures value { IsRead result (cycle_end first (tokens_of tokens.entry)) }
+    ensures within { IfOk result (λ found. found.1 ≤ count tokens.entry) }
 {
     if is_colon(tokens) {
         let (values, len) = operands(alloc, behind(tokens, 1))?;
@@ -125,7 +124,7 @@ impl FromTokens for Cycle {
     ghost reading = { cycle };
 
     #[tactic(auto, unfolding(liquid_grammar::specs::Tags::cycle))]
-    fn read(alloc: Global, tokens: &[Token]) -> Result<(Cycle, usize), Stop> {
+    fn read(alloc: Global, tokens: Tokens) -> Result<(Cycle, usize), Stop> {
         let (first, len) = Operand::read(alloc, tokens)?;
         let (cycle, more) = cycle_end(alloc, first, behind(tokens, len))?;
         Ok((cycle, len + more))

@@ -1,15 +1,13 @@
 // The tokens of an expression or a tag.
-ghost use Rattle.std.specs.Prelude.{◌≡◌, ◌+◌, ◌-◌, ◌<◌, ◌≤◌, ◌==◌, not, length, take, drop, map, slice_index, IfOk, IfSome, OnSome, true, MatchOption, Some, None};
+ghost use Rattle.std.specs.Prelude.{◌≡◌, ◌+◌, ◌-◌, ◌<◌, ◌≤◌, ◌==◌, not, length, take, drop, slice_index, IfSome, OnSome, true, Some};
 ghost use Rattle.std.specs.List.{prefix_len};
 ghost use Rattle.std.specs.Str.Parse.{IsNumeral, without_leading_sign};
-ghost use Rattle.liquid_grammar.specs.Tokens.{is_large, short_at, is_letter, is_digit, is_name_byte, whole_token, sign_len, whole_len, fraction_len, short_mark, long_mark, mark_at, quoted_at, number_at, number_or_mark, token_at, tokens, text};
+ghost use Rattle.liquid_grammar.specs.Tokens.{is_large, short_at, is_letter, is_digit, is_name_byte, whole_token, sign_len, whole_len, fraction_len, short_mark, long_mark, mark_at, quoted_at, number_at, number_or_mark, token_at, text};
 ghost use Rattle.liquid_grammar.specs.Pieces.{is_white};
 ghost use Rattle.liquid_expr.specs.Token.{token_of, found_of, marked_of, EndsAscii, IsCut, IsFound, IsWhole};
 
 use crate::places::{is_white, tail};
 use liquid_grammar::{Comparison, Mark};
-use site_base::Memory;
-use std::alloc::Global;
 
 /// A token, in the text that it stands in.
 #[derive(Clone, Copy)]
@@ -30,29 +28,8 @@ pub(crate) fn is_large(token: &Token) -> bool
     matches!(token, Token::Large)
 }
 
-/// The tokens of a text, or None where something in it is no token.
-pub(crate) fn tokens<'a>(alloc: Global, text: &'a str) -> Result<Option<Vec<Token<'a>>>, Memory>
-    ensures { IfOk result (λ found. MatchOption found (tokens text.now ≡ None) (λ list. tokens text.now ≡ Some (map token_of list.items))) }
-{
-    let mut list = Vec::new(alloc);
-    let mut rest = text;
-    while !rest.is_empty() {
-        if begins_white(rest) {
-            rest = after(rest, 1);
-        } else {
-            match token_at(rest) {
-                Some((token, len)) => {
-                    list.push(token)?;
-                    rest = after(rest, len);
-                }
-                None => return Ok(None),
-            }
-        }
-    }
-    Ok(Some(list))
-}
-
-fn begins_white(rest: &str) -> bool
+/// Whether white space stands at the front.
+pub(crate) fn begins_white(rest: &str) -> bool
     requires { 0 < length rest.now }
     ensures value { result ≡ is_white (slice_index rest.now 0) }
     ensures cut { result ≡ true → IsCut rest.now 1 }
@@ -60,8 +37,8 @@ fn begins_white(rest: &str) -> bool
     is_white(rest.as_bytes()[0])
 }
 
-// What follows the first bytes.
-fn after<'a>(rest: &'a str, len: usize) -> &'a str
+/// What follows the first bytes.
+pub(crate) fn after<'a>(rest: &'a str, len: usize) -> &'a str
     requires within { len ≤ length rest.now }
     requires cut { IsCut rest.now len }
     ensures { result.now ≡ drop len rest.now }
@@ -80,8 +57,8 @@ fn head<'a>(rest: &'a str, len: usize) -> &'a str
     &rest[..len]
 }
 
-// The token at the front, with its length.
-fn token_at<'a>(rest: &'a str) -> Option<(Token<'a>, usize)>
+/// The token at the front, with its length.
+pub(crate) fn token_at<'a>(rest: &'a str) -> Option<(Token<'a>, usize)>
     requires { 0 < length rest.now }
     ensures value { found_of result ≡ token_at rest.now }
     ensures fits { IfSome result (λ found. IsFound rest.now found.1) }
@@ -181,8 +158,8 @@ fn marked<'a>(rest: &'a str) -> Option<(Token<'a>, usize)>
     }
 }
 
-// The longest mark at the front, with its length.
-fn mark_at(bytes: &[u8]) -> Option<(Mark, usize)>
+/// The longest mark at the front, with its length.
+pub(crate) fn mark_at(bytes: &[u8]) -> Option<(Mark, usize)>
     ensures value { marked_of result ≡ mark_at bytes.now }
     ensures fits { IfSome result (λ found. IsFound bytes.now found.1) }
 {
@@ -312,38 +289,5 @@ fn fraction_len(bytes: &[u8]) -> usize
             if digits > 0 { digits + 1 } else { 0 }
         }
         _ => 0,
-    }
-}
-
-#[cfg(test)]
-mod tests {
-    use super::*;
-    use std::test::*;
-
-    #[test]
-    fn reads_tokens(rt: HostRuntime) -> Result<(), Fail> {
-        let rows = [
-            ("", Some(0)),
-            (" \t\n", Some(0)),
-            ("a-1.b", Some(3)),
-            ("a [ 'x]' ]", Some(4)),
-            ("(1..-2)", Some(5)),
-            ("1.5.2", Some(3)),
-            ("a<>b<=c", Some(5)),
-            ("x=9223372036854775808", Some(3)),
-            ("a - b", None),
-            ("'a", None),
-            ("a ! b", None),
-            ("é", None),
-        ];
-        for (text, count) in rows {
-            let found = tokens(rt.alloc(), text).ok().ok_or("no memory")?;
-            let len = match found {
-                Some(list) => Some(list.len()),
-                None => None,
-            };
-            assert!(rt; len == count, "at {text:?}");
-        }
-        Ok(())
     }
 }

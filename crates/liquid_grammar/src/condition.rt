@@ -1,11 +1,12 @@
 // Conditions.
-use crate::{Boxed, Comparison, Joint, Operand, Several};
+use crate::{Comparison, Extras, Joint, Operand};
+use site_base::Boxed;
 
 /// A test of one operand, or of two that are compared.
 #[derive(Drop)]
 pub enum Test {
     Holds(Operand),
-    Compares(Operand, Comparison, Boxed<Operand>),
+    Compares(Boxed<Operand>, Comparison, Boxed<Operand>),
 }
 
 /// A test, and how it is joined to what stands before it.
@@ -20,5 +21,5 @@ pub struct Joined {
 #[derive(Drop)]
 pub struct Condition {
     pub first: Test,
-    pub rest: Several<Joined>,
+    pub rest: Extras<Joined>,
 }

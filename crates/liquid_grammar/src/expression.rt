@@ -1,25 +1,24 @@
 // Expressions.
-use crate::{Operand, Several};
-use site_base::Text;
+use crate::{Extras, Operand, Several, ShortText};
 
 /// A filter with its arguments.
 #[derive(Drop)]
 pub struct Filter {
-    pub name: Text,
-    pub arguments: Several<Operand>,
+    pub name: ShortText,
+    pub arguments: Extras<Operand>,
 }
 
 /// An operand, and the filters that its value goes through, from the first to the last.
 #[derive(Drop)]
 pub struct Expr {
     pub operand: Operand,
-    pub filters: Several<Filter>,
+    pub filters: Extras<Filter>,
 }
 
 /// A parameter `name=value` of a tag.
 #[derive(Drop)]
 pub struct Parameter {
-    pub name: Text,
+    pub name: ShortText,
     pub value: Expr,
 }
 

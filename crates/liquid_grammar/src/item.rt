@@ -1,21 +1,21 @@
 // What the pieces of a template say.
-use crate::{Assign, Boxed, Condition, Cycle, Expr, Include, Loop, NamePart, Operand, Several};
-use site_base::{FaultKind, Text};
+use crate::{Assign, Condition, Cycle, Expr, Include, Loop, NamePart, Operand, Several, ShortText};
+use site_base::{Boxed, FaultKind, Text};
 
 /// What holds nothing else.
 #[derive(Drop)]
 pub enum Leaf {
     Text(Text),
-    Output(Expr),
+    Output(Boxed<Expr>),
     Assign(Boxed<Assign>),
     /// The text of the tag, and what it says.
-    Cycle(Text, Boxed<Cycle>),
-    Increment(Text),
-    Decrement(Text),
+    Cycle(Boxed<Text>, Boxed<Cycle>),
+    Increment(ShortText),
+    Decrement(ShortText),
     Break,
     Continue,
-    Include(Include),
-    IncludeRelative(Include),
+    Include(Boxed<Include>),
+    IncludeRelative(Boxed<Include>),
     Link(Several<NamePart>),
     PostUrl(Several<NamePart>),
 }
@@ -25,12 +25,12 @@ pub enum Leaf {
 pub enum Block {
     If,
     Unless,
-    Case(Expr),
+    Case(Boxed<Expr>),
     For(Boxed<Loop>),
     TableRow(Boxed<Loop>),
-    Capture(Text),
+    Capture(ShortText),
     /// The language that is named.
-    Highlight(Text),
+    Highlight(ShortText),
 }
 
 /// A block by its name.
@@ -53,9 +53,9 @@ pub enum Part {
     /// With the block itself, where its tag holds no test. In a `case` this is what stands before the first `when`.
     Body,
     /// With the test of an `if`, an `unless` or an `elsif`.
-    Test(Condition),
+    Test(Boxed<Condition>),
     /// With the values of a `when`.
-    When(Several<Operand>),
+    When(Boxed<Several<Operand>>),
     /// With an `else`.
     Otherwise,
 }

@@ -3,26 +3,28 @@
 //! The definitions stand in `specs/`; the types here are those that they and the readers share.
 #![tactic(auto)]
 
-mod boxed;
 mod condition;
 mod expression;
+mod extras;
 mod item;
 mod literal;
 mod mark;
 mod operand;
 mod piece;
 mod several;
+mod short_text;
 mod step;
 mod tag;
 
-pub use boxed::Boxed;
 pub use condition::{Condition, Joined, Test};
 pub use expression::{Expr, Filter, Parameter, Params};
+pub use extras::Extras;
 pub use item::{Block, BlockName, Item, Leaf, Move, Part, Verbatim};
 pub use literal::Literal;
 pub use mark::{Comparison, Joint, Mark};
 pub use operand::Operand;
 pub use piece::{Front, Piece, PieceKind, Span};
 pub use several::Several;
+pub use short_text::ShortText;
 pub use step::Step;
 pub use tag::{Assign, Cycle, Include, Loop, LoopKey, LoopKind, LoopPart, NamePart, NamePlace};

@@ -1,5 +1,6 @@
 // Literals.
-use site_base::Text;
+use crate::ShortText;
+use site_base::Boxed;
 
 /// A value that an expression writes out; ranges are made of two operands.
 #[derive(Drop)]
@@ -13,5 +14,5 @@ pub enum Literal {
     Empty,
     Int(i64),
     /// A text in quotes, or a decimal as it is written.
-    Text(Text),
+    Text(Boxed<ShortText>),
 }

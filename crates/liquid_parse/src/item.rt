@@ -9,8 +9,8 @@ use liquid_expr::{
     read_assign, read_condition, read_cycle, read_expr, read_include, read_language, read_loop,
     read_name, read_nothing, read_path, read_values, tag_text,
 };
-use liquid_grammar::{Block, BlockName, Boxed, Item, Leaf, LoopKind, Part, PieceKind};
-use site_base::{FaultKind, Text};
+use liquid_grammar::{Block, BlockName, Item, Leaf, LoopKind, Part, PieceKind};
+use site_base::{Boxed, FaultKind, Text};
 use std::alloc::Global;
 
 fn block_named(name: &str) -> Option<BlockName>
@@ -71,12 +71,18 @@ fn opening(alloc: Global, block: BlockName, rest: &str) -> Result<Item, ItemErro
     ensures { GivesItem result (opening block rest.now) }
 {
     match block {
-        BlockName::If => Ok(Item::Opens(Block::If, Part::Test(read_condition(alloc, rest)?))),
+        BlockName::If => Ok(Item::Opens(
+            Block::If,
+            Part::Test(Boxed::new(alloc, read_condition(alloc, rest)?)?),
+        )),
         BlockName::Unless => Ok(Item::Opens(
             Block::Unless,
-            Part::Test(read_condition(alloc, rest)?),
+            Part::Test(Boxed::new(alloc, read_condition(alloc, rest)?)?),
         )),
-        BlockName::Case => Ok(Item::Opens(Block::Case(read_expr(alloc, rest)?), Part::Body)),
+        BlockName::Case => Ok(Item::Opens(
+            Block::Case(Boxed::new(alloc, read_expr(alloc, rest)?)?),
+            Part::Body,
+        )),
         BlockName::For => Ok(Item::Opens(
             Block::For(Boxed::new(alloc, read_loop(alloc, LoopKind::For, rest)?)?),
             Part::Body,
@@ -110,16 +116,20 @@ fn naming(alloc: Global, name: &str, rest: &str) -> Result<Item, ItemError>
         return Ok(Item::Turns(Part::Otherwise));
     }
     if name == "elsif" {
-        return Ok(Item::Turns(Part::Test(read_condition(alloc, rest)?)));
+        let test = Boxed::new(alloc, read_condition(alloc, rest)?)?;
+        return Ok(Item::Turns(Part::Test(test)));
     }
     if name == "when" {
-        return Ok(Item::Turns(Part::When(read_values(alloc, rest)?)));
+        let values = Boxed::new(alloc, read_values(alloc, rest)?)?;
+        return Ok(Item::Turns(Part::When(values)));
     }
     if name == "include" {
-        return Ok(Item::Leaf(Leaf::Include(read_include(alloc, rest)?)));
+        let include = Boxed::new(alloc, read_include(alloc, rest)?)?;
+        return Ok(Item::Leaf(Leaf::Include(include)));
     }
     if name == "include_relative" {
-        return Ok(Item::Leaf(Leaf::IncludeRelative(read_include(alloc, rest)?)));
+        let include = Boxed::new(alloc, read_include(alloc, rest)?)?;
+        return Ok(Item::Leaf(Leaf::IncludeRelative(include)));
     }
     if name == "link" {
         return Ok(Item::Leaf(Leaf::Link(read_path(alloc, rest)?)));
@@ -139,7 +149,8 @@ fn plain_tag(alloc: Global, text: &str, name: &str, rest: &str) -> Result<Item, 
     }
     if name == "cycle" {
         let cycle = Boxed::new(alloc, read_cycle(alloc, rest)?)?;
-        return Ok(Item::Leaf(Leaf::Cycle(Text::copy(alloc, text)?, cycle)));
+        let text = Boxed::new(alloc, Text::copy(alloc, text)?)?;
+        return Ok(Item::Leaf(Leaf::Cycle(text, cycle)));
     }
     if name == "increment" {
         return Ok(Item::Leaf(Leaf::Increment(read_name(alloc, rest)?)));
@@ -195,13 +206,20 @@ fn text_item(alloc: Global, text: &str) -> Result<Item, ItemError>
     Ok(Item::Leaf(Leaf::Text(Text::copy(alloc, text)?)))
 }
 
+fn output_item(alloc: Global, text: &str) -> Result<Item, ItemError>
+    ensures { GivesItem result (item_in kind.Output text.now) }
+{
+    let expr = Boxed::new(alloc, read_expr(alloc, text)?)?;
+    Ok(Item::Leaf(Leaf::Output(expr)))
+}
+
 /// What a piece says whose inside is this text.
 pub(crate) fn item_in(alloc: Global, piece: PieceKind, text: &str) -> Result<Item, ItemError>
     ensures { GivesItem result (item_in piece text.now) }
 {
     match piece {
         PieceKind::Text => text_item(alloc, text),
-        PieceKind::Output => Ok(Item::Leaf(Leaf::Output(read_expr(alloc, text)?))),
+        PieceKind::Output => output_item(alloc, text),
         PieceKind::Tag => tag_item(alloc, text),
     }
 }

@@ -1,6 +1,7 @@
 use crate::{Node, ParseError, Template, first_of, parse};
 use liquid_grammar::Leaf;
 use std::alloc::Global;
+use std::process::Abort;
 use std::test::*;
 
 // The line and the number of the fault, or None for a template.
@@ -58,6 +59,28 @@ fn takes_templates(rt: HostRuntime) -> Result<(), Fail> {
         "{% link a b.md %}{% link {{ a }}.md %}",
         "{% post_url 2020-01-01-a %}",
         "{% highlight c++ linenos %}a < b{% endhighlight %}",
+        "{{-  a  -}}",
+        "{{ a-}}{{a--}}",
+        "{%- if a -%} b {%- elsif c -%} d {%- else -%} e {%- endif -%}",
+        "{%\tif\na\r\n==\n1\t%}{%endif\n%}",
+        "{{ '{{' }}{% assign a = '{{' %}",
+        "{ { a } }{a}{",
+        "{{ (-3..-1) | join }}{{ a | plus: -1 | minus: -2.5 }}",
+        "{{ a.b[\"c\"]['d'][e.f][0][-1][(1..2)] }}",
+        "{{ 00000000000000000000000000000001 }}{{ 9223372036854775808.5 }}",
+        "{% if a contains \"b\" or c contains 'd' and e or f == nil %}{% endif %}",
+        "{% unless a and b or c %}{% else %}{% endunless %}",
+        "{% case a.b[0] | f %}{% when \"b\" or 'c', nil %}d{% endcase %}",
+        "{% for a in b.c | f: 1 limit:2 offset:-1 reversed %}{% endfor %}",
+        "{% for a-b in (c.d..e) %}{% for f in a-b %}{% endfor %}{% endfor %}",
+        "{% tablerow a in b %}{% endtablerow %}",
+        "{% cycle a %}{% cycle \"x\": 'y' %}{% increment a-b %}",
+        "{% include a.html b = 1 c=\"d\" e=f.g %}",
+        "{% raw %}{% endif %}{{ a {% endraw %}",
+        "{%- raw -%} {{ a }} {%- endraw -%} b",
+        "{% raw %}{% comment %}{% endraw %}",
+        "{% comment %}{% comment %}{% endcomment %}",
+        "{% comment %}{% raw %}{{ '{% endcomment %}",
         "{% if a %}{% for b in c %}{% case d %}{% when 1 %}{% endcase %}{% endfor %}{% endif %}",
     ];
     for text in templates {
@@ -66,8 +89,16 @@ fn takes_templates(rt: HostRuntime) -> Result<(), Fail> {
     Ok(())
 }
 
-// The first fault of a text: its line and its number, 10 where a tag or an output has no reading, 11 where its name is not
-// known, 16 where a whole number is no i64.
+// That the first fault of each text is the one beside it: its line and its number, 10 where a tag or an output has no reading, 11 where
+// its name is not known, 16 where a whole number is no i64.
+fn named(rt: &impl Abort, alloc: Global, rows: &[(&str, (u64, u8))]) -> Result<(), Fail> {
+    for (text, first) in rows {
+        assert!(rt; fault(alloc, text)? == Some(*first), "at {text:?}");
+    }
+    Ok(())
+}
+
+// What has no reading, and what has no end: 10, or 11 where a tag's name is not known.
 #[test]
 fn names_the_first_fault(rt: HostRuntime) -> Result<(), Fail> {
     let rows = [
@@ -91,6 +122,106 @@ fn names_the_first_fault(rt: HostRuntime) -> Result<(), Fail> {
         ("{% %}", (1, 10)),
         ("{% 1 %}", (1, 10)),
         ("{% if a", (1, 10)),
+        // white space, dashes and marks in the wrong places
+        ("{{}}", (1, 10)),
+        ("{{-}}", (1, 10)),
+        ("{{ - a }}", (1, 10)),
+        ("{{--a}}", (1, 10)),
+        ("{%%}", (1, 10)),
+        ("{%-%}", (1, 10)),
+        ("{% - if a %}{% endif %}", (1, 10)),
+        ("{% if a }}", (1, 10)),
+        ("{{ {{ a }} }}", (1, 10)),
+        ("{{ '}}' }}", (1, 10)),
+        ("{% {{ a }} %}", (1, 10)),
+        ("{% if {{ a }} %}{% endif %}", (1, 10)),
+        ("{% assign a = {{ b }} %}", (1, 10)),
+        ("{% assign a = '%}' %}", (1, 10)),
+    ];
+    named(&rt, rt.alloc(), &rows)
+}
+
+// Blocks, raw texts and comments without their ends, and the first of several faults.
+#[test]
+fn names_what_has_no_end(rt: HostRuntime) -> Result<(), Fail> {
+    let rows = [
+        // raw texts and comments end once
+        ("{% raw %}{{ a }}{% endraw", (1, 10)),
+        ("a{% raw %}\n{% end raw %}", (1, 10)),
+        ("{% raw %}{% raw %}{% endraw %}\n{% endraw %}", (2, 10)),
+        (
+            "{% comment %}{% raw %}{% endcomment %}\n{% endraw %}",
+            (2, 10),
+        ),
+        // what has no end
+        ("{% if a %}", (1, 10)),
+        ("{% if a %}\n{% for x in y %}", (2, 10)),
+        ("{% if a %}\n{% for x in y %}{% endfor %}", (1, 10)),
+        ("a\n{% raw %}{{ b }}", (2, 10)),
+        ("\n{% comment %} {% if %}", (2, 10)),
+        (
+            "{%comment%}{%comment%}{%endcomment%}\n{%endcomment%}",
+            (2, 10),
+        ),
+        // the first by place
+        ("{% if a %}\n\n{{ b | }}\n{{ c", (3, 10)),
+        ("{{ a }}\n{% foo %}{% if %}", (2, 11)),
+        (
+            "{% for a in b %}\n{% endif %}\n{{ 9223372036854775808 }}",
+            (2, 10),
+        ),
+        ("{{ 9223372036854775808 }}\n{% endif %}", (1, 16)),
+    ];
+    named(&rt, rt.alloc(), &rows)
+}
+
+#[test]
+fn refuses_operands_and_conditions(rt: HostRuntime) -> Result<(), Fail> {
+    let rows = [
+        // operands and filters
+        ("{{ é }}", (1, 10)),
+        ("{{ 'a\" }}", (1, 10)),
+        ("{{ .a }}", (1, 10)),
+        ("{{ a.b. }}", (1, 10)),
+        ("{{ a[] }}", (1, 10)),
+        ("{{ a]b }}", (1, 10)),
+        ("{{ [a] }}", (1, 10)),
+        ("{{ 1.a }}", (1, 10)),
+        ("{{ 'a'.b }}", (1, 10)),
+        ("{{ a..b }}", (1, 10)),
+        ("{{ (a..b }}", (1, 10)),
+        ("{{ a..b) }}", (1, 10)),
+        ("{{ (a) }}", (1, 10)),
+        ("{{ (..b) }}", (1, 10)),
+        ("{{ | f }}", (1, 10)),
+        ("{{ a || b }}", (1, 10)),
+        ("{{ a | 1 }}", (1, 10)),
+        ("{{ a | f g }}", (1, 10)),
+        ("{{ a | f: }}", (1, 10)),
+        ("{{ a | f: 1, }}", (1, 10)),
+        ("{{ a | f: , 1 }}", (1, 10)),
+        ("{{ a | f: 1 2 }}", (1, 10)),
+        ("{{ contains }}", (1, 10)),
+        ("{{ a[9223372036854775808] }}", (1, 16)),
+        ("{{ a | f: -9223372036854775809 }}", (1, 16)),
+        ("{{ 9223372036854775808 | }}", (1, 10)),
+        // conditions
+        ("{% if a b %}{% endif %}", (1, 10)),
+        ("{% if a = b %}{% endif %}", (1, 10)),
+        ("{% if and a %}{% endif %}", (1, 10)),
+        ("{% if a and or b %}{% endif %}", (1, 10)),
+        ("{% if a contains %}{% endif %}", (1, 10)),
+        ("{% if contains a %}{% endif %}", (1, 10)),
+        ("{% if a == b == c %}{% endif %}", (1, 10)),
+        ("{% if (a) %}{% endif %}", (1, 10)),
+        ("{% if a > -9223372036854775809 %}{% endif %}", (1, 16)),
+    ];
+    named(&rt, rt.alloc(), &rows)
+}
+
+#[test]
+fn refuses_parts_of_tags(rt: HostRuntime) -> Result<(), Fail> {
+    let rows = [
         // parts that are missing, doubled or misplaced
         ("{% assign a %}", (1, 10)),
         ("{% assign a = %}", (1, 10)),
@@ -141,29 +272,98 @@ fn names_the_first_fault(rt: HostRuntime) -> Result<(), Fail> {
         ("\n\n{% else %}", (3, 10)),
         ("\n{% endraw %}", (2, 10)),
         ("\n{% endcomment %}", (2, 10)),
-        // what has no end
-        ("{% if a %}", (1, 10)),
-        ("{% if a %}\n{% for x in y %}", (2, 10)),
-        ("{% if a %}\n{% for x in y %}{% endfor %}", (1, 10)),
-        ("a\n{% raw %}{{ b }}", (2, 10)),
-        ("\n{% comment %} {% if %}", (2, 10)),
-        (
-            "{%comment%}{%comment%}{%endcomment%}\n{%endcomment%}",
-            (2, 10),
-        ),
-        // the first by place
-        ("{% if a %}\n\n{{ b | }}\n{{ c", (3, 10)),
-        ("{{ a }}\n{% foo %}{% if %}", (2, 11)),
-        (
-            "{% for a in b %}\n{% endif %}\n{{ 9223372036854775808 }}",
-            (2, 10),
-        ),
-        ("{{ 9223372036854775808 }}\n{% endif %}", (1, 16)),
     ];
-    for (text, first) in rows {
-        assert!(rt; fault(rt.alloc(), text)? == Some(first), "at {text:?}");
-    }
-    Ok(())
+    named(&rt, rt.alloc(), &rows)
+}
+
+#[test]
+fn refuses_tags(rt: HostRuntime) -> Result<(), Fail> {
+    let rows = [
+        // tags
+        ("{% assign %}", (1, 10)),
+        ("{% assign a b = c %}", (1, 10)),
+        ("{% assign a = b = c %}", (1, 10)),
+        ("{% assign a == b %}", (1, 10)),
+        ("{% assign a.b = c %}", (1, 10)),
+        ("{% assign a = b c %}", (1, 10)),
+        ("{% assign and = b %}", (1, 10)),
+        ("{% capture 'a' %}{% endcapture %}", (1, 10)),
+        ("{% capture a %}\n{% else %}{% endcapture %}", (2, 10)),
+        ("{% unless %}{% endunless %}", (1, 10)),
+        ("{% unless a %}\n{% endif %}", (2, 10)),
+        (
+            "{% unless a %}{% else %}\n{% else %}{% endunless %}",
+            (2, 10),
+        ),
+        (
+            "{% if a %}{% elsif b %}{% else %}\n{% elsif c %}{% endif %}",
+            (2, 10),
+        ),
+        ("{% case a b %}{% endcase %}", (1, 10)),
+        ("{% case a %}\n{% endif %}", (2, 10)),
+        ("{% case a %}{% else %}\n{% else %}{% endcase %}", (2, 10)),
+        ("{% case a %}{% when 1 2 %}{% endcase %}", (1, 10)),
+        ("{% case a %}{% when or 1 %}{% endcase %}", (1, 10)),
+        ("{% case a %}{% when , 1 %}{% endcase %}", (1, 10)),
+        ("\n{% when 1 %}", (2, 10)),
+        ("\n{% elsif a %}", (2, 10)),
+        ("{% for %}{% endfor %}", (1, 10)),
+        ("{% for a %}{% endfor %}", (1, 10)),
+        ("{% for a of b %}{% endfor %}", (1, 10)),
+        ("{% for a, b in c %}{% endfor %}", (1, 10)),
+        ("{% for true in b %}{% endfor %}", (1, 10)),
+        ("{% for a in b c %}{% endfor %}", (1, 10)),
+        ("{% for a in b limit: %}{% endfor %}", (1, 10)),
+        ("{% for a in b offset:1 offset:2 %}{% endfor %}", (1, 10)),
+    ];
+    named(&rt, rt.alloc(), &rows)
+}
+
+#[test]
+fn refuses_more_tags(rt: HostRuntime) -> Result<(), Fail> {
+    let rows = [
+        // tags
+        (
+            "{% for a in (1..9223372036854775808) %}{% endfor %}",
+            (1, 16),
+        ),
+        ("{% for a in b %}\n{% elsif c %}{% endfor %}", (2, 10)),
+        (
+            "{% for a in b %}{% else %}\n{% else %}{% endfor %}",
+            (2, 10),
+        ),
+        ("{% for a in b %}\n{% endtablerow %}", (2, 10)),
+        ("{% tablerow %}{% endtablerow %}", (1, 10)),
+        (
+            "{% tablerow a in b cols:1 cols:2 %}{% endtablerow %}",
+            (1, 10),
+        ),
+        ("{% cycle 1, %}", (1, 10)),
+        ("{% cycle , 1 %}", (1, 10)),
+        ("{% cycle 1 2 %}", (1, 10)),
+        ("{% cycle : 1 %}", (1, 10)),
+        ("{% cycle a: b: c %}", (1, 10)),
+        ("{% decrement %}", (1, 10)),
+        ("{% decrement 1 %}", (1, 10)),
+        ("{% increment a b %}", (1, 10)),
+        ("{% increment true %}", (1, 10)),
+        ("{% continue a %}", (1, 10)),
+        ("{% include_relative %}", (1, 10)),
+        ("{% include a.html =b %}", (1, 10)),
+        ("{% include a.html b=1, c=2 %}", (1, 10)),
+        ("{% include a.html b=9223372036854775808 %}", (1, 16)),
+        ("{% post_url %}", (1, 10)),
+        ("{% link a{{ b %}", (1, 10)),
+        ("{% raw a %}{% endraw %}", (1, 10)),
+        ("{% comment a %}{% endcomment %}", (1, 10)),
+        ("{% endunless %}", (1, 10)),
+        ("{% endcase %}", (1, 10)),
+        ("{% endfor %}", (1, 10)),
+        ("{% endtablerow %}", (1, 10)),
+        ("{% endcapture %}", (1, 10)),
+        ("{% endhighlight %}", (1, 10)),
+    ];
+    named(&rt, rt.alloc(), &rows)
 }
 
 // The texts of a template without blocks.

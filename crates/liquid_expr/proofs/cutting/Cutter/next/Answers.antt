@@ -1,4 +1,4 @@
-use Rattle.std.proofs.Common.{arith, ◌≡◌, ◌++◌, ◌+◌, ◌<◌, [], length, drop, take, sym, ap, Some, None, ◌∙◌, refl}
+use Rattle.std.proofs.Common.{arith, ◌≡◌, ◌++◌, ◌+◌, ◌<◌, [], length, drop, sym, ap, Some, None, ◌∙◌, refl}
 use Rattle.std.proofs.lemmas.List.{length-drop, length-take}
 use Rattle.liquid_grammar.specs.Pieces.{cut_is, front_of, pieces_of, line_ends, trims_after}
 use Rattle.liquid_expr.specs.Fits.{found_len}

@@ -1,0 +1,54 @@
+// What may follow something.
+ghost use Rattle.std.specs.Prelude.{◌≡◌, [], IfOk};
+ghost use Rattle.liquid_grammar.specs.ListPlaces.{list_or_none};
+
+use crate::Several;
+use site_base::{Boxed, Memory};
+use std::alloc::Global;
+use std::marker::Model;
+
+/// Values one after another, which clauses see as their list. Most often there are none, so it takes less room than `Several`
+/// where it is empty, and more where it is not.
+#[derive(Drop)]
+pub struct Extras<T> {
+    list: Option<Boxed<Several<T>>>,
+}
+
+impl<T> Model for Extras<T> {
+    ghost use Rattle.std.specs.Prelude.{List};
+    ghost use Rattle.liquid_grammar.specs.ListPlaces.{list_or_none};
+
+    ghost Value = { List T };
+
+    ghost view = { λ extras. list_or_none extras.list };
+}
+
+impl<T: Drop> Extras<T> {
+    pub fn from_several(alloc: Global, several: Several<T>) -> Result<Extras<T>, Memory>
+        ensures { IfOk result (λ extras. extras ≡ several) }
+    {
+        if several.as_slice().is_empty() {
+            return Ok(Extras { list: None });
+        }
+        let list = Some(Boxed::new(alloc, several)?);
+        Ok(Extras { list })
+    }
+}
+
+impl<T> Extras<T> {
+    /// No values.
+    pub fn none() -> Extras<T>
+        ensures { result ≡ [] }
+    {
+        Extras { list: None }
+    }
+
+    pub fn as_slice(&self) -> &[T]
+        ensures { result.now ≡ self.now }
+    {
+        match &self.list {
+            Some(list) => list.get().as_slice(),
+            None => &[],
+        }
+    }
+}
