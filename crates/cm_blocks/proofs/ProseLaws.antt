@@ -1,7 +1,7 @@
 -- A paragraph's text as the front of its lines.
 use Rattle.std.proofs.Common.{IsUtf8, List, [], ap, arith, drop, length, refl, reverse, subst, suc, sym, take, zero, ℕ, ◌+◌, ◌++◌, ◌-◌, ◌∙◌, ◌∷◌, ◌≡◌, ◌≤◌}
 use Rattle.std.specs.Str.{IsCharBoundary}
-use Rattle.std.proofs.lemmas.List.{append-nil, length-reverse, reverse-append}
+use Rattle.std.proofs.lemmas.List.{append-nil, reverse-append}
 use Rattle.std.proofs.lemmas.Str.{IsCharBoundary-from_take}
 use Rattle.markdown_grammar.specs.Bytes.{is_space}
 use Rattle.markdown_grammar.specs.Definitions.{after_definitions, definitions, total_size}

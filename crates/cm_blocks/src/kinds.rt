@@ -1,5 +1,6 @@
 // Containers and leaves as a walk over the lines holds them, and what it makes of them.
 use crate::leaf_lines::LeafLines;
+use cm_starts::HeadingLevel;
 use site_base::Text;
 
 /// A container: a block quote, or a list item by the column where its content starts behind the place
@@ -23,12 +24,12 @@ pub enum Leaf {
     },
     /// A paragraph that an underline has made a heading.
     Underlined {
-        level: u32,
+        level: HeadingLevel,
         text: LeafLines,
     },
     /// A heading by `#`.
     Heading {
-        level: usize,
+        level: HeadingLevel,
         text: Text,
     },
     Break,

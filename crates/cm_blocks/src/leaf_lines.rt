@@ -62,18 +62,18 @@ impl LeafLines {
         &text[..text.len() - 1]
     }
 
-    /// The lines as a text; it takes no memory.
-    pub(crate) fn into_text(self) -> Text
-        ensures { result ≡ self }
+    /// The lines as a text; many bytes are not copied.
+    pub(crate) fn into_text(self) -> Result<Text, Memory>
+        ensures { IfOk result (λ text. text ≡ self) }
     {
         let LeafLines { text } = self;
         Text::from_string(text)
     }
 
-    /// The first bytes as a text; it takes no memory.
-    pub(crate) fn into_front(self, count: usize) -> Text
+    /// The first bytes as a text; many bytes are not copied.
+    pub(crate) fn into_front(self, count: usize) -> Result<Text, Memory>
         requires { IsCharBoundary self count }
-        ensures { result ≡ take count self }
+        ensures { IfOk result (λ text. text ≡ take count self) }
     {
         let LeafLines { mut text } = self;
         text.truncate(count);

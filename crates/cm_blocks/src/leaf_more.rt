@@ -19,7 +19,7 @@ use crate::kinds::Leaf;
 use crate::leaf_lines::LeafLines;
 use cm_containers::{Spot, behind_white, shift};
 use cm_links::definition;
-use cm_starts::{Place, Start, line_start};
+use cm_starts::{HeadingLevel, Place, Start, line_start};
 use site_base::{Memory, Text};
 use std::alloc::Global;
 
@@ -34,7 +34,7 @@ pub(crate) enum Taken {
 #[derive(Clone, Copy)]
 enum Next {
     Text,
-    Underline(u32),
+    Underline(HeadingLevel),
     Other,
 }
 
@@ -92,15 +92,15 @@ fn next_line(
     ensures { IfOk result (λ next. next ≡ next_of (start_of (in_paragraph (holds_text text.now)) spot.column (text_at line.now spot))) }
 {
     let next = next_in(true, line, spot, white);
-    if !is_underline(next) {
+    if !is_underline(&next) {
         return Ok(next);
     }
     let has_text = has_text(alloc, text.inside())?;
     Ok(next_in(has_text, line, spot, white))
 }
 
-fn is_underline(next: Next) -> bool
-    ensures { result ≡ is_underline next }
+fn is_underline(next: &Next) -> bool
+    ensures { result ≡ is_underline next.now }
 {
     matches!(next, Next::Underline(_))
 }

@@ -11,7 +11,7 @@ use crate::leaf_lines::LeafLines;
 use crate::leaf_more::behind_definitions;
 use crate::node::Node;
 use cm_links::{Links, definition, spaces};
-use cm_starts::trim;
+use cm_starts::{HeadingLevel, trim};
 use site_base::{Memory, Text};
 use std::alloc::Global;
 
@@ -21,24 +21,38 @@ pub(crate) fn leaf_node(alloc: Global, leaf: Leaf) -> Result<Option<Node>, Memor
 {
     match leaf {
         Leaf::Paragraph { text } => paragraph(alloc, text),
-        Leaf::Underlined { level, text } => Ok(Some(Node::Heading {
-            level: level as usize,
-            text: prose(alloc, text)?,
-        })),
+        Leaf::Underlined { level, text } => underlined(alloc, level, text),
         Leaf::Heading { level, text } => Ok(Some(Node::Heading { level, text })),
         Leaf::Break => Ok(Some(Node::Break)),
-        Leaf::Indented { text, .. } => Ok(Some(Node::Code {
-            info: Text::new(alloc),
-            text: text.into_text(),
-        })),
-        Leaf::Fenced { info, text, .. } => Ok(Some(Node::Code {
-            info,
-            text: text.into_text(),
-        })),
-        Leaf::Html { text, .. } => Ok(Some(Node::Html {
-            text: text.into_text(),
-        })),
+        Leaf::Indented { text, .. } => code(Text::new(alloc), text),
+        Leaf::Fenced { info, text, .. } => code(info, text),
+        Leaf::Html { text, .. } => html(text),
     }
+}
+
+fn underlined(
+    alloc: Global,
+    level: HeadingLevel,
+    lines: LeafLines,
+) -> Result<Option<Node>, Memory>
+    ensures { IfOk result (λ found. option_to_list found ≡ node.Heading level (prose_of lines) ∷ []) }
+{
+    let text = prose(alloc, lines)?;
+    Ok(Some(Node::Heading { level, text }))
+}
+
+fn code(info: Text, lines: LeafLines) -> Result<Option<Node>, Memory>
+    ensures { IfOk result (λ found. option_to_list found ≡ node.Code info lines ∷ []) }
+{
+    let text = lines.into_text()?;
+    Ok(Some(Node::Code { info, text }))
+}
+
+fn html(lines: LeafLines) -> Result<Option<Node>, Memory>
+    ensures { IfOk result (λ found. option_to_list found ≡ node.Html lines ∷ []) }
+{
+    let text = lines.into_text()?;
+    Ok(Some(Node::Html { text }))
 }
 
 fn paragraph(alloc: Global, lines: LeafLines) -> Result<Option<Node>, Memory>
@@ -61,7 +75,7 @@ fn prose(alloc: Global, lines: LeafLines) -> Result<Text, Memory>
     let text = trim(rest);
     if rest.len() + 1 == all.len() && spaces(rest) == 0 {
         let count = text.len();
-        return Ok(lines.into_front(count));
+        return lines.into_front(count);
     }
     Text::copy(alloc, text)
 }

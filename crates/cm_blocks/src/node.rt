@@ -1,5 +1,6 @@
 // The blocks of a text in a flat list.
 use cm_links::Links;
+use cm_starts::HeadingLevel;
 use site_base::Text;
 
 /// A block. Quotes, lists and items have the number of the nodes that are inside of them, which follow
@@ -10,7 +11,7 @@ pub enum Node {
         text: Text,
     },
     Heading {
-        level: usize,
+        level: HeadingLevel,
         text: Text,
     },
     Break,

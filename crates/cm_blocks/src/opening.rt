@@ -17,7 +17,7 @@ use crate::kinds::{Container, Leaf};
 use crate::leaf_lines::LeafLines;
 use crate::leaf_more::ends_html_rest;
 use cm_containers::{Spot, behind_white, shift};
-use cm_starts::{Place, Start, line_start, list_mark};
+use cm_starts::{HeadingLevel, Place, Start, line_start, list_mark};
 use site_base::{Memory, Text};
 use std::alloc::Global;
 
@@ -223,7 +223,7 @@ pub(crate) fn leaf_of(
     }
 }
 
-fn heading(alloc: Global, level: usize, text: &str) -> Result<Option<Leaf>, Memory>
+fn heading(alloc: Global, level: HeadingLevel, text: &str) -> Result<Option<Leaf>, Memory>
     ensures { IfOk result (λ found. found ≡ Some (leaf.Heading level text.now)) }
 {
     let text = Text::copy(alloc, text)?;

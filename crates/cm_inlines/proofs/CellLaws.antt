@@ -13,6 +13,7 @@ use Rattle.cm_inlines.specs.Tokens.{Token, soft_token, text_token, tokens}
 use Rattle.cm_inlines.specs.Words.{word_tokens}
 use Rattle.cm_inlines.specs.declared.changes.Change.TheVariants.{Freeze}
 use Rattle.cm_inlines.specs.declared.node.Node.{Node}
+use Rattle.cm_spans.specs.Pieces.{mark_byte}
 use Rattle.cm_inlines.specs.declared.node.Node.TheVariants as node
 
 -- ---- one after another
@@ -222,7 +223,7 @@ three_sealed None a b c ds = refl
 
 pub bracket_nodes : (t : List ℕ) (n : Node) → NodeCase bracket_test (cells_at t n) (is_sought machine.Bracket n)
 bracket_nodes t (node.Opening o) = single_case bracket_test (bracket_cell o.is_image o.is_active (drop o.behind t)) true refl
-bracket_nodes t (node.Run r) = single_case bracket_test (run_cell r.mark r.len r.first r.opens r.closes) false refl
+bracket_nodes t (node.Run r) = single_case bracket_test (run_cell (mark_byte r.mark) r.len r.first r.opens r.closes) false refl
 bracket_nodes t node.Nothing = λ ds. pushed_none (last_cell bracket_test ds)
 bracket_nodes t (node.Words s) = λ ds. last_sealed bracket_test (λ u. refl) (word_tokens s.now) ds
 bracket_nodes t (node.Uri s) = λ ds. three_sealed (last_cell bracket_test ds) _ _ _ ds
@@ -230,7 +231,7 @@ bracket_nodes t (node.Email s) = λ ds. three_sealed (last_cell bracket_test ds)
 bracket_nodes t n = λ ds. one_sealed (last_cell bracket_test ds) _ ds
 
 pub opener_nodes : (t : List ℕ) (mark first : ℕ) (opens : Bool) (n : Node) → NodeCase (opener_test mark first opens) (cells_at t n) (is_sought (machine.Opener mark first opens) n)
-opener_nodes t mark first opens (node.Run r) = single_case (opener_test mark first opens) (run_cell r.mark r.len r.first r.opens r.closes) (machine.opens_for mark first opens r) refl
+opener_nodes t mark first opens (node.Run r) = single_case (opener_test mark first opens) (run_cell (mark_byte r.mark) r.len r.first r.opens r.closes) (machine.opens_for mark first opens r) refl
 opener_nodes t mark first opens (node.Opening o) = single_case (opener_test mark first opens) (bracket_cell o.is_image o.is_active (drop o.behind t)) false refl
 opener_nodes t mark first opens node.Nothing = λ ds. pushed_none (last_cell (opener_test mark first opens) ds)
 opener_nodes t mark first opens (node.Words s) = λ ds. last_sealed (opener_test mark first opens) (λ u. refl) (word_tokens s.now) ds

@@ -17,6 +17,7 @@ use Rattle.cm_inlines.specs.declared.node.Node.{Node}
 use Rattle.cm_inlines.specs.declared.node.Run.{Run}
 use Rattle.cm_inlines.specs.declared.node.Node.TheVariants as node
 use Rattle.cm_inlines.proofs.CellLaws.{plain-append}
+use Rattle.cm_spans.specs.Pieces.{mark_byte}
 use Rattle.cm_inlines.proofs.PlaceLaws.{change_picked, places_map}
 
 abbrev pub muted : Node → Node
@@ -137,12 +138,12 @@ closer_muted start end r ns = go r.closes where
   part : List Node
   part = take (end - start) (drop start ns)
 
-  same : last_place (is_sought (sought.Opener r.mark r.first r.opens)) (take (end - start) (drop start (all_muted ns))) ≡ last_place (is_sought (sought.Opener r.mark r.first r.opens)) part
-  same = ap (λ (zs : List Node). last_place (is_sought (sought.Opener r.mark r.first r.opens)) (take (end - start) zs)) (drop_muted start ns) ∙ ap (last_place (is_sought (sought.Opener r.mark r.first r.opens))) (take-map muted (end - start) (drop start ns)) ∙ last_muted r.mark r.first r.opens part
+  same : last_place (is_sought (sought.Opener (mark_byte r.mark) r.first r.opens)) (take (end - start) (drop start (all_muted ns))) ≡ last_place (is_sought (sought.Opener (mark_byte r.mark) r.first r.opens)) part
+  same = ap (λ (zs : List Node). last_place (is_sought (sought.Opener (mark_byte r.mark) r.first r.opens)) (take (end - start) zs)) (drop_muted start ns) ∙ ap (last_place (is_sought (sought.Opener (mark_byte r.mark) r.first r.opens))) (take-map muted (end - start) (drop start ns)) ∙ last_muted (mark_byte r.mark) r.first r.opens part
 
-  go : (b : Bool) → cond b (pair_last start (last_place (is_sought (sought.Opener r.mark r.first r.opens)) (take (end - start) (drop start (all_muted ns)))) end r (all_muted ns)) (all_muted ns)
-      ≡ all_muted (cond b (pair_last start (last_place (is_sought (sought.Opener r.mark r.first r.opens)) part) end r ns) ns)
-  go true = ap (λ (k : Option ℕ). pair_last start k end r (all_muted ns)) same ∙ nearest_muted start (last_place (is_sought (sought.Opener r.mark r.first r.opens)) part) end r ns
+  go : (b : Bool) → cond b (pair_last start (last_place (is_sought (sought.Opener (mark_byte r.mark) r.first r.opens)) (take (end - start) (drop start (all_muted ns)))) end r (all_muted ns)) (all_muted ns)
+      ≡ all_muted (cond b (pair_last start (last_place (is_sought (sought.Opener (mark_byte r.mark) r.first r.opens)) part) end r ns) ns)
+  go true = ap (λ (k : Option ℕ). pair_last start k end r (all_muted ns)) same ∙ nearest_muted start (last_place (is_sought (sought.Opener (mark_byte r.mark) r.first r.opens)) part) end r ns
   go false = refl
 
 step_muted : (start end : ℕ) (ns : List Node) → pair_at start end (all_muted ns) ≡ all_muted (pair_at start end ns)

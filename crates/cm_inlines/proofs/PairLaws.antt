@@ -20,6 +20,7 @@ use Rattle.cm_inlines.specs.declared.pairing.Outcome.{Outcome}
 use Rattle.cm_inlines.specs.declared.pairing.Outcome.TheVariants.{Shorter, UsedUp}
 use Rattle.cm_inlines.proofs.PlaceLaws.{all_front, change_listed, freeze_spares, last_found, last_none, places-append, places_range, places_split}
 use Rattle.cm_inlines.proofs.Slots.{after, change_behind, close_room, closed, get_there, live_close, only, opened, run_start, waiting-append}
+use Rattle.cm_spans.specs.Pieces.{mark_byte}
 use Rattle.cm_inlines.proofs.Walk.{closed_at, no_run_step, pair_made, run_is, sought_by, step_is, strength_some}
 
 -- ---- a place that is reached
@@ -120,7 +121,7 @@ not_closing : (start x : ℕ) (ns : List Node) → closer_of (run_at (slice_get 
 not_closing start x ns h = go (run_at (slice_get ns x)) h where
   closes : (r : Run) (b : Bool) → r.closes ≡ b → cond b (Some r) None ≡ None → pair_closer start x r ns ≡ ns
   closes r true e k = absurd cc
-  closes r false e k = ap (λ (b : Bool). cond b (pair_last start (last_place (is_sought (sought.Opener r.mark r.first r.opens)) (take (x - start) (drop start ns))) x r ns) ns) e
+  closes r false e k = ap (λ (b : Bool). cond b (pair_last start (last_place (is_sought (sought.Opener (mark_byte r.mark) r.first r.opens)) (take (x - start) (drop start ns))) x r ns) ns) e
 
   go : (o : Option Run) → closer_of o ≡ None → pair_run start x o ns ≡ ns
   go None k = refl
@@ -162,17 +163,17 @@ mod_add f a b e = omega (arith, e)
 fits_alike : (f a b : ℕ) → a % 3 ≡ b % 3 → lengths_fit f a ≡ lengths_fit f b
 fits_alike f a b e = ap (λ (k : ℕ). not (k == 0) || ((f % 3 == 0) && (a % 3 == 0))) (mod_add f a b e) ∙ ap (λ (k : ℕ). not ((f + b) % 3 == 0) || ((f % 3 == 0) && (k == 0))) e
 
-opens_alike : (closer : Run) (mark first : ℕ) (opens : Bool) (n : Option Node) → IsLike closer mark first opens → opens_at closer.mark closer.first closer.opens n ≡ false → opens_at mark first opens n ≡ false
+opens_alike : (closer : Run) (mark first : ℕ) (opens : Bool) (n : Option Node) → IsLike closer mark first opens → opens_at (mark_byte closer.mark) closer.first closer.opens n ≡ false → opens_at mark first opens n ≡ false
 opens_alike closer mark first opens None h e = refl
 opens_alike closer mark first opens (Some (node.Run r)) h e =
-    ap (λ (k : ℕ). opens_for k first opens r) h.0 ∙ ap (λ (b : Bool). opens_for closer.mark first b r) h.2 ∙ ap (λ (b : Bool). r.opens && ((r.mark == closer.mark) && (not (r.closes || closer.opens) || b))) (fits_alike r.first first closer.first h.1) ∙ e
+    ap (λ (k : ℕ). opens_for k first opens r) h.0 ∙ ap (λ (b : Bool). opens_for (mark_byte closer.mark) first b r) h.2 ∙ ap (λ (b : Bool). r.opens && (((mark_byte r.mark) == (mark_byte closer.mark)) && (not (r.closes || closer.opens) || b))) (fits_alike r.first first closer.first h.1) ∙ e
 opens_alike closer mark first opens (Some n) h e = refl
 
 none_open : (ns : List Node) (closer : Run) (m : Misses) (front : List Node) (done : List Node) (ps : List ℕ) → ps ≡ places is_live (length front) done
-    → All (λ p. p < floor_for m closer → OpensNot ns closer.mark closer.first closer.opens p) ps → NoneFrom ns ps closer (floor_for m closer) → All (OpensNot ns closer.mark closer.first closer.opens) ps
+    → All (λ p. p < floor_for m closer → OpensNot ns (mark_byte closer.mark) closer.first closer.opens p) ps → NoneFrom ns ps closer (floor_for m closer) → All (OpensNot ns (mark_byte closer.mark) closer.first closer.opens) ps
 none_open ns closer m front done ps e floors n = go n.far refl where
   Not : ℕ → Type 0
-  Not = OpensNot ns closer.mark closer.first closer.opens
+  Not = OpensNot ns (mark_byte closer.mark) closer.first closer.opens
 
   Under : ℕ → Type 0
   Under p = p < floor_for m closer → Not p
@@ -232,9 +233,9 @@ stays_missed front x ps ahead m new ns whole closer is n r p =
     let there : slice_get ns x ≡ Some h.node =
     ap (λ (zs : List Node). slice_get zs x) (h.split ∙ sym (append_assoc front h.done (h.node ∷ h.behind))) ∙ get_there (front ++ h.done) h.node h.behind x (omega (arith, h.place, length-append front h.done)) in
     let run : h.node ≡ node.Run closer = run_is h.node closer (ap run_at (sym there) ∙ c.0) in
-    let none = none_open ns closer m front h.done ps h.kept (h.floors closer.mark closer.first closer.opens) n in
+    let none = none_open ns closer m front h.done ps h.kept (h.floors (mark_byte closer.mark) closer.first closer.opens) n in
     let silent : last_place (sought_by closer) h.done ≡ None =
-    last_none (sought_by closer) h.done (quiet closer.mark closer.first closer.opens ns front h.done (h.node ∷ h.behind) (length front) h.split refl (subst (All (OpensNot ns closer.mark closer.first closer.opens)) h.kept none)) in
+    last_none (sought_by closer) h.done (quiet (mark_byte closer.mark) closer.first closer.opens ns front h.done (h.node ∷ h.behind) (length front) h.split refl (subst (All (OpensNot ns (mark_byte closer.mark) closer.first closer.opens)) h.kept none)) in
     let shape : ns ≡ front ++ (h.done ++ node.Run closer ∷ h.behind) = h.split ∙ ap (λ (y : Node). front ++ (h.done ++ y ∷ h.behind)) run in
     let same : pair_at (length front) x ns ≡ ns =
     ap (λ (k : ℕ). pair_at (length front) k ns) h.place ∙ ap (pair_at (length front) (length front + length h.done)) shape ∙ step_is front h.done closer h.behind
@@ -244,7 +245,7 @@ stays_missed front x ps ahead m new ns whole closer is n r p =
     (λ mark first opens. elim (r.floors mark first opens) as (λ z. floor_of new mark first opens ≤ x) [ inl e ↦ omega (arith, e, h.within mark first opens, h.place) | inr e ↦ omega (arith, e.1) ])
     (λ mark first opens. elim (r.floors mark first opens) as (λ z. All (λ q. q < floor_of new mark first opens → OpensNot ns mark first opens q) ps) [
       | inl e ↦ All-weaker (λ q. q < floor_of m mark first opens → OpensNot ns mark first opens q) (λ q. q < floor_of new mark first opens → OpensNot ns mark first opens q) (λ q f lt. f (omega (arith, lt, e))) ps (h.floors mark first opens)
-      | inr e ↦ All-weaker (OpensNot ns closer.mark closer.first closer.opens) (λ q. q < floor_of new mark first opens → OpensNot ns mark first opens q) (λ q f lt. opens_alike closer mark first opens (slice_get ns q) e.0 f) ps none
+      | inr e ↦ All-weaker (OpensNot ns (mark_byte closer.mark) closer.first closer.opens) (λ q. q < floor_of new mark first opens → OpensNot ns mark first opens q) (λ q f lt. opens_alike closer mark first opens (slice_get ns q) e.0 f) ps none
     ])
 
 -- ---- an opener is found
@@ -289,8 +290,8 @@ pub record Left (front a : List Node) (x : ℕ) (ahead : List ℕ) (o r : Run) (
   pub head : nat_lt k o.len ≡ true → slice_get (nodes ++ close_node k ∷ rest) 0 ≡ Some (shorter o k)
   pub so_far : pair_from (length front) (x + 1) (length rest) new ≡ whole
 
-leaves : (front a : List Node) (o : Run) (inside : List Node) (r : Run) (behind : List Node) (x : ℕ) (ahead : List ℕ) (ns new whole : List Node) → r.closes ≡ true → opens_at r.mark r.first r.opens (Some (node.Run o)) ≡ true
-    → All (λ n. is_sought (sought.Opener r.mark r.first r.opens) n ≡ false) inside → ns ≡ front ++ ((a ++ node.Run o ∷ inside) ++ node.Run r ∷ behind) → waiting 0 ((a ++ node.Run o ∷ inside) ++ node.Run r ∷ behind) ≡ Some 0
+leaves : (front a : List Node) (o : Run) (inside : List Node) (r : Run) (behind : List Node) (x : ℕ) (ahead : List ℕ) (ns new whole : List Node) → r.closes ≡ true → opens_at (mark_byte r.mark) r.first r.opens (Some (node.Run o)) ≡ true
+    → All (λ n. is_sought (sought.Opener (mark_byte r.mark) r.first r.opens) n ≡ false) inside → ns ≡ front ++ ((a ++ node.Run o ∷ inside) ++ node.Run r ∷ behind) → waiting 0 ((a ++ node.Run o ∷ inside) ++ node.Run r ∷ behind) ≡ Some 0
     → x ≡ length front + length (a ++ node.Run o ∷ inside) → ahead ≡ places is_live (x + 1) behind
     → pair_from (length front) x (suc (length behind)) ns ≡ whole
     → new ≡ open_nodes (length front + length a) o (strength o.len r.len) (close_nodes x r (strength o.len r.len) (change_each Freeze (places is_live (length front + length a + 1) inside) ns))
@@ -400,10 +401,10 @@ pairs front x ahead ns ms whole closer o outcome old new is near w p =
     h.split ∙ ap (λ (zs : List Node). front ++ (zs ++ h.node ∷ h.behind)) s.split ∙ ap (λ (zs : List Node). front ++ zs) (append_assoc a (s.node ∷ s.behind) (h.node ∷ h.behind)) ∙ sym (append_assoc front a (s.node ∷ (s.behind ++ h.node ∷ h.behind))) in
     let opener_there : slice_get ns o.place ≡ Some s.node = ap (λ (zs : List Node). slice_get zs o.place) done_is ∙ get_there (front ++ a) s.node (s.behind ++ h.node ∷ h.behind) o.place (omega (arith, place, length-append front a)) in
     let opener : s.node ≡ node.Run o.run = run_is s.node o.run (ap run_at (sym opener_there) ∙ near.run) in
-    let passes : opens_at closer.mark closer.first closer.opens (Some (node.Run o.run)) ≡ true = ap (λ (n : Node). opens_at closer.mark closer.first closer.opens (Some n)) (sym opener) ∙ ap (opens_at closer.mark closer.first closer.opens) (sym opener_there) ∙ near.passes in
+    let passes : opens_at (mark_byte closer.mark) closer.first closer.opens (Some (node.Run o.run)) ≡ true = ap (λ (n : Node). opens_at (mark_byte closer.mark) closer.first closer.opens (Some n)) (sym opener) ∙ ap (opens_at (mark_byte closer.mark) closer.first closer.opens) (sym opener_there) ∙ near.passes in
     let inside_places : drop (o.index + 1) ps ≡ places is_live (at + 1) s.behind = ap (drop (o.index + 1)) h.kept ∙ s.after in
-    let still = quiet closer.mark closer.first closer.opens ns ((front ++ a) ++ s.node ∷ []) s.behind (h.node ∷ h.behind) (at + 1) (done_is ∙ sym (append_assoc (front ++ a) (s.node ∷ []) (s.behind ++ h.node ∷ h.behind)))
-    (omega (arith, length-append (front ++ a) (s.node ∷ []), length-append front a)) (subst (All (OpensNot ns closer.mark closer.first closer.opens)) inside_places near.behind) in
+    let still = quiet (mark_byte closer.mark) closer.first closer.opens ns ((front ++ a) ++ s.node ∷ []) s.behind (h.node ∷ h.behind) (at + 1) (done_is ∙ sym (append_assoc (front ++ a) (s.node ∷ []) (s.behind ++ h.node ∷ h.behind)))
+    (omega (arith, length-append (front ++ a) (s.node ∷ []), length-append front a)) (subst (All (OpensNot ns (mark_byte closer.mark) closer.first closer.opens)) inside_places near.behind) in
     let done_run : h.done ≡ a ++ node.Run o.run ∷ s.behind = s.split ∙ ap (λ (n : Node). a ++ n ∷ s.behind) opener in
     let split : ns ≡ front ++ ((a ++ node.Run o.run ∷ s.behind) ++ node.Run closer ∷ h.behind) = h.split ∙ ap (λ (zs : List Node). front ++ (zs ++ h.node ∷ h.behind)) done_run ∙ ap (λ (n : Node). front ++ ((a ++ node.Run o.run ∷ s.behind) ++ n ∷ h.behind)) run in
     let slots : waiting 0 ((a ++ node.Run o.run ∷ s.behind) ++ node.Run closer ∷ h.behind) ≡ Some 0 = sym (ap (λ (zs : List Node). waiting 0 (zs ++ h.node ∷ h.behind)) done_run ∙ ap (λ (n : Node). waiting 0 ((a ++ node.Run o.run ∷ s.behind) ++ n ∷ h.behind)) run) ∙ h.slots in

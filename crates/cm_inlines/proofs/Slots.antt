@@ -16,6 +16,7 @@ use Rattle.cm_inlines.specs.declared.node.Run.{Run}
 use Rattle.cm_inlines.specs.declared.node.Node.TheVariants as node
 use Rattle.cm_inlines.specs.Places.{is_live, places}
 use Rattle.cm_inlines.proofs.CellLaws.{frozen}
+use Rattle.cm_spans.specs.Pieces.{mark_byte}
 use Rattle.cm_inlines.proofs.PlaceLaws.{frozen_live, places_away}
 
 -- ---- places that wait for nothing
@@ -146,7 +147,7 @@ close_room k = go (k == 2) where
   go false = refl
 
 abbrev pub piece_of_run : Run → Piece
-piece_of_run r = delimiter_run r.mark r.len r.first r.opens r.closes
+piece_of_run r = delimiter_run (mark_byte r.mark) r.len r.first r.opens r.closes
 
 -- ---- which of them are listed
 
@@ -195,7 +196,7 @@ closed t k r behind some slots = go (nat_lt k r.len) refl (nothings (r.len - 1) 
   go false e g = record {
     rest = behind;
     made = λ xs place f. ap (λ (b : Bool). cond b (set (set (xs ++ node.Run r ∷ behind) place (close_node k)) (place + 1) (shorter r k)) (set (xs ++ node.Run r ∷ behind) place (close_node k))) e ∙ set_there xs (node.Run r) behind (close_node k) place f;
-    shown = sym (ap (λ (b : Bool). cells_of (cond b (delimiter_run r.mark (r.len - k) r.first r.opens r.closes ∷ []) []) ++ cells t behind) e);
+    shown = sym (ap (λ (b : Bool). cells_of (cond b (delimiter_run (mark_byte r.mark) (r.len - k) r.first r.opens r.closes ∷ []) []) ++ cells t behind) e);
     size = refl;
     slots = ap (waiting 0) g.1 ∙ waiting_gaps 0 (r.len - 1) g.0 (omega arith) ∙ g.2;
     listed = λ at. sym (ap (λ (b : Bool). only b at ++ places is_live at behind) e);
@@ -212,7 +213,7 @@ closed t k r behind some slots = go (nat_lt k r.len) refl (nothings (r.len - 1) 
             ∙ ap (λ (zs : List Node). set zs (place + 1) (shorter r k)) (set_there xs (node.Run r) behind (close_node k) place f)
             ∙ ap (λ (zs : List Node). set (xs ++ close_node k ∷ zs) (place + 1) (shorter r k)) all
             ∙ second xs (close_node k) node.Nothing tail (shorter r k) place f;
-        shown = ap (λ (zs : List Node). run_cell r.mark (r.len - k) r.first r.opens r.closes ∷ cells t zs) (sym all) ∙ sym (ap (λ (b : Bool). cells_of (cond b (delimiter_run r.mark (r.len - k) r.first r.opens r.closes ∷ []) []) ++ cells t behind) e);
+        shown = ap (λ (zs : List Node). run_cell (mark_byte r.mark) (r.len - k) r.first r.opens r.closes ∷ cells t zs) (sym all) ∙ sym (ap (λ (b : Bool). cells_of (cond b (delimiter_run (mark_byte r.mark) (r.len - k) r.first r.opens r.closes ∷ []) []) ++ cells t behind) e);
         size = sym (ap (λ (zs : List Node). length zs) all);
         slots = waiting_gaps (r.len - k - 1) (r.len - 2) g.0 (omega (arith, some)) ∙ g.2;
         listed = λ at. ap (λ (zs : List Node). at ∷ places is_live at zs) (sym all) ∙ sym (ap (λ (b : Bool). only b at ++ places is_live at behind) e);
@@ -239,7 +240,7 @@ opened t k r inside some slots = go (nat_lt k r.len) refl (nothings (r.len - 1) 
         ∙ set_there xs (node.Run r) (map (changed Freeze) inside ++ rest) (open_node k) place f;
     shown =
         ap (λ (cs : List Cell). cs ++ cells t (map (changed Freeze) inside)) (open_cells t k) ∙ ap (λ (cs : List Cell). sealed (open_token k) ∷ cs) (frozen t inside)
-        ∙ sym (ap (λ (b : Bool). cells_of (cond b (delimiter_run r.mark (r.len - k) r.first r.opens r.closes ∷ []) []) ++ sealed (open_token k) ∷ map sealed (plain_tokens (cells t inside))) e);
+        ∙ sym (ap (λ (b : Bool). cells_of (cond b (delimiter_run (mark_byte r.mark) (r.len - k) r.first r.opens r.closes ∷ []) []) ++ sealed (open_token k) ∷ map sealed (plain_tokens (cells t inside))) e);
     slots = λ rest. ap (λ (m : ℕ). waiting m (map (changed Freeze) inside ++ rest)) (open_room k) ∙ waiting_frozen inside rest;
     size = ap (λ (x : ℕ). suc x) (length-map inside (changed Freeze));
     listed = λ at. live_open k at (map (changed Freeze) inside) ∙ places_frozen (at + 1) inside ∙ sym (ap (λ (b : Bool). only b at) e);
@@ -265,9 +266,9 @@ opened t k r inside some slots = go (nat_lt k r.len) refl (nothings (r.len - 1) 
             ∙ set_there start node.Nothing (gaps b ++ (tail ++ rest)) (open_node k) (place + (r.len - k)) size
             ∙ simp append_assoc;
         shown =
-            ap (λ (cs : List Cell). run_cell r.mark (r.len - k) r.first r.opens r.closes ∷ cs)
+            ap (λ (cs : List Cell). run_cell (mark_byte r.mark) (r.len - k) r.first r.opens r.closes ∷ cs)
             (cells_gaps t a (open_node k ∷ (gaps b ++ tail)) ∙ ap (λ (cs : List Cell). cs ++ cells t (gaps b ++ tail)) (open_cells t k) ∙ ap (λ (cs : List Cell). sealed (open_token k) ∷ cs) (cells_gaps t b tail ∙ frozen t g.0 ∙ ap (λ (cs : List Cell). map sealed (plain_tokens cs)) (sym same)))
-            ∙ sym (ap (λ (b : Bool). cells_of (cond b (delimiter_run r.mark (r.len - k) r.first r.opens r.closes ∷ []) []) ++ sealed (open_token k) ∷ map sealed (plain_tokens (cells t inside))) e);
+            ∙ sym (ap (λ (b : Bool). cells_of (cond b (delimiter_run (mark_byte r.mark) (r.len - k) r.first r.opens r.closes ∷ []) []) ++ sealed (open_token k) ∷ map sealed (plain_tokens (cells t inside))) e);
         slots = λ rest.
             ap (waiting a) (append_assoc (gaps a) (open_node k ∷ (gaps b ++ tail)) rest) ∙ waiting_gaps a a (open_node k ∷ ((gaps b ++ tail) ++ rest)) (omega arith)
             ∙ ap (λ (m : ℕ). waiting m ((gaps b ++ tail) ++ rest)) (open_room k) ∙ ap (waiting 0) (append_assoc (gaps b) tail rest) ∙ waiting_gaps 0 b (tail ++ rest) (omega arith) ∙ waiting_frozen g.0 rest;

@@ -31,6 +31,7 @@ use Rattle.cm_inlines.specs.Steps.{span_nodes}
 use Rattle.cm_inlines.specs.declared.node.Node.{Node}
 use Rattle.cm_inlines.proofs.CellLaws.{cells-append, cells_of-append}
 use Rattle.cm_inlines.proofs.Closing.{placed-append, placed_later}
+use Rattle.cm_spans.specs.Pieces.{mark_byte}
 use Rattle.cm_inlines.proofs.Slots.{after, cells_gaps, gaps, waiting-append, waiting_gaps}
 
 -- ---- the spot behind a piece
@@ -152,7 +153,7 @@ taken_few done t taken h = subst Few (sym h) (piece_few done t)
 -- ---- the nodes of a span
 
 span_cells : (t : List ℕ) (at : ℕ) (s : Span) → cells t (span_nodes s at) ≡ cells_in (piece_of s (drop at t))
-span_cells t at (span.Run m) = ap (λ (cs : List Cell). run_cell m.mark m.len m.len m.opens m.closes ∷ cs) (sym (ap (cells t) (append-nil (gaps (m.len - 1)))) ∙ cells_gaps t (m.len - 1) [])
+span_cells t at (span.Run m) = ap (λ (cs : List Cell). run_cell (mark_byte m.mark) m.len m.len m.opens m.closes ∷ cs) (sym (ap (cells t) (append-nil (gaps (m.len - 1)))) ∙ cells_gaps t (m.len - 1) [])
 span_cells t at span.Bracket = ap (λ (b : List ℕ). bracket_cell false true b ∷ []) (sym (drop-drop 1 at t))
 span_cells t at span.ImageBracket = ap (λ (b : List ℕ). bracket_cell true true b ∷ []) (sym (drop-drop 2 at t))
 span_cells t at s = refl

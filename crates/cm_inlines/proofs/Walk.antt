@@ -18,6 +18,7 @@ use Rattle.cm_inlines.specs.declared.node.Run.{Run}
 use Rattle.cm_inlines.specs.declared.node.Node.TheVariants as node
 use Rattle.cm_inlines.specs.Machine as sought
 use Rattle.cm_inlines.proofs.CellLaws.{FoundAt, FoundCell, NodesCase, cell_in, cells-append, cells_found, cells_of-append, last_cell, last_nodes, last_pieces, opener_matches, opener_nodes, opener_test, plain_is}
+use Rattle.cm_spans.specs.Pieces.{mark_byte}
 use Rattle.cm_inlines.proofs.Slots.{Closed, Opened, after, change_behind, close_cells, close_room, close_token, closed, get_there, open_token, opened, piece_of_run, run_start, waiting-append}
 
 -- ---- up to the next run
@@ -106,7 +107,7 @@ pub record HeadRun (r : Run) (ps : List Piece) (cs : List Cell) : Type 0 where
   pub shown : cs ≡ cells_of rest
 
 abbrev run_cell_of : Run → Cell
-run_cell_of r = run_cell r.mark r.len r.first r.opens r.closes
+run_cell_of r = run_cell (mark_byte r.mark) r.len r.first r.opens r.closes
 
 head_run : (r : Run) (ps : List Piece) (cs : List Cell) → run_cell_of r ∷ cs ≡ cells_of (from_run ps) → HeadRun r ps cs
 head_run r [] cs h = absurd cc
@@ -216,7 +217,7 @@ no_opener q cur h = go (last_that q cur) h where
   go (Some f) e = absurd cc
 
 abbrev closer_of : Run → Bool → Piece
-closer_of r c = delimiter_run r.mark r.len r.first r.opens c
+closer_of r c = delimiter_run (mark_byte r.mark) r.len r.first r.opens c
 
 abbrev made_with : Found → Run → Piece → Bool → List Piece × List Piece
 made_with f r p c = (f.0 ++ (shorten (strength (len_of p) r.len) p ++ stressed (strength (len_of p) r.len) (plain f.2) ∷ []), shorten (strength (len_of p) r.len) (closer_of r c))
@@ -224,11 +225,11 @@ made_with f r p c = (f.0 ++ (shorten (strength (len_of p) r.len) p ++ stressed (
 abbrev some_made : List Piece × List Piece → Option (List Piece × List Piece)
 some_made m = Some m
 
-pairs_as : (cur : List Piece) (r o : Run) (f : Found) → r.closes ≡ true → last_that (opens_for r.mark r.first r.opens) cur ≡ Some f → f.1 ≡ piece_of_run o → pair_with cur (piece_of_run r) ≡ some_made (made_with f r (piece_of_run o) r.closes)
+pairs_as : (cur : List Piece) (r o : Run) (f : Found) → r.closes ≡ true → last_that (opens_for (mark_byte r.mark) r.first r.opens) cur ≡ Some f → f.1 ≡ piece_of_run o → pair_with cur (piece_of_run r) ≡ some_made (made_with f r (piece_of_run o) r.closes)
 pairs_as cur r o f e l g =
     ap (λ (c : Bool). pair_with cur (closer_of r c)) e ∙ ap (paired r.len (closer_of r true)) l ∙ ap (λ (p : Piece). some_made (made_with f r p true)) g ∙ ap (λ (c : Bool). some_made (made_with f r (piece_of_run o) c)) (sym e)
 
-not_paired : (cur : List Piece) (r : Run) → last_that (opens_for r.mark r.first r.opens) cur ≡ None → pair_with cur (piece_of_run r) ≡ None
+not_paired : (cur : List Piece) (r : Run) → last_that (opens_for (mark_byte r.mark) r.first r.opens) cur ≡ None → pair_with cur (piece_of_run r) ≡ None
 not_paired cur r l = go r.closes where
   go : (c : Bool) → pair_with cur (closer_of r c) ≡ None
   go true = ap (paired r.len (closer_of r true)) l
@@ -273,7 +274,7 @@ pub record Between (before : List Node) (j : ℕ) (o : Run) : Type 0 where
   pub size : length front ≡ j
 
 pairing : (t : List ℕ) (front : List Node) (j : ℕ) (o : Run) (a inside : List Node) (r : Run) (behind : List Node) (cur rest : List Piece) → r.closes ≡ true → length a ≡ j
-    → OpenerOf (opens_for r.mark r.first r.opens) cur (cells t a) o (cells t inside) → cells t behind ≡ cells_of rest → waiting 0 (a ++ node.Run o ∷ (inside ++ node.Run r ∷ behind)) ≡ Some 0 → Settled cur
+    → OpenerOf (opens_for (mark_byte r.mark) r.first r.opens) cur (cells t a) o (cells t inside) → cells t behind ≡ cells_of rest → waiting 0 (a ++ node.Run o ∷ (inside ++ node.Run r ∷ behind)) ≡ Some 0 → Settled cur
     → pair_at (length front) (length front + length (a ++ node.Run o ∷ inside)) (front ++ ((a ++ node.Run o ∷ inside) ++ node.Run r ∷ behind)) ≡ pair_nodes (length front + j) o (length front + length (a ++ node.Run o ∷ inside)) r (front ++ ((a ++ node.Run o ∷ inside) ++ node.Run r ∷ behind))
     → Turn t front (a ++ node.Run o ∷ inside) r behind cur rest
 pairing t front j o a inside r behind cur rest cl n w b s h made =
@@ -317,7 +318,7 @@ opener_run mark first opens (node.Run o) h = (o, refl)
 opener_run mark first opens n h = absurd cc
 
 abbrev pub sought_by : Run → Node → Bool
-sought_by r = is_sought (sought.Opener r.mark r.first r.opens)
+sought_by r = is_sought (sought.Opener (mark_byte r.mark) r.first r.opens)
 
 abbrev pub closed_at : ℕ → Option ℕ → ℕ → Run → List Node → Bool → List Node
 closed_at start o end r ns b = cond b (pair_last start o end r ns) ns
@@ -332,29 +333,29 @@ step_is front before r behind =
     let part : take (end - start) (drop start ns) ≡ before = ap (take (end - start)) (drop-append_seam front (before ++ node.Run r ∷ behind)) ∙ ap (λ (k : ℕ). take k (before ++ node.Run r ∷ behind)) size ∙ take-append_seam before (node.Run r ∷ behind) in
     ap (λ (o : Option Node). pair_run start end (run_at o) ns) there ∙ ap (λ (xs : List Node). closed_at start (last_place (sought_by r) xs) end r ns r.closes) part
 
-turn_none : (t : List ℕ) (front before : List Node) (r : Run) (behind : List Node) (cur rest : List Piece) → r.closes ≡ true → last_place (sought_by r) before ≡ None → last_cell (opener_test r.mark r.first r.opens) (cells t before) ≡ None
+turn_none : (t : List ℕ) (front before : List Node) (r : Run) (behind : List Node) (cur rest : List Piece) → r.closes ≡ true → last_place (sought_by r) before ≡ None → last_cell (opener_test (mark_byte r.mark) r.first r.opens) (cells t before) ≡ None
     → cells t before ≡ cells_of cur → cells t behind ≡ cells_of rest → waiting 0 (before ++ node.Run r ∷ behind) ≡ Some 0 → Settled cur → Turn t front before r behind cur rest
 turn_none t front before r behind cur rest cl l n b d s h =
-    let q = opens_for r.mark r.first r.opens in
-    let qc = opener_test r.mark r.first r.opens in
-    let none : last_that q cur ≡ None = no_opener q cur (sym (last_pieces q qc (opener_matches r.mark r.first r.opens) cur) ∙ ap (last_cell qc) (sym b) ∙ n) in
+    let q = opens_for (mark_byte r.mark) r.first r.opens in
+    let qc = opener_test (mark_byte r.mark) r.first r.opens in
+    let none : last_that q cur ≡ None = no_opener q cur (sym (last_pieces q qc (opener_matches (mark_byte r.mark) r.first r.opens) cur) ∙ ap (last_cell qc) (sym b) ∙ n) in
     let ns = front ++ (before ++ node.Run r ∷ behind) in
     unpaired t front before r behind cur rest b d s h (not_paired cur r none)
     (step_is front before r behind ∙ ap (closed_at (length front) (last_place (sought_by r) before) (length front + length before) r ns) cl ∙ ap (λ (o : Option ℕ). pair_last (length front) o (length front + length before) r ns) l)
 
-turn_some : (t : List ℕ) (front before : List Node) (r : Run) (behind : List Node) (cur rest : List Piece) (j : ℕ) → r.closes ≡ true → last_place (sought_by r) before ≡ Some j → FoundAt t (sought_by r) (opener_test r.mark r.first r.opens) j before
+turn_some : (t : List ℕ) (front before : List Node) (r : Run) (behind : List Node) (cur rest : List Piece) (j : ℕ) → r.closes ≡ true → last_place (sought_by r) before ≡ Some j → FoundAt t (sought_by r) (opener_test (mark_byte r.mark) r.first r.opens) j before
     → cells t before ≡ cells_of cur → cells t behind ≡ cells_of rest → waiting 0 (before ++ node.Run r ∷ behind) ≡ Some 0 → Settled cur → Turn t front before r behind cur rest
 turn_some t front before r behind cur rest j cl l fa b d s h =
-    let q = opens_for r.mark r.first r.opens in
-    let qc = opener_test r.mark r.first r.opens in
-    let o = opener_run r.mark r.first r.opens fa.node fa.passes in
+    let q = opens_for (mark_byte r.mark) r.first r.opens in
+    let qc = opener_test (mark_byte r.mark) r.first r.opens in
+    let o = opener_run (mark_byte r.mark) r.first r.opens fa.node fa.passes in
     let a = take j before in
     let inside = drop (suc j) before in
     let split : before ≡ a ++ node.Run o.0 ∷ inside = fa.split ∙ ap (λ (n : Node). a ++ n ∷ inside) o.1 in
     let lone : run_cell_of o.0 ∷ [] ≡ fa.cell ∷ [] = ap (cells_at t) (sym o.1) ∙ fa.single in
     let cell : fa.cell ≡ run_cell_of o.0 = cc in
     let found : option_map cells_found (last_that q cur) ≡ some_cells (cells t a, run_cell_of o.0, cells t inside) =
-    sym (last_pieces q qc (opener_matches r.mark r.first r.opens) cur) ∙ ap (last_cell qc) (sym b) ∙ fa.found ∙ ap (λ (x : Cell). some_cells (cells t a, x, cells t inside)) cell in
+    sym (last_pieces q qc (opener_matches (mark_byte r.mark) r.first r.opens) cur) ∙ ap (last_cell qc) (sym b) ∙ fa.found ∙ ap (λ (x : Cell). some_cells (cells t a, x, cells t inside)) cell in
     let w = opener_of q cur (cells t a) o.0 (cells t inside) found in
     let start = length front in
     let end = length front + length (a ++ node.Run o.0 ∷ inside) in
@@ -370,8 +371,8 @@ turn_some t front before r behind cur rest j cl l fa b d s h =
     subst (λ (zs : List Node). Turn t front zs r behind cur rest) (sym split) (pairing t front j o.0 a inside r behind cur rest cl fa.size w d slots h made)
 
 turn : (t : List ℕ) (front before : List Node) (r : Run) (behind : List Node) (cur rest : List Piece) → cells t before ≡ cells_of cur → cells t behind ≡ cells_of rest → waiting 0 (before ++ node.Run r ∷ behind) ≡ Some 0 → Settled cur → Turn t front before r behind cur rest
-turn t front before r behind cur rest b d s h = go r.closes refl (last_place (sought_by r) before) refl (last_nodes t (sought_by r) (opener_test r.mark r.first r.opens) (opener_nodes t r.mark r.first r.opens) before) where
-  go : (c : Bool) → r.closes ≡ c → (o : Option ℕ) → last_place (sought_by r) before ≡ o → NodesCase t (sought_by r) (opener_test r.mark r.first r.opens) before o → Turn t front before r behind cur rest
+turn t front before r behind cur rest b d s h = go r.closes refl (last_place (sought_by r) before) refl (last_nodes t (sought_by r) (opener_test (mark_byte r.mark) r.first r.opens) (opener_nodes t (mark_byte r.mark) r.first r.opens) before) where
+  go : (c : Bool) → r.closes ≡ c → (o : Option ℕ) → last_place (sought_by r) before ≡ o → NodesCase t (sought_by r) (opener_test (mark_byte r.mark) r.first r.opens) before o → Turn t front before r behind cur rest
   go false e o l n = unpaired t front before r behind cur rest b d s h (closes_not cur r e) (step_is front before r behind ∙ ap (closed_at (length front) (last_place (sought_by r) before) (length front + length before) r (front ++ (before ++ node.Run r ∷ behind))) e)
   go true e None l n = turn_none t front before r behind cur rest e l n b d s h
   go true e (Some j) l n = turn_some t front before r behind cur rest j e l n b d s h

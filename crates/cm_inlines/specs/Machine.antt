@@ -5,6 +5,7 @@ use Rattle.cm_inlines.specs.declared.changes.Change.{Change}
 use Rattle.cm_inlines.specs.declared.changes.Change.TheVariants.{Calm, Freeze}
 use Rattle.cm_inlines.specs.declared.node.Node.{Node}
 use Rattle.cm_inlines.specs.declared.node.Run.{Run}
+use Rattle.cm_spans.specs.Pieces.{mark_byte}
 use Rattle.cm_inlines.specs.declared.node.Node.TheVariants as node
 
 -- ---- changes
@@ -36,7 +37,7 @@ run_at (Some (node.Run r)) = Some r
 run_at other = None
 
 abbrev pub opens_for : ℕ → ℕ → Bool → Run → Bool
-opens_for mark first opens r = r.opens && ((r.mark == mark) && (not (r.closes || opens) || lengths_fit r.first first))
+opens_for mark first opens r = r.opens && (((mark_byte r.mark) == mark) && (not (r.closes || opens) || lengths_fit r.first first))
 
 abbrev pub is_sought : Sought → Node → Bool
 is_sought Bracket (node.Opening o) = true
@@ -81,7 +82,7 @@ pair_last start None end closer ns = ns
 pair_last start (Some k) end closer ns = pair_found (start + k) (run_at (slice_get ns (start + k))) end closer ns
 
 abbrev pub pair_closer : ℕ → ℕ → Run → List Node → List Node
-pair_closer start end r ns = if r.closes then pair_last start (last_place (is_sought (Opener r.mark r.first r.opens)) (take (end - start) (drop start ns))) end r ns else ns
+pair_closer start end r ns = if r.closes then pair_last start (last_place (is_sought (Opener (mark_byte r.mark) r.first r.opens)) (take (end - start) (drop start ns))) end r ns else ns
 
 abbrev pub pair_run : ℕ → ℕ → Option Run → List Node → List Node
 pair_run start end None ns = ns

@@ -8,6 +8,7 @@ use Rattle.cm_inlines.specs.Words.{word_tokens}
 use Rattle.cm_inlines.specs.Tokens as token
 use Rattle.cm_inlines.specs.Tokens.{Token, tokens, tree_of}
 use Rattle.cm_inlines.specs.declared.node.Node.{Node}
+use Rattle.cm_spans.specs.Pieces.{mark_byte}
 use Rattle.cm_inlines.specs.declared.node.Node.TheVariants as node
 
 -- an address that is its own text
@@ -33,9 +34,9 @@ cells_at t (node.OpenLink target) = sealed (token.open_link target.url target.ti
 cells_at t node.CloseLink = sealed token.close_link ∷ []
 cells_at t (node.OpenImage target) = sealed (token.open_image target.url target.title) ∷ []
 cells_at t node.CloseImage = sealed token.close_image ∷ []
-cells_at t (node.Marks mark len) = sealed (token.text_token (replicate len mark)) ∷ []
+cells_at t (node.Marks mark len) = sealed (token.text_token (replicate len (mark_byte mark))) ∷ []
 cells_at t (node.Bracket is_image) = sealed (token.text_token (bracket_text is_image)) ∷ []
-cells_at t (node.Run r) = run_cell r.mark r.len r.first r.opens r.closes ∷ []
+cells_at t (node.Run r) = run_cell (mark_byte r.mark) r.len r.first r.opens r.closes ∷ []
 cells_at t (node.Opening o) = bracket_cell o.is_image o.is_active (drop o.behind t) ∷ []
 cells_at t node.Nothing = []
 

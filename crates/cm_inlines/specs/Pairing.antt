@@ -12,6 +12,7 @@ use Rattle.cm_inlines.specs.declared.openers.Misses.{Misses}
 use Rattle.cm_inlines.specs.declared.openers.Opener.{Opener}
 use Rattle.cm_inlines.specs.declared.openers.Openers.{Openers}
 use Rattle.cm_inlines.specs.declared.pairing.Outcome.{Outcome}
+use Rattle.cm_spans.specs.Pieces.{mark_byte}
 use Rattle.cm_inlines.specs.declared.pairing.Outcome.TheVariants.{Shorter, Unpaired, UsedUp}
 
 -- ---- where nothing opens
@@ -24,7 +25,7 @@ abbrev pub floor_of : Misses → ℕ → ℕ → Bool → ℕ
 floor_of m mark first opens = if mark == 42 then slice_index m.stars (kind first opens) else if mark == 95 then slice_index m.underscores (kind first opens) else 0
 
 abbrev pub floor_for : Misses → Run → ℕ
-floor_for m r = floor_of m r.mark r.first r.opens
+floor_for m r = floor_of m (mark_byte r.mark) r.first r.opens
 
 -- whether a node opens for a closer
 abbrev pub opens_at : ℕ → ℕ → Bool → Option Node → Bool
@@ -36,19 +37,19 @@ OpensNot ns mark first opens p = opens_at mark first opens (slice_get ns p) ≡ 
 
 -- closers of one kind
 abbrev pub IsLike : Run → ℕ → ℕ → Bool → Type 0
-IsLike closer mark first opens = (mark ≡ closer.mark) × (first % 3 ≡ closer.first % 3) × (opens ≡ closer.opens)
+IsLike closer mark first opens = (mark ≡ (mark_byte closer.mark)) × (first % 3 ≡ closer.first % 3) × (opens ≡ closer.opens)
 
 -- the floor for closers like one is a place, and the others stay
 pub record Raised (old new : Misses) (closer : Run) (place : ℕ) : Type 0 where
   pub floors : (mark first : ℕ) (opens : Bool) → (floor_of new mark first opens ≡ floor_of old mark first opens) ⊎ IsLike closer mark first opens × (floor_of new mark first opens ≡ place)
-  pub noted : (closer.mark ≡ 42) ⊎ (closer.mark ≡ 95) → floor_for new closer ≡ place
+  pub noted : floor_for new closer ≡ place
 
 -- ---- openers
 
 -- the run, if it opens for a closer
 abbrev pub OpenerAt : Run → Option Node → Option Run → Type 0
-OpenerAt closer n (Some r) = (run_at n ≡ Some r) × (opens_at closer.mark closer.first closer.opens n ≡ true)
-OpenerAt closer n None = opens_at closer.mark closer.first closer.opens n ≡ false
+OpenerAt closer n (Some r) = (run_at n ≡ Some r) × (opens_at (mark_byte closer.mark) closer.first closer.opens n ≡ true)
+OpenerAt closer n None = opens_at (mark_byte closer.mark) closer.first closer.opens n ≡ false
 
 -- how many openers are left where one has given so many marks
 abbrev pub left_at : Opener → ℕ → ℕ
@@ -59,14 +60,14 @@ pub record Nearest (ns : List Node) (ps : List ℕ) (closer : Run) (o : Opener) 
   pub within : o.index < length ps
   pub place : o.place ≡ slice_index ps o.index
   pub run : run_at (slice_get ns o.place) ≡ Some o.run
-  pub passes : opens_at closer.mark closer.first closer.opens (slice_get ns o.place) ≡ true
-  pub behind : All (OpensNot ns closer.mark closer.first closer.opens) (drop (o.index + 1) ps)
+  pub passes : opens_at (mark_byte closer.mark) closer.first closer.opens (slice_get ns o.place) ≡ true
+  pub behind : All (OpensNot ns (mark_byte closer.mark) closer.first closer.opens) (drop (o.index + 1) ps)
 
 -- none of the places behind one opens, which is below the floor
 pub record NoneFrom (ns : List Node) (ps : List ℕ) (closer : Run) (floor : ℕ) : Type 0 where
   pub far : ℕ
   pub within : far ≤ length ps
-  pub behind : All (OpensNot ns closer.mark closer.first closer.opens) (drop far ps)
+  pub behind : All (OpensNot ns (mark_byte closer.mark) closer.first closer.opens) (drop far ps)
   pub below : 0 < far → slice_index ps (far - 1) < floor
 
 -- ---- a pair

@@ -1,4 +1,5 @@
 // The nodes of inlines.
+use cm_spans::Mark;
 use site_base::Text;
 
 /// Where a link goes, and its title if it has one.
@@ -12,7 +13,7 @@ pub struct Target {
 /// whether it can open and close emphasis.
 #[derive(Clone, Copy)]
 pub struct Run {
-    pub mark: u8,
+    pub mark: Mark,
     pub len: usize,
     pub first: usize,
     pub opens: bool,
@@ -53,7 +54,7 @@ pub enum Node<'a> {
     OpenImage(Target),
     CloseImage,
     /// Emphasis marks that are text: the mark, and how often it stands there.
-    Marks(u8, usize),
+    Marks(Mark, usize),
     /// An opening bracket that is text, of an image or not.
     Bracket(bool),
     /// Marks of which no pair was found are text.

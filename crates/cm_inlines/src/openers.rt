@@ -5,6 +5,7 @@ ghost use Rattle.cm_inlines.specs.Pairing.{Nearest, NoneFrom, OpenerAt, Raised, 
 use crate::delimiters::push_place;
 use crate::node::{Node, Run};
 use crate::runs::{opens_for, run_at};
+use cm_spans::Mark;
 use site_base::Memory;
 use std::alloc::Global;
 
@@ -126,9 +127,8 @@ impl Misses {
         ensures { result ≡ floor_for self.now closer }
     {
         match closer.mark {
-            b'*' => self.stars[kind(closer)],
-            b'_' => self.underscores[kind(closer)],
-            _ => 0,
+            Mark::Star => self.stars[kind(closer)],
+            Mark::Underscore => self.underscores[kind(closer)],
         }
     }
 
@@ -136,9 +136,8 @@ impl Misses {
         ensures { Raised self.old self.new closer place }
     {
         match closer.mark {
-            b'*' => self.stars[kind(closer)] = place,
-            b'_' => self.underscores[kind(closer)] = place,
-            _ => (),
+            Mark::Star => self.stars[kind(closer)] = place,
+            Mark::Underscore => self.underscores[kind(closer)] = place,
         }
     }
 }

@@ -26,7 +26,7 @@ pub fn read_inlines<'a>(alloc: Global, text: &'a str, links: &Links) -> Result<I
 {
     let mut nodes = Vec::new(alloc);
     let mut delimiters = Delimiters::new(alloc);
-    let mut missing = MissingEnds::new();
+    let mut missing = MissingEnds::new(alloc);
     let mut at = 0;
     while at < text.len() {
         match read_piece(

@@ -2,6 +2,7 @@
 ghost use Rattle.std.specs.Prelude.{◌≡◌, ◌≤◌, Some, slice_get};
 ghost use Rattle.markdown_grammar.specs.Emphasis as emphasis;
 ghost use Rattle.cm_inlines.specs.Machine as machine;
+ghost use Rattle.cm_spans.specs.Pieces.{mark_byte};
 
 use crate::node::{Node, Run};
 
@@ -27,7 +28,7 @@ fn run_of(node: &Node) -> Option<Run>
 
 /// Whether a run opens for a closer.
 pub(crate) fn opens_for(closer: Run, run: Run) -> bool
-    ensures { result ≡ machine.opens_for closer.mark closer.first closer.opens run }
+    ensures { result ≡ machine.opens_for (mark_byte closer.mark) closer.first closer.opens run }
 {
     run.opens
         && run.mark == closer.mark

@@ -1,6 +1,7 @@
 // Inlines as the standard's examples have them.
 use crate::{Node, Target, read_inlines};
 use cm_links::{Links, definition};
+use cm_spans::Mark;
 use std::alloc::{AllocError, Global};
 use std::test::Fail;
 
@@ -17,9 +18,9 @@ fn push_target(out: &mut String, mark: &str, target: &Target) -> Result<(), Allo
     out.push('>')
 }
 
-fn push_marks(out: &mut String, mark: u8, len: usize) -> Result<(), AllocError> {
+fn push_marks(out: &mut String, mark: Mark, len: usize) -> Result<(), AllocError> {
     for _ in 0..len {
-        out.push(mark as char)?;
+        out.push(mark.byte() as char)?;
     }
     Ok(())
 }

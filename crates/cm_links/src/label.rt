@@ -19,7 +19,7 @@ pub fn fold_label(alloc: Global, label: &str) -> Result<Text, Memory>
     ensures { IfOk result (λ folded. folded ≡ encode_utf8_all (label_key label.now)) }
 {
     let folded = folded_label(alloc, label)?;
-    Ok(Text::from_string(folded))
+    Text::from_string(folded)
 }
 
 /// The same as a string.

@@ -15,7 +15,7 @@ pub fn resolved(alloc: Global, text: &str) -> Result<Text, Memory>
     ensures { IfOk result (λ out. out ≡ grammar.resolved text.now) }
 {
     match resolve(alloc, text) {
-        Ok(out) => Ok(Text::from_string(out)),
+        Ok(out) => Text::from_string(out),
         Err(_) => Err(Memory),
     }
 }

@@ -5,16 +5,17 @@ ghost use Rattle.markdown_grammar.specs.Escaping.{escaped, escaped_byte, title_t
 ghost use Rattle.markdown_grammar.specs.CodeSpans.{spaced};
 ghost use Rattle.markdown_grammar.specs.Emphasis.{bracket_text};
 ghost use Rattle.markdown_grammar.specs.InlineHtml.{inline_html};
+ghost use Rattle.cm_spans.specs.Pieces.{mark_byte};
 ghost use Rattle.cm_print.specs.InlineNodes.{node_text, place_of};
 ghost use Rattle.cm_print.specs.InlineTokens.{image_end, link_start};
 ghost use Rattle.cm_print.specs.Writing.{Prints};
 ghost use Rattle.cm_print.specs.declared.inline_place.Place.{Place};
 
 use crate::error::HtmlError;
-use crate::escape::Escape;
 use crate::inline_place::{Place, behind};
 use crate::writer::Writer;
 use cm_inlines::{Inlines, Node, Target};
+use cm_spans::Mark;
 use site_base::Text;
 
 impl Writer {
@@ -152,8 +153,8 @@ impl Writer {
         }
     }
 
-    fn push_marks(&mut self, mark: u8, len: usize) -> Result<(), HtmlError>
-        ensures { Prints self.old self.new (escaped (replicate len mark)) result }
+    fn push_marks(&mut self, mark: Mark, len: usize) -> Result<(), HtmlError>
+        ensures { Prints self.old self.new (escaped (replicate len (mark_byte mark))) result }
     {
         for place in 0..len {
             self.push_mark(mark)?;
@@ -161,16 +162,13 @@ impl Writer {
         Ok(())
     }
 
-    fn push_mark(&mut self, mark: u8) -> Result<(), HtmlError>
-        ensures { Prints self.old self.new (escaped_byte mark) result }
+    fn push_mark(&mut self, mark: Mark) -> Result<(), HtmlError>
+        ensures { Prints self.old self.new (escaped_byte (mark_byte mark)) result }
     {
-        if !Escape::Text.is_plain(mark) {
-            return self.push(Escape::Text.reference(mark));
+        match mark {
+            Mark::Star => self.push("*"),
+            Mark::Underscore => self.push("_"),
         }
-        if !mark.is_ascii() {
-            return Err(HtmlError::Memory);
-        }
-        self.push_ascii(mark)
     }
 
     // A node in the description of an image.

@@ -10,6 +10,7 @@ use crate::error::HtmlError;
 use crate::writer::Writer;
 use cm_inlines::{Inlines, read_inlines};
 use cm_links::Links;
+use cm_starts::HeadingLevel;
 use std::alloc::Global;
 
 impl Writer {
@@ -65,7 +66,7 @@ impl Writer {
         &mut self,
         alloc: Global,
         links: &Links,
-        level: usize,
+        level: HeadingLevel,
         text: &str,
     ) -> Result<(), HtmlError>
         ensures { Reaches self.old self.new (heading_after level (prose links.now text.now) (written self.old)) result }
@@ -76,14 +77,18 @@ impl Writer {
         }
     }
 
-    fn push_heading_of(&mut self, level: usize, body: &Inlines<'_>) -> Result<(), HtmlError>
+    fn push_heading_of(&mut self, level: HeadingLevel, body: &Inlines<'_>) -> Result<(), HtmlError>
         ensures { Reaches self.old self.new (heading_after level (inline_html body.now) (written self.old)) result }
     {
         self.fresh_line()?;
         self.push_tagged_heading(level, body)
     }
 
-    fn push_tagged_heading(&mut self, level: usize, body: &Inlines<'_>) -> Result<(), HtmlError>
+    fn push_tagged_heading(
+        &mut self,
+        level: HeadingLevel,
+        body: &Inlines<'_>,
+    ) -> Result<(), HtmlError>
         ensures { Prints self.old self.new (tagged (heading_name level) (inline_html body.now)) result }
     {
         self.push_heading_tag("<h", level, ">")?;
@@ -91,15 +96,16 @@ impl Writer {
         self.push_heading_tag("</h", level, ">\n")
     }
 
-    fn push_heading_tag(&mut self, start: &str, level: usize, end: &str) -> Result<(), HtmlError>
+    fn push_heading_tag(
+        &mut self,
+        start: &str,
+        level: HeadingLevel,
+        end: &str,
+    ) -> Result<(), HtmlError>
         ensures { Prints self.old self.new (start.now ++ ((48 + level) ∷ end.now)) result }
     {
-        // No heading has a level with more than one digit.
-        if level > 9 {
-            return Err(HtmlError::Memory);
-        }
         self.push(start)?;
-        self.push_ascii(b'0' + level as u8)?;
+        self.push_ascii(level.digit())?;
         self.push(end)
     }
 }

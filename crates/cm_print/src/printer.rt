@@ -27,7 +27,10 @@ pub fn to_html(alloc: Global, text: &str, most: u64) -> Result<Text, HtmlError>
     documents_have_the_html_of_their_blocks();
     let mut printer = Printer::new(alloc, most, blocks.nodes.len());
     printer.print(alloc, &blocks.links, blocks.nodes.as_slice())?;
-    Ok(Text::from_string(printer.writer.text))
+    let Ok(html) = Text::from_string(printer.writer.text) else {
+        return Err(HtmlError::Memory);
+    };
+    Ok(html)
 }
 
 /// HTML that is being made of nodes: the innermost level of blocks, and those around it, the innermost last.

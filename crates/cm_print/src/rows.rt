@@ -156,7 +156,7 @@ pub(crate) const CONTAINERS: [(&str, &str); 30] = [
     ),
 ];
 
-pub(crate) const INLINES: [(&str, &str); 39] = [
+pub(crate) const INLINES: [(&str, &str); 41] = [
     ("a\\*b\\\nc\\q\n", "<p>a*b<br />\nc\\q</p>\n"),
     (
         "&amp; &#42; &#x1F600; &nosuch; &copy\n",
@@ -168,6 +168,11 @@ pub(crate) const INLINES: [(&str, &str); 39] = [
     ),
     ("`a\nb`\n", "<p><code>a b</code></p>\n"),
     ("`open\n", "<p>`open</p>\n"),
+    ("``a`b```c`d```e\n", "<p>``a<code>b```c</code>d```e</p>\n"),
+    (
+        "```` a ``` b `` c ` d ``` e `` f ` g\n",
+        "<p>```` a <code>b `` c ` d</code> e `` f ` g</p>\n",
+    ),
     (
         "*a* **b** ***c***\n",
         "<p><em>a</em> <strong>b</strong> <em><strong>c</strong></em></p>\n",

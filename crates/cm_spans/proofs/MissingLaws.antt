@@ -5,8 +5,10 @@ use Rattle.std.proofs.lemmas.List.{drop-drop, length-drop}
 use Rattle.markdown_grammar.specs.Fronts.{begins_with}
 use Rattle.markdown_grammar.specs.Readers.{plus, to}
 use Rattle.cm_starts.proofs.Repeats.{rest_is}
-use Rattle.cm_spans.specs.Missing.{Lacks, LacksWord}
+use Rattle.cm_spans.specs.Missing.{Lacks, LacksRuns, LacksWord}
+use Rattle.cm_spans.proofs.RunLaws.{runs_later}
 use Rattle.cm_spans.specs.declared.missing_ends.MissingEnds.{MissingEnds}
+use Rattle.cm_spans.specs.declared.missing_runs.MissingRuns.{MissingRuns}
 
 plus_none : (o : Option ℕ) → plus 1 o ≡ None → o ≡ None
 plus_none None h = refl
@@ -51,8 +53,8 @@ lacks_whole w t rest k old new le e h found same = go (nat_lt (length rest) new)
 none_missing : (w t : List ℕ) → LacksWord w 0 t
 none_missing w t = let all : length t - 0 ≡ length t = omega arith in ap (λ (n : ℕ). to w (drop n t)) all ∙ ap (to w) (drop-length t)
 
-pub lacks_none : (t : List ℕ) → Lacks (record { comment = 0; instruction = 0; declaration = 0; cdata = 0 }) t
-lacks_none t = record { comment = none_missing (codes "-->") t; instruction = none_missing (codes "?>") t; declaration = none_missing (codes ">") t; cdata = none_missing (codes "]]>") t }
+pub lacks_none : (runs : MissingRuns) (t : List ℕ) → LacksRuns runs.known.items t → Lacks (record { comment = 0; instruction = 0; declaration = 0; cdata = 0; backticks = runs }) t
+lacks_none runs t h = record { comment = none_missing (codes "-->") t; instruction = none_missing (codes "?>") t; declaration = none_missing (codes ">") t; cdata = none_missing (codes "]]>") t; backticks = h }
 
 pub lacks_all_later : (e : MissingEnds) (t : List ℕ) (k : ℕ) → Lacks e t → Lacks e (drop k t)
 lacks_all_later e t k h = record {
@@ -60,4 +62,5 @@ lacks_all_later e t k h = record {
   instruction = lacks_later (codes "?>") t e.instruction k h.instruction;
   declaration = lacks_later (codes ">") t e.declaration k h.declaration;
   cdata = lacks_later (codes "]]>") t e.cdata k h.cdata;
+  backticks = runs_later e.backticks.known.items t k h.backticks;
 }

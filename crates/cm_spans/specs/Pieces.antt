@@ -5,18 +5,25 @@ use Rattle.markdown_grammar.specs.CodeSpans as grammar
 use Rattle.markdown_grammar.specs.Inlines.{code_span, hard_break, no_inlines, raw_html, soft_break, textual}
 use Rattle.markdown_grammar.specs.Pieces.{Piece, delimiter_run, finished, open_bracket, run_at}
 use Rattle.markdown_grammar.specs.Autolinks.{email, pointed}
-use Rattle.markdown_grammar.specs.Bytes.{exclamation_mark, left_bracket, line_feed, space}
+use Rattle.markdown_grammar.specs.Bytes.{exclamation_mark, left_bracket, line_feed, space, star, underscore}
 use Rattle.markdown_grammar.specs.Flanking.{char_after, char_before}
 use Rattle.markdown_grammar.specs.Fronts.{first_byte, run_len}
 use Rattle.markdown_grammar.specs.Spans.{between_ends, spaces_at, textual_at, to_link}
 use Rattle.markdown_grammar.specs.Tags.{html_tag}
+use Rattle.cm_spans.specs.declared.flanking.Mark.{Mark}
+use Rattle.cm_spans.specs.declared.flanking.Mark.TheVariants.{Star, Underscore}
 use Rattle.cm_spans.specs.declared.flanking.Marks.{Marks}
 use Rattle.cm_spans.specs.declared.spans.Span.{Span}
 use Rattle.cm_spans.specs.declared.spans.Taken.{Taken}
 use Rattle.cm_spans.specs.declared.spans.Span.TheVariants as span
 
+-- the byte of a mark
+abbrev pub mark_byte : Mark → ℕ
+mark_byte Star = star
+mark_byte Underscore = underscore
+
 abbrev pub run_of : Marks → Piece
-run_of m = delimiter_run m.mark m.len m.len m.opens m.closes
+run_of m = delimiter_run (mark_byte m.mark) m.len m.len m.opens m.closes
 
 -- a span at the front of a text
 abbrev pub piece_of : Span → List ℕ → Piece

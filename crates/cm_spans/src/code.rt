@@ -1,10 +1,15 @@
 // Code spans.
-ghost use Rattle.std.specs.Prelude.{◌≡◌, ◌≤◌, ◌-◌, IfSome, length, not};
+ghost use Rattle.std.specs.Prelude.{◌≡◌, ◌≤◌, ◌<◌, ◌-◌, ◌==◌, IfSome, drop, length, not};
+ghost use Rattle.std.specs.Str.{IsCharBoundary};
+ghost use Rattle.markdown_grammar.specs.Bytes.{backtick};
 ghost use Rattle.markdown_grammar.specs.CodeSpans as grammar;
-ghost use Rattle.markdown_grammar.specs.Fronts.{has_one};
+ghost use Rattle.markdown_grammar.specs.Fronts.{has_one, run_len};
 ghost use Rattle.std.specs.Bool.{OnTrue};
 ghost use Rattle.cm_spans.specs.Code.{is_blank, is_padded};
 ghost use Rattle.cm_links.specs.Cuts.{Encloses};
+ghost use Rattle.cm_spans.specs.Missing.{LacksRuns};
+
+use crate::missing_runs::MissingRuns;
 
 /// How many bytes stand up to and with the next run of just n backticks, or none where there is no such run.
 pub fn code_end(n: usize, text: &str) -> Option<usize>
@@ -26,6 +31,28 @@ pub fn code_end(n: usize, text: &str) -> Option<usize>
         i += 1;
     }
     if current == n { Some(i) } else { None }
+}
+
+/// How many bytes stand behind the n backticks that a text begins with, up to and with the next run of just n, or none where there is no
+/// such run. `missing` are runs that the text is known to lack.
+pub(crate) fn next_run(n: usize, text: &str, missing: &mut MissingRuns) -> Option<usize>
+    requires some { 0 < n }
+    requires all { n ≡ run_len (λ c. c == backtick) text.now }
+    requires lacks { LacksRuns missing.old.known.items text.now }
+    requires cut { IsCharBoundary text.now n }
+    ensures value { result ≡ grammar.before_run n 0 (drop n text.now) }
+    ensures kept { LacksRuns missing.new.known.items text.now }
+{
+    if missing.lacks(n, text) {
+        return None;
+    }
+    match code_end(n, &text[n..]) {
+        Some(len) => Some(len),
+        None => {
+            missing.note(text.as_bytes());
+            None
+        }
+    }
 }
 
 /// The text of a code span, from what stands between its backticks, in which line ends still stand

@@ -5,14 +5,40 @@ ghost use Rattle.markdown_grammar.specs.Bytes as bytes;
 ghost use Rattle.markdown_grammar.specs.Flanking as grammar;
 ghost use Rattle.markdown_grammar.specs.Fronts.{run_len};
 ghost use Rattle.markdown_grammar.specs.Pieces.{run_at};
-ghost use Rattle.cm_spans.specs.Pieces.{run_of};
+ghost use Rattle.cm_spans.specs.Pieces.{mark_byte, run_of};
 
 use ucd_category::{GeneralCategory, GeneralCategoryGroup};
+
+/// A mark of emphasis.
+#[derive(Clone, Copy, PartialEq, Eq)]
+pub enum Mark {
+    /// `*`
+    Star,
+    /// `_`
+    Underscore,
+}
+
+impl Mark {
+    ghost use Rattle.std.specs.Prelude.{◌≡◌, ◌<◌};
+    ghost use Rattle.cm_spans.specs.Pieces.{mark_byte};
+
+    /// The byte that it is.
+    pub fn byte(self) -> u8
+        ensures value { result ≡ mark_byte self }
+        ensures some { 0 < result }
+        ensures ascii { result < 128 }
+    {
+        match self {
+            Mark::Star => b'*',
+            Mark::Underscore => b'_',
+        }
+    }
+}
 
 /// A run of emphasis marks: the mark, how many there are, and whether they can open and close emphasis.
 #[derive(Clone, Copy)]
 pub struct Marks {
-    pub mark: u8,
+    pub mark: Mark,
     pub len: usize,
     pub opens: bool,
     pub closes: bool,
@@ -123,23 +149,23 @@ fn is_right_flanking(before: char, after: char) -> bool
 }
 
 /// A run of marks between two characters.
-pub(crate) fn marks_between(mark: u8, len: usize, before: char, after: char) -> Marks
-    ensures { run_of result ≡ run_at mark len before after }
+pub(crate) fn marks_between(mark: Mark, len: usize, before: char, after: char) -> Marks
+    ensures { run_of result ≡ run_at (mark_byte mark) len before after }
 {
     let left = is_left_flanking(before, after);
     let right = is_right_flanking(before, after);
-    if mark == b'*' {
-        return Marks {
+    match mark {
+        Mark::Star => Marks {
             mark,
             len,
             opens: left,
             closes: right,
-        };
-    }
-    Marks {
-        mark,
-        len,
-        opens: left && (!right || is_unicode_punctuation(before)),
-        closes: right && (!left || is_unicode_punctuation(after)),
+        },
+        Mark::Underscore => Marks {
+            mark,
+            len,
+            opens: left && (!right || is_unicode_punctuation(before)),
+            closes: right && (!left || is_unicode_punctuation(after)),
+        },
     }
 }

@@ -7,14 +7,18 @@ mod classes;
 mod code;
 mod flanking;
 mod missing_ends;
+mod missing_runs;
 mod spans;
 mod tags;
 mod words;
 
 pub use autolinks::{email, uri};
 pub use code::{code_end, code_text};
-pub use flanking::{Marks, char_after, char_before, is_unicode_punctuation, is_unicode_white};
+pub use flanking::{
+    Mark, Marks, char_after, char_before, is_unicode_punctuation, is_unicode_white,
+};
 pub use missing_ends::MissingEnds;
+pub use missing_runs::MissingRuns;
 pub use spans::{Span, Taken, byte_at, span_at};
 pub use tags::html_tag;
 pub use words::words_len;

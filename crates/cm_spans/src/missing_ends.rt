@@ -1,8 +1,11 @@
-// Ends of raw HTML that a text lacks.
+// Ends of raw HTML and of code spans that a text lacks.
 
-/// Ends of raw HTML that were looked for in vain: for each, how many bytes at the end of the text hold none. There it is not
-/// looked for again.
-#[derive(Clone, Copy)]
+use crate::missing_runs::MissingRuns;
+use std::alloc::Global;
+
+/// Ends of raw HTML and of code spans that were looked for in vain: for each, how many bytes at the end of the text hold none. There
+/// it is not looked for again.
+#[derive(Drop)]
 pub struct MissingEnds {
     /// `-->`
     pub comment: usize,
@@ -12,6 +15,8 @@ pub struct MissingEnds {
     pub declaration: usize,
     /// `]]>`
     pub cdata: usize,
+    /// Runs of backticks.
+    pub backticks: MissingRuns,
 }
 
 impl MissingEnds {
@@ -19,7 +24,7 @@ impl MissingEnds {
     ghost use Rattle.cm_spans.specs.Missing.{Lacks};
 
     /// Nothing has been looked for.
-    pub fn new() -> MissingEnds
+    pub fn new(alloc: Global) -> MissingEnds
         ensures { (t : List ℕ) → Lacks result t }
     {
         MissingEnds {
@@ -27,6 +32,7 @@ impl MissingEnds {
             instruction: 0,
             declaration: 0,
             cdata: 0,
+            backticks: MissingRuns::new(alloc),
         }
     }
 }

@@ -8,14 +8,15 @@ ghost use Rattle.markdown_grammar.specs.Fronts.{first_byte, run_len};
 ghost use Rattle.cm_spans.specs.Classes.{is_in};
 ghost use Rattle.cm_spans.specs.declared.classes.Class.TheVariants.{Textual};
 ghost use Rattle.cm_links.specs.Cuts.{IsLabelled};
-ghost use Rattle.cm_spans.specs.Missing.{Lacks};
-ghost use Rattle.cm_spans.specs.Pieces.{bracket_or_text, email_or_html, html_or_text, marks_at, taken_of};
+ghost use Rattle.cm_spans.specs.Missing.{Lacks, LacksRuns};
+ghost use Rattle.cm_spans.specs.Pieces.{bracket_or_text, email_or_html, html_or_text, mark_byte, marks_at, taken_of};
 
 use crate::autolinks::{email, uri};
 use crate::classes::{Class, class_run};
-use crate::code::{code_end, code_text};
-use crate::flanking::{Marks, char_after, char_before, marks_between};
+use crate::code::{code_text, next_run};
+use crate::flanking::{Mark, Marks, char_after, char_before, marks_between};
 use crate::missing_ends::MissingEnds;
+use crate::missing_runs::MissingRuns;
 use crate::tags::html_tag;
 use cm_links::{is_punctuation, reference};
 use cm_starts::run;
@@ -49,8 +50,8 @@ pub struct Taken<'a> {
     pub len: usize,
 }
 
-/// What stands at a place of a text before its end. A closing bracket is text here. `missing` are ends of raw HTML that the text
-/// is known to lack from there on.
+/// What stands at a place of a text before its end. A closing bracket is text here. `missing` are ends that the text is known to
+/// lack from there on.
 pub fn span_at<'a>(text: &'a str, at: usize, missing: &mut MissingEnds) -> Taken<'a>
     requires start { IsCharBoundary text.now at }
     requires before_end { at < length text.now }
@@ -68,13 +69,16 @@ pub fn span_at<'a>(text: &'a str, at: usize, missing: &mut MissingEnds) -> Taken
         return character(rest);
     }
     if c == b'`' {
-        return code_span(rest);
+        return code_span(rest, &mut missing.backticks);
     }
     if c == b'<' {
         return pointed(rest, missing);
     }
-    if c == b'*' || c == b'_' {
-        return marks(text, at, c);
+    if c == b'*' {
+        return marks(text, at, Mark::Star);
+    }
+    if c == b'_' {
+        return marks(text, at, Mark::Underscore);
     }
     bracket_or_text(rest)
 }
@@ -159,13 +163,15 @@ fn character<'a>(text: &'a str) -> Taken<'a>
 }
 
 // Backticks.
-fn code_span<'a>(text: &'a str) -> Taken<'a>
-    requires { first_byte text.now ≡ 96 }
+fn code_span<'a>(text: &'a str, missing: &mut MissingRuns) -> Taken<'a>
+    requires start { first_byte text.now ≡ 96 }
+    requires lacks { LacksRuns missing.old.known.items text.now }
     ensures value { taken_of result text.now ≡ code.code_at text.now }
     ensures ends { Ends text.now result.len }
+    ensures kept { LacksRuns missing.new.known.items text.now }
 {
     let n = run(text, b'`');
-    match code_end(n, &text[n..]) {
+    match next_run(n, text, missing) {
         Some(k) => Taken {
             span: Span::Code(code_text(&text[n..k])),
             len: n + k,
@@ -239,15 +245,14 @@ fn between_ends<'a>(text: &'a str, n: usize) -> &'a str
 }
 
 // A run of a mark.
-fn marks<'a>(text: &'a str, at: usize, mark: u8) -> Taken<'a>
+fn marks<'a>(text: &'a str, at: usize, mark: Mark) -> Taken<'a>
     requires start { IsCharBoundary text.now at }
-    requires some { first_byte (drop at text.now) ≡ mark }
-    requires ascii { (0 < mark) × (mark < 128) }
-    ensures value { taken_of result (drop at text.now) ≡ marks_at mark (reverse (take at text.now)) (drop at text.now) }
+    requires some { first_byte (drop at text.now) ≡ mark_byte mark }
+    ensures value { taken_of result (drop at text.now) ≡ marks_at (mark_byte mark) (reverse (take at text.now)) (drop at text.now) }
     ensures ends { Ends (drop at text.now) result.len }
 {
     let rest = &text[at..];
-    let len = run(rest, mark);
+    let len = run(rest, mark.byte());
     let before = char_before(text, at);
     let after = char_after(&rest[len..]);
     Taken {

@@ -53,7 +53,7 @@ fn raw_html(rt: HostRuntime) {
         ("<!-- no end", None),
     ];
     for (text, len) in rows {
-        assert_eq!(rt; html_tag(text, &mut MissingEnds::new()), len);
+        assert_eq!(rt; html_tag(text, &mut MissingEnds::new(rt.alloc())), len);
     }
 }
 
@@ -112,7 +112,10 @@ fn lengths(rt: HostRuntime) {
     for (text, len) in rows {
         assert!(rt; text.is_char_boundary(0));
         assert!(rt; text.len() > 0);
-        assert_eq!(rt; span_at(text, 0, &mut MissingEnds::new()).len, len);
+        assert_eq!(rt;
+            span_at(text, 0, &mut MissingEnds::new(rt.alloc())).len,
+            len
+        );
     }
 }
 
@@ -122,7 +125,7 @@ fn breaks(rt: HostRuntime) {
     for (text, is_hard) in rows {
         assert!(rt; text.is_char_boundary(0));
         assert!(rt; text.len() > 0);
-        let span = span_at(text, 0, &mut MissingEnds::new()).span;
+        let span = span_at(text, 0, &mut MissingEnds::new(rt.alloc())).span;
         assert_eq!(rt; matches!(span, Span::HardBreak), is_hard);
         assert_eq!(rt; matches!(span, Span::SoftBreak), !is_hard);
     }

@@ -1,7 +1,7 @@
 -- Tags by their names, and tags alone on a line.
-use Rattle.std.proofs.Common.{◌≡◌, ◌∙◌, Bool, List, None, Option, Some, [], ap, arith, drop, false, length, refl, suc, sym, take, true, ℕ, ◌&&◌, ◌+◌, ◌-◌, ◌==◌, ◌∷◌, ◌≤◌}
+use Rattle.std.proofs.Common.{◌≡◌, ◌∙◌, Bool, List, None, Option, Some, [], ap, arith, drop, false, length, refl, suc, sym, take, true, ℕ, ◌&&◌, ◌+◌, ◌==◌, ◌||◌, ◌∷◌, ◌≤◌}
 use Rattle.std.proofs.lemmas.List.{length-drop}
-use Rattle.markdown_grammar.specs.Bytes.{is_alnum, is_space, lowered}
+use Rattle.markdown_grammar.specs.Bytes.{hyphen, is_alnum, is_space, lowered}
 use Rattle.markdown_grammar.specs.Fronts.{has, is_empty, run_len}
 use Rattle.markdown_grammar.specs.HtmlStarts.{alone, is_among, name_in}
 use Rattle.markdown_grammar.specs.Readers.{Reader, at_end, plus, spaces, ◌or◌, ◌then◌}
@@ -14,7 +14,7 @@ length_lowered [] = refl
 length_lowered (c ∷ cs) = ap (λ (n : ℕ). suc n) (length_lowered cs)
 
 -- a listed name, and what stands behind it
-pub starts_is : (names : List (List ℕ)) (r : Reader) (t name rest : List ℕ) (b : Bool) → name ≡ take (run_len is_alnum t) t → is_among names (lowered name) ≡ true → rest ≡ drop (length name) t
+pub starts_is : (names : List (List ℕ)) (r : Reader) (t name rest : List ℕ) (b : Bool) → name ≡ take (run_len (λ c. is_alnum c || (c == hyphen)) t) t → is_among names (lowered name) ≡ true → rest ≡ drop (length name) t
     → b ≡ has (r rest) → b ≡ (is_among names (name_in t) && has (r (drop (length (name_in t)) t)))
 starts_is names r t name rest b e h d f =
     f ∙ ap (λ (u : List ℕ). has (r u)) d ∙ ap (λ (k : ℕ). has (r (drop k t))) (sym (length_lowered name))

@@ -11,7 +11,6 @@ use crate::texts::{is_digit, is_space};
 #[derive(Clone, Copy)]
 pub(crate) enum Class {
     Space,
-    Alnum,
     TagName,
     AttributeName,
     Unquoted,
@@ -36,7 +35,6 @@ fn is_of(class: Class, c: u8) -> bool
 {
     match class {
         Class::Space => is_space(c),
-        Class::Alnum => is_alnum(c),
         Class::TagName => is_alnum(c) || c == b'-',
         Class::AttributeName => is_alnum(c) || is_one_of(b"_.:-", c),
         Class::Unquoted => !(is_white(c) || is_one_of(b"\"'=<>`", c)),

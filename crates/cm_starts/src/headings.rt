@@ -1,11 +1,14 @@
 // Headings.
-ghost use Rattle.std.specs.Prelude.{◌≡◌, ◌<◌, ◌||◌, reverse, true};
+ghost use Rattle.std.specs.Prelude.{◌≡◌, ◌<◌, ◌||◌, if◌then◌else◌, reverse, true};
 ghost use Rattle.markdown_grammar.specs.Bytes.{is_space};
 ghost use Rattle.markdown_grammar.specs.Fronts.{first_byte, is_empty};
+ghost use Rattle.markdown_grammar.specs.Lines.{trim};
 ghost use Rattle.markdown_grammar.specs.Places.{in_paragraph};
+ghost use Rattle.markdown_grammar.specs.Starts.{atx_start, text_start};
 ghost use Rattle.markdown_grammar.specs.Headings as grammar;
 ghost use Rattle.cm_starts.specs.Answers.{as_place, as_start};
 
+use crate::heading_level::HeadingLevel;
 use crate::kinds::{Place, Start};
 use crate::texts::{before_run, is_apart, is_blank, run, trim};
 
@@ -15,9 +18,18 @@ use crate::texts::{before_run, is_apart, is_blank, run, trim};
 pub fn heading<'a>(text: &'a str) -> Start<'a>
     ensures { as_start result ≡ grammar.atx_at text.now }
 {
-    let level = run(text, b'#');
-    let rest = &text[level..];
-    if level == 0 || level > 6 || !is_apart(rest) {
+    let count = run(text, b'#');
+    match HeadingLevel::of(count) {
+        Some(level) => headed(level, &text[count..]),
+        None => Start::Text,
+    }
+}
+
+// A heading of a level, by the text behind its marks.
+fn headed<'a>(level: HeadingLevel, rest: &'a str) -> Start<'a>
+    ensures { as_start result ≡ (if is_empty rest.now || is_space (first_byte rest.now) then atx_start level (grammar.without_closing (reverse (trim rest.now))) else text_start) }
+{
+    if !is_apart(rest) {
         return Start::Text;
     }
     Start::Heading {
@@ -58,9 +70,13 @@ fn underline_of_text<'a>(text: &'a str) -> Start<'a>
     ensures { as_start result ≡ grammar.underline_at (in_paragraph true) text.now }
 {
     if is_run_of(text, b'=') {
-        Start::Underline { level: 1 }
+        Start::Underline {
+            level: HeadingLevel::one(),
+        }
     } else if is_run_of(text, b'-') {
-        Start::Underline { level: 2 }
+        Start::Underline {
+            level: HeadingLevel::two(),
+        }
     } else {
         Start::Text
     }

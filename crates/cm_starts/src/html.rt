@@ -1,5 +1,5 @@
 // What starts a block of HTML.
-ghost use Rattle.std.specs.Prelude.{◌≡◌, ◌<◌, ◌≤◌, ◌&&◌, codes, length, take, drop};
+ghost use Rattle.std.specs.Prelude.{◌≡◌, ◌<◌, ◌≤◌, ◌==◌, ◌&&◌, ◌||◌, codes, length, take, drop};
 ghost use Rattle.markdown_grammar.specs.Fronts.{begins_with, first_byte, has, run_len};
 ghost use Rattle.markdown_grammar.specs.Bytes as bytes;
 ghost use Rattle.markdown_grammar.specs.HtmlStarts as grammar;
@@ -56,11 +56,10 @@ fn tagged<'a>(place: Place, text: &'a [u8]) -> Start<'a>
     requires { 0 < length text.now }
     ensures { as_start result ≡ tagged_at (as_place place) text.now }
 {
-    let tag = tag_text(text);
-    if starts_listed(tag) {
+    if starts_listed(tag_text(text)) {
         return Start::Html { kind: 6 };
     }
-    if is_fresh(place) && is_alone(text) && !is_verbatim(name_of(tag)) {
+    if is_fresh(place) && is_alone(text) && !is_verbatim(name_of(tag_text(text))) {
         return Start::Html { kind: 7 };
     }
     Start::Text
@@ -95,9 +94,9 @@ fn tag_text(text: &[u8]) -> &[u8]
 }
 
 fn name_of(text: &[u8]) -> &[u8]
-    ensures { result.now ≡ take (run_len bytes.is_alnum text.now) text.now }
+    ensures { result.now ≡ take (run_len (λ c. bytes.is_alnum c || (c == bytes.hyphen)) text.now) text.now }
 {
-    let n = class_run(Class::Alnum, text);
+    let n = class_run(Class::TagName, text);
     &text[..n]
 }
 

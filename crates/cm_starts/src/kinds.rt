@@ -1,4 +1,5 @@
 // Where a line stands, and what it starts.
+use crate::heading_level::HeadingLevel;
 
 /// Where a line stands, as far as what it may start depends on it: after no open paragraph, outside of
 /// the containers of an open paragraph, or in a paragraph, which has text beside its definitions of
@@ -15,9 +16,9 @@ pub enum Place {
 pub enum Start<'a> {
     Blank,
     Quote,
-    /// A heading by `#`: its level, from 1 to 6, and its text.
+    /// A heading by `#`: its level and its text.
     Heading {
-        level: usize,
+        level: HeadingLevel,
         text: &'a str,
     },
     /// A code fence: the columns before it, its mark, how many of them, and the info string.
@@ -33,7 +34,7 @@ pub enum Start<'a> {
     },
     /// The underline of a heading of level 1 or 2.
     Underline {
-        level: u32,
+        level: HeadingLevel,
     },
     Break,
     /// A list item: the last character of its mark, its number (1 for a bullet), and how many digits

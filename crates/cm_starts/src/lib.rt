@@ -5,6 +5,7 @@
 mod breaks;
 mod classes;
 mod fences;
+mod heading_level;
 mod headings;
 mod html;
 mod items;
@@ -17,6 +18,7 @@ mod texts;
 pub use breaks::is_thematic_break;
 pub use classes::{is_alnum, is_letter, is_one_of};
 pub use fences::{closes_fence, fence};
+pub use heading_level::HeadingLevel;
 pub use headings::{heading, underline};
 pub use html::{begins, html_block};
 pub use items::list_mark;

@@ -1,14 +1,23 @@
 // What lines start, by the standard's examples.
 use crate::{
-    Place, Start, closes_fence, fence, heading, html_block, is_thematic_break, line_start,
-    list_mark, underline,
+    HeadingLevel, Place, Start, closes_fence, fence, heading, html_block, is_thematic_break,
+    line_start, list_mark, underline,
 };
+use std::process::Abort;
 use std::test::Fail;
 
 const PARAGRAPH: Place = Place::Paragraph { has_text: true };
 
-fn headed(level: usize, text: &str) -> Start<'_> {
-    Start::Heading { level, text }
+fn told<'a>(rt: &impl Abort, start: &Start<'a>, wanted: &Start<'a>) -> Result<(), Fail> {
+    assert!(rt; start == wanted);
+    Ok(())
+}
+
+fn headed(number: usize, text: &str) -> Start<'_> {
+    match HeadingLevel::of(number) {
+        Some(level) => Start::Heading { level, text },
+        None => Start::Text,
+    }
 }
 
 fn numbered(mark: char, number: u64, digits: usize) -> Start<'static> {
@@ -39,24 +48,23 @@ fn breaks_are_told(rt: HostRuntime) -> Result<(), Fail> {
 
 #[test]
 fn headings_are_told(rt: HostRuntime) -> Result<(), Fail> {
-    let rows = [
-        ("# foo", headed(1, "foo")),
-        ("###### foo \t", headed(6, "foo")),
-        ("####### foo", Start::Text),
-        ("#5 bolt", Start::Text),
-        ("## foo ##    ", headed(2, "foo")),
-        ("### foo ### b", headed(3, "foo ### b")),
-        ("# foo#", headed(1, "foo#")),
-        ("#", headed(1, "")),
-        ("### ###", headed(3, "")),
-        ("a", Start::Text),
-        ("", Start::Text),
-    ];
-    for (text, start) in rows {
-        assert_eq!(rt; heading(text), start, "{text}");
-    }
-    let one = Start::Underline { level: 1 };
-    let two = Start::Underline { level: 2 };
+    told(&rt, &heading("# foo"), &headed(1, "foo"))?;
+    told(&rt, &heading("###### foo \t"), &headed(6, "foo"))?;
+    told(&rt, &heading("####### foo"), &Start::Text)?;
+    told(&rt, &heading("#5 bolt"), &Start::Text)?;
+    told(&rt, &heading("## foo ##    "), &headed(2, "foo"))?;
+    told(&rt, &heading("### foo ### b"), &headed(3, "foo ### b"))?;
+    told(&rt, &heading("# foo#"), &headed(1, "foo#"))?;
+    told(&rt, &heading("#"), &headed(1, ""))?;
+    told(&rt, &heading("### ###"), &headed(3, ""))?;
+    told(&rt, &heading("a"), &Start::Text)?;
+    told(&rt, &heading(""), &Start::Text)?;
+    let one = Start::Underline {
+        level: HeadingLevel::one(),
+    };
+    let two = Start::Underline {
+        level: HeadingLevel::two(),
+    };
     assert_eq!(rt; underline(PARAGRAPH, "=== "), one);
     assert_eq!(rt; underline(PARAGRAPH, "-"), two);
     assert_eq!(rt; underline(PARAGRAPH, "= ="), Start::Text);
@@ -79,20 +87,20 @@ fn fenced(mark: char, len: usize, info: &str) -> Start<'_> {
 
 #[test]
 fn fences_are_told(rt: HostRuntime) -> Result<(), Fail> {
-    let rows = [
-        ("```", fenced('`', 3, "")),
-        (
-            "~~~~    ruby startline=3 $%@#$",
-            fenced('~', 4, "ruby startline=3 $%@#$"),
-        ),
-        ("~~~ aa ``` ~~~", fenced('~', 3, "aa ``` ~~~")),
-        ("``` aa ```", Start::Text),
-        ("``", Start::Text),
-        ("", Start::Text),
-    ];
-    for (text, start) in rows {
-        assert_eq!(rt; fence(2, text), start, "{text}");
-    }
+    told(&rt, &fence(2, "```"), &fenced('`', 3, ""))?;
+    told(
+        &rt,
+        &fence(2, "~~~~    ruby startline=3 $%@#$"),
+        &fenced('~', 4, "ruby startline=3 $%@#$"),
+    )?;
+    told(
+        &rt,
+        &fence(2, "~~~ aa ``` ~~~"),
+        &fenced('~', 3, "aa ``` ~~~"),
+    )?;
+    told(&rt, &fence(2, "``` aa ```"), &Start::Text)?;
+    told(&rt, &fence(2, "``"), &Start::Text)?;
+    told(&rt, &fence(2, ""), &Start::Text)?;
     assert!(rt; closes_fence(b'`', 3, 3, "```` "));
     assert!(rt; !closes_fence(b'`', 3, 4, "```"));
     assert!(rt; !closes_fence(b'`', 3, 0, "``"));
@@ -103,23 +111,30 @@ fn fences_are_told(rt: HostRuntime) -> Result<(), Fail> {
 
 #[test]
 fn items_are_told(rt: HostRuntime) -> Result<(), Fail> {
-    let rows = [
-        (Place::Fresh, "- a", numbered('-', 1, 0)),
-        (Place::Beside, "*", numbered('*', 1, 0)),
-        (PARAGRAPH, "*", Start::Text),
-        (Place::Fresh, "-a", Start::Text),
-        (Place::Fresh, "123456789. ok", numbered('.', 123_456_789, 9)),
-        (Place::Fresh, "1234567890. not ok", Start::Text),
-        (Place::Fresh, "003) ok", numbered(')', 3, 3)),
-        (Place::Fresh, "-1. not ok", Start::Text),
-        (PARAGRAPH, "14. a", Start::Text),
-        (PARAGRAPH, "1. a", numbered('.', 1, 1)),
-        (Place::Fresh, "1", Start::Text),
-        (Place::Fresh, "", Start::Text),
-    ];
-    for (place, text, start) in rows {
-        assert_eq!(rt; list_mark(place, text), start, "{text}");
-    }
+    told(&rt, &list_mark(Place::Fresh, "- a"), &numbered('-', 1, 0))?;
+    told(&rt, &list_mark(Place::Beside, "*"), &numbered('*', 1, 0))?;
+    told(&rt, &list_mark(PARAGRAPH, "*"), &Start::Text)?;
+    told(&rt, &list_mark(Place::Fresh, "-a"), &Start::Text)?;
+    told(
+        &rt,
+        &list_mark(Place::Fresh, "123456789. ok"),
+        &numbered('.', 123_456_789, 9),
+    )?;
+    told(
+        &rt,
+        &list_mark(Place::Fresh, "1234567890. not ok"),
+        &Start::Text,
+    )?;
+    told(
+        &rt,
+        &list_mark(Place::Fresh, "003) ok"),
+        &numbered(')', 3, 3),
+    )?;
+    told(&rt, &list_mark(Place::Fresh, "-1. not ok"), &Start::Text)?;
+    told(&rt, &list_mark(PARAGRAPH, "14. a"), &Start::Text)?;
+    told(&rt, &list_mark(PARAGRAPH, "1. a"), &numbered('.', 1, 1))?;
+    told(&rt, &list_mark(Place::Fresh, "1"), &Start::Text)?;
+    told(&rt, &list_mark(Place::Fresh, ""), &Start::Text)?;
     Ok(())
 }
 
@@ -138,6 +153,7 @@ fn html_is_told(rt: HostRuntime) -> Result<(), Fail> {
         (Place::Fresh, "<a href='b' c=\"d\" e=f g>  ", 7),
         (Place::Fresh, "<i />", 7),
         (Place::Fresh, "</ins >", 7),
+        (Place::Fresh, "<pre-a>", 7),
     ];
     for (place, text, kind) in rows {
         assert_eq!(rt; html_block(place, text), Start::Html { kind }, "{text}");
@@ -149,6 +165,7 @@ fn html_is_told(rt: HostRuntime) -> Result<(), Fail> {
         (Place::Fresh, "<a b=>"),
         (Place::Fresh, "<a b='c'd>"),
         (Place::Fresh, "</pre>"),
+        (Place::Fresh, "<pre/>"),
         (Place::Fresh, "</a b>"),
         (Place::Fresh, "<divs"),
         (Place::Fresh, "<33>"),
@@ -163,25 +180,38 @@ fn html_is_told(rt: HostRuntime) -> Result<(), Fail> {
 
 #[test]
 fn marks_are_tried_in_their_order(rt: HostRuntime) -> Result<(), Fail> {
-    let rows = [
-        (Place::Fresh, 0, "", Start::Blank),
-        (Place::Fresh, 9, "", Start::Blank),
-        (PARAGRAPH, 3, "> a", Start::Quote),
-        (PARAGRAPH, 0, "---", Start::Underline { level: 2 }),
-        (Place::Fresh, 0, "---", Start::Break),
-        (Place::Fresh, 0, "- -", numbered('-', 1, 0)),
-        (Place::Fresh, 0, "* * *", Start::Break),
-        (Place::Fresh, 0, "===", Start::Text),
-        (Place::Fresh, 0, "# a", headed(1, "a")),
-        (Place::Fresh, 2, "~~~ a", fenced('~', 3, "a")),
-        (Place::Fresh, 0, "<div>", Start::Html { kind: 6 }),
-        (Place::Fresh, 4, "> a", Start::Indented),
-        (Place::Beside, 4, "> a", Start::Text),
-        (PARAGRAPH, 4, "> a", Start::Text),
-        (Place::Fresh, 0, "a", Start::Text),
-    ];
-    for (place, indent, text, start) in rows {
-        assert_eq!(rt; line_start(place, indent, text), start, "{text}");
-    }
+    told(&rt, &line_start(Place::Fresh, 0, ""), &Start::Blank)?;
+    told(&rt, &line_start(Place::Fresh, 9, ""), &Start::Blank)?;
+    told(&rt, &line_start(PARAGRAPH, 3, "> a"), &Start::Quote)?;
+    told(
+        &rt,
+        &line_start(PARAGRAPH, 0, "---"),
+        &Start::Underline {
+            level: HeadingLevel::two(),
+        },
+    )?;
+    told(&rt, &line_start(Place::Fresh, 0, "---"), &Start::Break)?;
+    told(
+        &rt,
+        &line_start(Place::Fresh, 0, "- -"),
+        &numbered('-', 1, 0),
+    )?;
+    told(&rt, &line_start(Place::Fresh, 0, "* * *"), &Start::Break)?;
+    told(&rt, &line_start(Place::Fresh, 0, "==="), &Start::Text)?;
+    told(&rt, &line_start(Place::Fresh, 0, "# a"), &headed(1, "a"))?;
+    told(
+        &rt,
+        &line_start(Place::Fresh, 2, "~~~ a"),
+        &fenced('~', 3, "a"),
+    )?;
+    told(
+        &rt,
+        &line_start(Place::Fresh, 0, "<div>"),
+        &Start::Html { kind: 6 },
+    )?;
+    told(&rt, &line_start(Place::Fresh, 4, "> a"), &Start::Indented)?;
+    told(&rt, &line_start(Place::Beside, 4, "> a"), &Start::Text)?;
+    told(&rt, &line_start(PARAGRAPH, 4, "> a"), &Start::Text)?;
+    told(&rt, &line_start(Place::Fresh, 0, "a"), &Start::Text)?;
     Ok(())
 }

@@ -1,6 +1,6 @@
 -- What starts and ends an HTML block, of seven kinds: CommonMark 0.31.2, section 4.6.
 use Rattle.std.specs.Prelude.{Bool, List, [], codes, drop, false, if◌then◌else◌, length, not, take, true, ℕ, ◌&&◌, ◌==◌, ◌||◌, ◌∷◌}
-use Rattle.markdown_grammar.specs.Bytes.{is_alnum, is_letter, is_space, less_than, lowered, slash}
+use Rattle.markdown_grammar.specs.Bytes.{hyphen, is_alnum, is_letter, is_space, less_than, lowered, slash}
 use Rattle.markdown_grammar.specs.Fronts.{begins_with, first_byte, has, run_len, same_bytes}
 use Rattle.markdown_grammar.specs.Places.{Place, is_fresh}
 use Rattle.markdown_grammar.specs.Readers.{Reader, ahead, at_end, exactly, spaces, to, ◌or◌, ◌then◌}
@@ -32,9 +32,9 @@ block_names =
 abbrev pub tag_end : Reader
 tag_end = at_end or ahead is_space or exactly (codes ">")
 
--- the name after `<` or `</`
+-- the name after `<` or `</`: letters, digits and hyphens
 abbrev pub name_in : List ℕ → List ℕ
-name_in t = lowered (take (run_len is_alnum t) t)
+name_in t = lowered (take (run_len (λ c. is_alnum c || (c == hyphen)) t) t)
 
 -- a tag of kind 1 stands behind `<`
 abbrev pub starts_verbatim : List ℕ → Bool
@@ -44,7 +44,7 @@ starts_verbatim t = let n = name_in t in is_among verbatim_names n && has (tag_e
 abbrev pub starts_listed : List ℕ → Bool
 starts_listed t = let n = name_in t in is_among block_names n && has ((tag_end or exactly (codes "/>")) (drop (length n) t))
 
--- a whole tag alone on its line, with a name that is not verbatim
+-- a whole tag alone on its line
 abbrev pub alone : Reader
 alone = (open_tag or closing_tag) then spaces then at_end
 
@@ -52,7 +52,7 @@ alone = (open_tag or closing_tag) then spaces then at_end
 abbrev pub tag_text : List ℕ → List ℕ
 tag_text t = drop (if first_byte (drop 1 t) == slash then 2 else 1) t
 
--- the kind that a line starts; kind 7 only where no paragraph is open
+-- the kind that a line starts; kind 7 only where no paragraph is open, and not by a tag with a verbatim name
 abbrev pub html_at : Place → List ℕ → Start
 html_at place t = if not (first_byte t == less_than) then text_start
     else if starts_verbatim (drop 1 t) then html_start 1

@@ -121,3 +121,11 @@ html_blocks_29 = refl
 html_blocks_30 : html (codes "<search>\n*a*\n</search>\n") ≡ codes "<search>\n*a*\n</search>\n"
 unfolding html
 html_blocks_30 = refl
+
+html_blocks_31 : html (codes "<pre/>\n") ≡ codes "<p><pre/></p>\n"
+unfolding html
+html_blocks_31 = refl
+
+html_blocks_32 : html (codes "<pre-a>\n*b*\n") ≡ codes "<pre-a>\n*b*\n"
+unfolding html
+html_blocks_32 = refl

@@ -1,6 +1,5 @@
-use Rattle.std.proofs.Common.{List, arith, ap, subst, ℕ, ◌∙◌}
+use Rattle.std.proofs.Common.{arith, ◌∙◌}
 use Rattle.cm_containers.specs.Spots.{text_at}
-use Rattle.cm_blocks.specs.Opening.{IsExcluded}
 use Rattle.cm_blocks.proofs.BreakLaws.{excluded_start}
 use Rattle.cm_blocks.proofs.opening.start_at.Goals as goal
 

@@ -7,7 +7,7 @@ use Rattle.cm_print.proofs.printer.to_html.Goals as goal
 
 pub returns-clause-made : goal.returns-clause-made
 returns-clause-made c =
-    c.from_string.ensures ∙ c.in_ok-print.ensures.text
+    c.in-Ok-from_string.ensures ∙ c.in_ok-print.ensures.text
     ∙ html_is c.args.text.now _ _ _ (c.as_slice.ensures.value ∙ c.in-Ok.ensures.nodes) c.in-Ok.ensures.links (c.new-printer.ensures.state ∙ ap (λ (n : ℕ). state (whole n) [] []) {x = c.len.result} {y = length c.as_slice.result.now} (omega arith)) (c.documents_have_the_html_of_their_blocks.ensures (blocks_of c.args.text.now))
 
 pub returns-in_err-print-clause-refused : goal.returns-in_err-print-clause-refused
