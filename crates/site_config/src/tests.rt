@@ -97,9 +97,8 @@ fn names_the_first_wrong_key(rt: HostRuntime) -> Result<(), Fail> {
     Ok(())
 }
 
-#[test]
-fn reads_each_form(rt: HostRuntime) -> Result<(), Fail> {
-    let alloc = rt.alloc();
+// The mapping of three collections, of which `films` is written out.
+fn three_collections(alloc: Global) -> Result<Value, Fail> {
     let output = hash(
         alloc,
         vec![in alloc;
@@ -107,14 +106,18 @@ fn reads_each_form(rt: HostRuntime) -> Result<(), Fail> {
             ("permalink", text(alloc, "/:title")?),
         ]?,
     )?;
-    let collections = hash(
+    Ok(hash(
         alloc,
         vec![in alloc;
             ("films", output),
             ("posts", Value::Nil),
             ("cast_2", Value::Nil),
         ]?,
-    )?;
+    )?)
+}
+
+// The list of one default: the layout of the films below `a`.
+fn one_default(alloc: Global) -> Result<Value, Fail> {
     let scope = hash(
         alloc,
         vec![in alloc;
@@ -125,37 +128,59 @@ fn reads_each_form(rt: HostRuntime) -> Result<(), Fail> {
     let values = hash(alloc, vec![in alloc; ("layout", text(alloc, "page")?)]?)?;
     let mut defaults = List::new(alloc);
     defaults.push(hash(alloc, vec![in alloc; ("scope", scope), ("values", values)]?)?)?;
-    let config = made(
-        alloc,
-        hash(
-            alloc,
-            vec![in alloc;
-                ("collections", collections),
-                ("defaults", Value::List(defaults)),
-                ("exclude", texts(alloc, &["tmp"])?),
-                ("include", texts(alloc, &["_pages"])?),
-                ("paginate", Value::Int(5)),
-                ("timezone", text(alloc, "+02:30")?),
-                ("future", Value::Bool(true)),
-                ("theme", text(alloc, "minima")?),
-            ]?,
-        )?,
-    )?;
+    Ok(Value::List(defaults))
+}
+
+#[test]
+fn reads_collections(rt: HostRuntime) -> Result<(), Fail> {
+    let alloc = rt.alloc();
+    let three = three_collections(alloc)?;
+    let config = made(alloc, hash(alloc, vec![in alloc; ("collections", three)]?)?)?;
     let collections = config.collections.as_slice();
     assert_eq!(rt; collections.len(), 3);
     assert_eq!(rt; collections[0].name.as_str(), "posts");
     assert_eq!(rt; collections[1].name.as_str(), "films");
     assert!(rt; collections[1].output && collections[1].permalink.is_some());
     assert_eq!(rt; collections[2].name.as_str(), "cast_2");
+    Ok(())
+}
+
+#[test]
+fn reads_defaults_and_lists(rt: HostRuntime) -> Result<(), Fail> {
+    let alloc = rt.alloc();
+    let defaults = one_default(alloc)?;
+    let exclude = texts(alloc, &["tmp"])?;
+    let include = texts(alloc, &["_pages"])?;
+    let pairs = vec![in alloc;
+        ("defaults", defaults),
+        ("exclude", exclude),
+        ("include", include),
+    ]?;
+    let config = made(alloc, hash(alloc, pairs)?)?;
     assert_eq!(rt; config.defaults.as_slice().len(), 1);
     assert_eq!(rt; config.defaults.as_slice()[0].path.as_str(), "a");
     assert_eq!(rt; config.exclude.len(), 11);
     assert_eq!(rt; config.exclude.at(10), "tmp");
     assert_eq!(rt; config.include.len(), 1);
+    Ok(())
+}
+
+#[test]
+fn reads_single_values(rt: HostRuntime) -> Result<(), Fail> {
+    let alloc = rt.alloc();
+    let timezone = text(alloc, "+02:30")?;
+    let theme = text(alloc, "minima")?;
+    let pairs = vec![in alloc;
+        ("paginate", Value::Int(5)),
+        ("timezone", timezone),
+        ("future", Value::Bool(true)),
+        ("theme", theme),
+    ]?;
+    let config = made(alloc, hash(alloc, pairs)?)?;
     assert_eq!(rt; config.paginate, Some(5));
     assert_eq!(rt; config.timezone, 9000);
     assert!(rt; config.future);
-    assert_eq!(rt; config.all.len(), 8);
+    assert_eq!(rt; config.all.len(), 4);
     Ok(())
 }
 

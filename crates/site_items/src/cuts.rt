@@ -4,7 +4,7 @@ ghost use Rattle.std.specs.List.{slice_split};
 ghost use Rattle.site_items.specs.Labels.{is_white};
 
 /// What stands before the first of an ASCII character, and what stands behind it; `None` where it does not occur.
-pub(crate) fn cut_at(text: &str, mark: char) -> Option<(&str, &str)>
+pub fn cut_at(text: &str, mark: char) -> Option<(&str, &str)>
     requires { mark < 128 }
     ensures parts { MatchOption result
         (slice_split (λ b. b == mark) text.now ≡ text.now ∷ [])

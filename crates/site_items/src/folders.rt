@@ -53,8 +53,8 @@ fn below_posts(path: &str) -> &str
     ""
 }
 
-/// A text without what it begins with.
-pub(crate) fn behind<'a>(front: &str, text: &'a str) -> &'a str
+/// A text without this front, where it begins with it.
+pub fn behind<'a>(front: &str, text: &'a str) -> &'a str
     ensures { result.now ≡ behind front.now text.entry.now }
 {
     match text.strip_prefix(front) {
@@ -64,7 +64,7 @@ pub(crate) fn behind<'a>(front: &str, text: &'a str) -> &'a str
 }
 
 /// A path without the extension of its file's name.
-pub(crate) fn without_extension(path: &str) -> &str
+pub fn without_extension(path: &str) -> &str
     ensures { result.now ≡ without_extension path.now }
 {
     &path[..path.len() - extension(file_name(path)).len()]

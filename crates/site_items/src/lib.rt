@@ -21,8 +21,10 @@ mod static_file;
 mod templates;
 mod titles;
 
+pub use cuts::cut_at;
 pub use defaults::{by_strength, variables};
 pub use extensions::{is_listed, output_ext};
+pub use folders::{behind, without_extension};
 pub use include_file::IncludeFile;
 pub use item::{Item, Rules};
 pub use item_error::{ItemError, LineFault};

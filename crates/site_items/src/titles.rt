@@ -14,7 +14,7 @@ pub fn title(alloc: Global, name: &str) -> Result<Text, Memory>
     ensures { IfOk result (λ made. made ≡ title name.now) }
 {
     match title_text(alloc, name) {
-        Ok(made) => Ok(Text::from_string(made)),
+        Ok(made) => Text::from_string(made),
         Err(_) => Err(Memory),
     }
 }

@@ -1,0 +1,4 @@
+mod DataLaws
+mod EachLaws
+mod NeighbourLaws
+mod RisingLaws

@@ -1,0 +1,13 @@
+use Rattle.std.proofs.Common.{◌≡◌, ◌∙◌, List, Ok, ap, map, sym, w64}
+use Rattle.std.proofs.lemmas.Int.{to_z-of_z}
+use Rattle.site_config.specs.declared.scope.Scope.{Scope}
+use Rattle.site_items.specs.Defaults.{by_strength}
+use Rattle.site_reader.specs.Placing.{seen}
+use Rattle.site_reader.specs.Sites.{items_by}
+use Rattle.site_reader.proofs.reading.ruled_items.Goals as goal
+
+pub returns-in-Ok : goal.returns-in-Ok
+returns-in-Ok c =
+    let scopes : map (λ s. s.now) c.deref.result.now ≡ by_strength c.args.config.now.defaults = ap (map (λ s. s.now)) c.deref.ensures.value ∙ c.in_ok-scopes.ensures ∙ ap by_strength c.as_slice.ensures in
+    ap (λ (ss : List Scope). items_by ss c.args.config.now c.args.now c.args.future (map seen c.args.files.now)) (sym scopes)
+    ∙ (simp (to_z-of_z, c.ranges.now) at c.in-Ok.ensures)

@@ -1,0 +1,21 @@
+-- The parts of the reading of items, by what holds for all of them.
+use Rattle.std.specs.Prelude.{List, [], Some, map}
+use Rattle.site_items.specs.declared.item.Rules.{Rules}
+use Rattle.site_items.specs.declared.kind.Kind.{Kind}
+use Rattle.site_reader.specs.Found.{Found, each, ◌>>◌}
+use Rattle.site_reader.specs.Placing.{File, Placed}
+use Rattle.site_reader.specs.Ranks.{Ranked}
+use Rattle.site_reader.specs.Sites.{add_item, add_kind, items_in_order}
+use Rattle.site_reader.specs.declared.site_item.SiteItem.{SiteItem}
+
+abbrev pub ruled_kind : Rules → Kind → File → Ranked → Found Ranked
+ruled_kind rules kind file ranked = add_kind rules.config.now (map (λ s. s.now) rules.scopes.now) rules.now rules.future file (Some kind) ranked
+
+abbrev pub ruled_item : Rules → Placed → Ranked → Found Ranked
+ruled_item rules file ranked = add_item rules.config.now (map (λ s. s.now) rules.scopes.now) rules.now rules.future file ranked
+
+abbrev pub ruled_ranks : Rules → List Placed → Found Ranked
+ruled_ranks rules files = each (ruled_item rules) files []
+
+abbrev pub ruled_items : Rules → List Placed → Found (List SiteItem)
+ruled_items rules files = ruled_ranks rules files >> items_in_order rules.config.now

@@ -1,0 +1,30 @@
+//! A site as data: its files read to a configuration, items in their order, layouts, includes, data, and files that are
+//! copied.
+#![tactic(auto)]
+
+mod configuration;
+mod copies;
+mod data;
+mod includes;
+mod items;
+mod layouts;
+mod name;
+mod neighbours;
+mod outputs;
+mod placing;
+mod rank;
+mod reading;
+mod sequence;
+mod site;
+mod site_error;
+mod site_item;
+mod texts;
+
+pub use reading::read_site;
+pub use sequence::Sequence;
+pub use site::{Includes, Layouts, Site, SiteItems, Statics};
+pub use site_error::SiteError;
+pub use site_item::SiteItem;
+
+#[cfg(test)]
+mod tests;

@@ -1,0 +1,120 @@
+// Which file is what.
+ghost use Rattle.std.specs.Prelude.{◌≡◌, ◌<◌, IfOk, map, slice_index_or};
+ghost use Rattle.std.specs.FinMap as finite;
+ghost use Rattle.front_yaml.specs.Front.{front};
+ghost use Rattle.site_dates.specs.Offset.{IsOffset};
+ghost use Rattle.site_reader.specs.Placing.{as_copy, as_item, builds_drafts, builds_future, copied_kind, has_matter, item_kind, placed, seen};
+
+use front_yaml::{Front, split_front};
+use site_base::{Memory, Settings, SitePath};
+use site_config::Config;
+use site_files::Place;
+use site_items::Kind;
+use source_tree::Held;
+use std::alloc::Global;
+
+/// A file of the site, with its place.
+#[derive(Clone, Copy)]
+pub(crate) struct PlacedFile<'a> {
+    pub(crate) place: Place,
+    pub(crate) path: &'a SitePath,
+    pub(crate) bytes: &'a [u8],
+}
+
+/// The held files in the order of their paths, each with its place.
+pub(crate) fn placed_files<'a>(
+    alloc: Global,
+    held: &'a Held,
+    config: &Config,
+    drafts: bool,
+) -> Result<Vec<PlacedFile<'a>>, Memory>
+    requires { IsOffset config.now.timezone }
+    ensures { IfOk result (λ files. map seen files.items ≡ map (placed config.now drafts) (finite.entries held.entry.now)) }
+{
+    let mut files = Vec::new(alloc);
+    for number in 0..held.len() {
+        files.push(placed_file(held, number, config, drafts))?;
+    }
+    Ok(files)
+}
+
+fn placed_file<'a>(held: &'a Held, number: u32, config: &Config, drafts: bool) -> PlacedFile<'a>
+    requires offset { IsOffset config.now.timezone }
+    requires number { number < finite.len held.now }
+    ensures file { (seen result).1 ≡ slice_index_or (finite.entries held.entry.now) number (seen result).1 }
+    ensures place { seen result ≡ placed config.now drafts (seen result).1 }
+{
+    let (path, bytes) = held.at(number);
+    let place = Place::of(config, drafts, path.text());
+    PlacedFile { place, path, bytes }
+}
+
+impl PlacedFile<'_> {
+    /// The kind of item that the file is, if it is one.
+    pub(crate) fn as_item(&self) -> Option<Kind>
+        ensures { result ≡ as_item (seen self.now) }
+    {
+        if has_matter(self.bytes) {
+            item_kind(self.place)
+        } else {
+            None
+        }
+    }
+
+    /// The kind of the items beside which the file is copied, if it is.
+    pub(crate) fn as_copy(&self) -> Option<Kind>
+        ensures { result ≡ as_copy (seen self.now) }
+    {
+        if has_matter(self.bytes) {
+            None
+        } else {
+            copied_kind(self.place)
+        }
+    }
+}
+
+// Whether a text has front matter, closed or not.
+fn has_matter(bytes: &[u8]) -> bool
+    ensures { result ≡ has_matter (front bytes.now) }
+{
+    match split_front(bytes) {
+        Front::Page { .. } | Front::Open => true,
+        Front::Plain => false,
+    }
+}
+
+fn item_kind(place: Place) -> Option<Kind>
+    ensures { result ≡ item_kind place }
+{
+    match place {
+        Place::Post => Some(Kind::Post),
+        Place::Draft => Some(Kind::Draft),
+        Place::Collection(number) => Some(Kind::Document(number)),
+        Place::Common => Some(Kind::Page),
+        _ => None,
+    }
+}
+
+fn copied_kind(place: Place) -> Option<Kind>
+    ensures { result ≡ copied_kind place }
+{
+    match place {
+        Place::Collection(number) => Some(Kind::Document(number)),
+        Place::Common => Some(Kind::Page),
+        _ => None,
+    }
+}
+
+/// Whether drafts are built: where the settings or the configuration say so.
+pub(crate) fn builds_drafts(config: &Config, settings: &Settings) -> bool
+    ensures { result ≡ builds_drafts config.now settings.now }
+{
+    settings.drafts || config.show_drafts
+}
+
+/// Whether documents of a later moment are built.
+pub(crate) fn builds_future(config: &Config, settings: &Settings) -> bool
+    ensures { result ≡ builds_future config.now settings.now }
+{
+    settings.future || config.future
+}

@@ -1,0 +1,155 @@
+// The reading of a site.
+ghost use Rattle.std.specs.Prelude.{◌≡◌, IfOk, MatchResult, Ok, map};
+ghost use Rattle.std.specs.FinMap as finite;
+ghost use Rattle.site_dates.specs.Moment.{IsMoment};
+ghost use Rattle.site_dates.specs.Offset.{IsOffset};
+ghost use Rattle.site_reader.specs.Found.{IsFirst};
+ghost use Rattle.site_reader.specs.Placing.{seen};
+ghost use Rattle.site_reader.specs.Sites.{clash_free, config, items, items_by, placed_site, site, site_with};
+
+use crate::configuration::config;
+use crate::copies::copies;
+use crate::data::data_tree;
+use crate::includes::includes;
+use crate::items::items;
+use crate::layouts::layouts;
+use crate::outputs::first_clash;
+use crate::placing::{PlacedFile, builds_drafts, builds_future, placed_files};
+use crate::site::{Site, SiteItems};
+use crate::site_error::SiteError;
+use site_base::{FaultKind, Settings, SiteFault, Value};
+use site_config::{Config, Scope};
+use site_items::{Rules, by_strength};
+use source_tree::Held;
+use std::alloc::Global;
+
+/// The site that the held files make at a moment, with its items in the order in which they are rendered.
+///
+/// `Fault` comes exactly where the files have a fault of reading, and names the first: of the configuration; then of data
+/// files, of layouts, of includes and of items, each in the order of their paths; and at last two outputs of which one
+/// would be a folder of the other (`PathClash`).
+#[tactic(auto, unfolding(crate::specs::Sites::site))]
+pub fn read_site(
+    alloc: Global,
+    held: &Held,
+    moment: i64,
+    settings: &Settings,
+) -> Result<Site, SiteError>
+    requires { IsMoment moment }
+    ensures { let found = site held.now moment settings.now in
+        MatchResult result (λ made. found ≡ Ok made) (IsFirst found) }
+{
+    match config(alloc, held) {
+        Ok(config) => site_with(alloc, held, moment, settings, config),
+        Err(error) => Err(error),
+    }
+}
+
+// The site under a configuration.
+fn site_with(
+    alloc: Global,
+    held: &Held,
+    moment: i64,
+    settings: &Settings,
+    config: Config,
+) -> Result<Site, SiteError>
+    requires offset { IsOffset config.timezone }
+    requires moment { IsMoment moment }
+    ensures { let found = site_with held.now moment settings.now config in
+        MatchResult result (λ made. found ≡ Ok made) (IsFirst found) }
+{
+    let files = placed_files(alloc, held, &config, builds_drafts(&config, settings))?;
+    let future = builds_future(&config, settings);
+    placed_site(alloc, &files, moment, future, config)
+}
+
+// The site of files in their places.
+fn placed_site(
+    alloc: Global,
+    files: &[PlacedFile],
+    now: i64,
+    future: bool,
+    config: Config,
+) -> Result<Site, SiteError>
+    requires offset { IsOffset config.timezone }
+    requires moment { IsMoment now }
+    ensures { let found = placed_site config now future (map seen files.entry.now) in
+        MatchResult result (λ made. found ≡ Ok made) (IsFirst found) }
+{
+    let tree = data_tree(alloc, files)?;
+    let layouts = layouts(alloc, files)?;
+    let includes = includes(alloc, files)?;
+    let items = ruled_items(alloc, files, now, future, &config)?;
+    let statics = copies(alloc, &config, files)?;
+    clash_free(
+        alloc,
+        Site {
+            config,
+            items,
+            layouts,
+            includes,
+            data_tree: Value::Hash(tree),
+            statics,
+            moment: now,
+        },
+    )
+}
+
+fn ruled_items(
+    alloc: Global,
+    files: &[PlacedFile],
+    now: i64,
+    future: bool,
+    config: &Config,
+) -> Result<SiteItems, SiteError>
+    requires offset { IsOffset config.now.timezone }
+    requires moment { IsMoment now }
+    ensures { let found = items config.now now future (map seen files.entry.now) in
+        MatchResult result (λ made. found ≡ Ok made) (IsFirst found) }
+{
+    let scopes = by_strength(alloc, config.defaults.as_slice())?;
+    match scoped_items(alloc, files, now, future, config, &scopes) {
+        Ok(items) => Ok(items),
+        Err(error) => Err(error),
+    }
+}
+
+fn scoped_items(
+    alloc: Global,
+    files: &[PlacedFile],
+    now: i64,
+    future: bool,
+    config: &Config,
+    scopes: &[&Scope],
+) -> Result<SiteItems, SiteError>
+    requires offset { IsOffset config.now.timezone }
+    requires moment { IsMoment now }
+    ensures { let found = items_by (map (λ s. s.now) scopes.entry.now) config.now now future (map seen files.entry.now) in
+        MatchResult result (λ made. found ≡ Ok made) (IsFirst found) }
+{
+    let rules = Rules {
+        config,
+        scopes,
+        now,
+        future,
+    };
+    match items(alloc, &rules, files) {
+        Ok(items) => Ok(items),
+        Err(error) => Err(error),
+    }
+}
+
+// A site of which no output is a folder of another.
+fn clash_free(alloc: Global, site: Site) -> Result<Site, SiteError>
+    ensures { let found = clash_free site in
+        MatchResult result (λ made. found ≡ Ok made) (IsFirst found) }
+{
+    match first_clash(alloc, site.items.as_slice(), site.statics.as_slice())? {
+        None => Ok(site),
+        Some(path) => Err(SiteError::Fault(SiteFault {
+            path,
+            line: 0,
+            kind: FaultKind::PathClash,
+        })),
+    }
+}
