@@ -1,15 +1,15 @@
 -- The pieces of a body, one after another.
-use Rattle.std.proofs.Common.{◌≡◌, ℕ, zero, suc, ◌+◌, ◌-◌, ◌<◌, ◌≤◌, Bool, true, false, cond, eqb, nat_eq, ◌&&◌, ◌||◌, List, [], ◌∷◌, ◌++◌, length, take, drop, get_or, slice_range, codes, map, refl, sym, ap, ◌∙◌, arith}
+use Rattle.std.proofs.Common.{◌≡◌, ℕ, zero, suc, ◌+◌, ◌-◌, ◌<◌, ◌≤◌, Bool, true, false, cond, eqb, nat_eq, ◌&&◌, ◌||◌, List, [], ◌∷◌, ◌++◌, length, take, drop, get_or, slice_range, codes, map, Option, Some, None, refl, sym, ap, ◌∙◌, arith}
 use Rattle.std.proofs.lemmas.Bool.{ne_eqb, eqb-false, eqb-true, and_parts}
 use Rattle.std.proofs.lemmas.List.{length-drop, drop-drop, drop_all, length-append, append_assoc, get_or-drop, get_or-append-add}
 use Rattle.std.proofs.lemmas.List.Prefix.{front_reads}
 use Rattle.std.proofs.lemmas.Slice.Eq.{starts_is}
 use Rattle.std.proofs.lemmas.Bool.Decides.{Decides-eqb}
-use Rattle.std.specs.List.{list_any, flat_map, starts_with}
+use Rattle.std.specs.List.{starts_with}
+use Rattle.site_base.specs.Plain.{Plain}
 use Rattle.site_base.specs.Recursion.{Falls, down_is}
 use Rattle.page_render.specs.Keys.{key_of}
-use Rattle.page_render.specs.Settings.{variable}
-use Rattle.page_render.specs.Pieces.{Piece, Byte, Output, Stray, piece_at, piece_len, first_and, pieces, is_mark, is_output, output_key, is_stray, has_stray_mark, printed, page_text}
+use Rattle.page_render.specs.Pieces.{Piece, Byte, Output, Stray, piece_at, piece_len, first_and, pieces, is_mark, is_output, output_key, both, joined, printed, short, variable_text, body_text}
 
 cond_same : {X : Type 0} (b : Bool) (x y z : X) → (b ≡ false → y ≡ z) → cond b x y ≡ cond b x z
 cond_same true x y z h = refl
@@ -46,33 +46,6 @@ pieces-at body at lt =
     let n = piece_len (piece_at (drop at body)) in
     pieces-some (drop at body) (omega (arith, length-drop at body)) ∙ ap (λ t. piece_at (drop at body) ∷ pieces t) (drop-drop n at body)
 
-or_false : (a b : Bool) → a ≡ false → b ≡ (a || b)
-or_false a b e = ap (λ x. x || b) (sym e)
-
-or_true : (a b : Bool) → a ≡ true → (a || b) ≡ true
-or_true a b e = ap (λ x. x || b) e
-
--- past a piece that is no stray mark
-pub stray-past : (body : List ℕ) (at len : ℕ) → at < length body → len ≡ piece_len (piece_at (drop at body)) → is_stray (piece_at (drop at body)) ≡ false
-    → has_stray_mark (drop (at + len) body) ≡ has_stray_mark (drop at body)
-unfolding has_stray_mark
-stray-past body at len lt e fine =
-    let n = piece_len (piece_at (drop at body)) in
-    ap (λ k. list_any is_stray (pieces (drop (at + k) body))) e
-    ∙ or_false (is_stray (piece_at (drop at body))) (list_any is_stray (pieces (drop (at + n) body))) fine
-    ∙ sym (ap (list_any is_stray) (pieces-at body at lt))
-
-pub stray-here : (body : List ℕ) (at : ℕ) → at < length body → piece_at (drop at body) ≡ Stray → has_stray_mark (drop at body) ≡ true
-unfolding has_stray_mark
-stray-here body at lt e =
-    let n = piece_len (piece_at (drop at body)) in
-    ap (list_any is_stray) (pieces-at body at lt)
-    ∙ or_true (is_stray (piece_at (drop at body))) (list_any is_stray (pieces (drop (at + n) body))) (ap is_stray e)
-
-pub stray-none : (body : List ℕ) (at : ℕ) → length body ≤ at → has_stray_mark (drop at body) ≡ false
-unfolding has_stray_mark
-stray-none body at le = ap (λ t. list_any is_stray (pieces t)) (drop_all at body le) ∙ ap (list_any is_stray) pieces-nil
-
 no_output : (a b r k m : Bool) → ((a && (b && true)) || m) ≡ false → ((a && (b && r)) && k) ≡ false
 no_output true true r k m e = absurd cc
 no_output true false r k m e = refl
@@ -102,18 +75,17 @@ pieces-run (x ∷ xs) (suc n) le none =
     ∙ ap (λ p. p ∷ pieces (drop (piece_len p) (x ∷ xs))) first
     ∙ ap (λ ps. Byte x ∷ ps) (pieces-run xs n (omega (arith, le)) (λ k lt. none (suc k) (omega (arith, lt))))
 
-flat_map-append : (yaml : List ℕ) (ps qs : List Piece) → flat_map (printed yaml) (ps ++ qs) ≡ flat_map (printed yaml) ps ++ flat_map (printed yaml) qs
-flat_map-append yaml [] qs = refl
-flat_map-append yaml (p ∷ ps) qs =
-    ap (λ t. printed yaml p ++ t) (flat_map-append yaml ps qs) ∙ sym (append_assoc (printed yaml p) (flat_map (printed yaml) ps) (flat_map (printed yaml) qs))
+pub both_nothing : (more : Option (List ℕ)) → both (Some []) more ≡ more
+both_nothing None = refl
+both_nothing (Some text) = refl
 
-bytes_print : (yaml bytes : List ℕ) → flat_map (printed yaml) (map (λ b. Byte b) bytes) ≡ bytes
-bytes_print yaml [] = refl
-bytes_print yaml (b ∷ bytes) = ap (λ t. b ∷ t) (bytes_print yaml bytes)
+pub both_twice : (a b : List ℕ) (more : Option (List ℕ)) → both (Some a) (both (Some b) more) ≡ both (Some (a ++ b)) more
+both_twice a b None = refl
+both_twice a b (Some text) = ap Some (sym (append_assoc a b text))
 
-bytes_fine : (bytes : List ℕ) (ps : List Piece) → list_any is_stray (map (λ b. Byte b) bytes ++ ps) ≡ list_any is_stray ps
-bytes_fine [] ps = refl
-bytes_fine (b ∷ bytes) ps = bytes_fine bytes ps
+joined_bytes : (vars : Plain) (bytes : List ℕ) (ps : List Piece) → joined (map (printed vars) (map (λ b. Byte b) bytes ++ ps)) ≡ both (Some bytes) (joined (map (printed vars) ps))
+joined_bytes vars [] ps = sym (both_nothing (joined (map (printed vars) ps)))
+joined_bytes vars (b ∷ bytes) ps = ap (both (Some (b ∷ []))) (joined_bytes vars bytes ps) ∙ both_twice (b ∷ []) bytes (joined (map (printed vars) ps))
 
 -- from `at` up to `mark` there is text alone
 pub record IsRun (body : List ℕ) (at mark : ℕ) : Type 0 where
@@ -133,51 +105,34 @@ run_pieces body at mark run =
     ∙ ap (λ t. map (λ b. Byte b) (take n (drop at body)) ++ pieces t) rest
 
 -- what a run prints, and what follows it
-pub text-run : (yaml body : List ℕ) (at mark : ℕ) → IsRun body at mark → page_text yaml (drop at body) ≡ slice_range body at mark ++ page_text yaml (drop mark body)
-unfolding page_text
-text-run yaml body at mark run =
-    let bytes = slice_range body at mark in
-    ap (flat_map (printed yaml)) (run_pieces body at mark run)
-    ∙ flat_map-append yaml (map (λ b. Byte b) bytes) (pieces (drop mark body))
-    ∙ ap (λ t. t ++ flat_map (printed yaml) (pieces (drop mark body))) (bytes_print yaml bytes)
-
-pub stray-run : (body : List ℕ) (at mark : ℕ) → IsRun body at mark → has_stray_mark (drop at body) ≡ has_stray_mark (drop mark body)
-unfolding has_stray_mark
-stray-run body at mark run = ap (list_any is_stray) (run_pieces body at mark run) ∙ bytes_fine (slice_range body at mark) (pieces (drop mark body))
+pub text-run : (vars : Plain) (body : List ℕ) (at mark : ℕ) → IsRun body at mark → body_text vars (drop at body) ≡ both (Some (slice_range body at mark)) (body_text vars (drop mark body))
+unfolding body_text
+text-run vars body at mark run =
+    ap (λ ps. joined (map (printed vars) ps)) (run_pieces body at mark run) ∙ joined_bytes vars (slice_range body at mark) (pieces (drop mark body))
 
 piece_output : (text : List ℕ) → is_output text ≡ true → piece_at text ≡ Output (output_key text)
 piece_output text e = rw e refl
 
-output_or_stray : (b : Bool) (body : List ℕ) (at : ℕ) → is_output (drop at body) ≡ b → at < length body → is_mark (drop at body) ≡ true → has_stray_mark (drop at body) ≡ false → b ≡ true
-output_or_stray true body at o lt m fine = refl
-output_or_stray false body at o lt m fine =
-    let stray : piece_at (drop at body) ≡ Stray = rw (o, m) refl in
-    let found : has_stray_mark (drop at body) ≡ true = stray-here body at lt stray in
-    absurd cc
-
--- at a mark that is not stray an output stands
-pub output-here : (body : List ℕ) (at : ℕ) → at < length body → is_mark (drop at body) ≡ true → has_stray_mark (drop at body) ≡ false → is_output (drop at body) ≡ true
-output-here body at lt m fine = output_or_stray (is_output (drop at body)) body at refl lt m fine
+piece_stray : (text : List ℕ) → is_output text ≡ false → is_mark text ≡ true → piece_at text ≡ Stray
+piece_stray text o m = rw (o, m) refl
 
 -- what an output prints, and what follows it
-pub text-output : (yaml body key : List ℕ) (at next : ℕ) → at < length body → is_output (drop at body) ≡ true → key ≡ output_key (drop at body) → next ≡ at + length key + 11
-    → page_text yaml (drop at body) ≡ variable yaml key ++ page_text yaml (drop next body)
-unfolding page_text
-text-output yaml body key at next lt o k n =
+pub text-output : (vars : Plain) (body key : List ℕ) (at next : ℕ) → at < length body → is_output (drop at body) ≡ true → key ≡ output_key (drop at body) → next ≡ at + length key + 11
+    → body_text vars (drop at body) ≡ both (short (variable_text vars key)) (body_text vars (drop next body))
+unfolding body_text
+text-output vars body key at next lt o k n =
     let piece : piece_at (drop at body) ≡ Output key = piece_output (drop at body) o ∙ ap (λ x. Output x) (sym k) in
     let past : at + piece_len (Output key) ≡ next = omega arith in
-    ap (flat_map (printed yaml)) (pieces-at body at lt)
-    ∙ ap (λ p. printed yaml p ++ flat_map (printed yaml) (pieces (drop (at + piece_len p) body))) piece
-    ∙ ap (λ j. variable yaml key ++ flat_map (printed yaml) (pieces (drop j body))) past
+    ap (λ ps. joined (map (printed vars) ps)) (pieces-at body at lt)
+    ∙ ap (λ p. both (printed vars p) (joined (map (printed vars) (pieces (drop (at + piece_len p) body))))) piece
+    ∙ ap (λ j. both (short (variable_text vars key)) (joined (map (printed vars) (pieces (drop j body))))) past
 
-pub stray-output : (body key : List ℕ) (at next : ℕ) → at < length body → is_output (drop at body) ≡ true → key ≡ output_key (drop at body) → next ≡ at + length key + 11
-    → has_stray_mark (drop next body) ≡ has_stray_mark (drop at body)
-stray-output body key at next lt o k n =
-    let piece : piece_at (drop at body) ≡ Output key = piece_output (drop at body) o ∙ ap (λ x. Output x) (sym k) in
-    let past : next ≡ at + (length key + 11) = omega arith in
-    let len : length key + 11 ≡ piece_len (Output key) = omega arith in
-    ap (λ j. has_stray_mark (drop j body)) past
-    ∙ stray-past body at (length key + 11) lt (len ∙ ap piece_len (sym piece)) (ap is_stray piece)
+-- at a stray mark nothing is printed
+pub text-stray : (vars : Plain) (body : List ℕ) (at : ℕ) → at < length body → is_mark (drop at body) ≡ true → is_output (drop at body) ≡ false → body_text vars (drop at body) ≡ None
+unfolding body_text
+text-stray vars body at lt m o =
+    ap (λ ps. joined (map (printed vars) ps)) (pieces-at body at lt)
+    ∙ ap (λ p. both (printed vars p) (joined (map (printed vars) (pieces (drop (at + piece_len p) body))))) (piece_stray (drop at body) o m)
 
 -- the last byte of an output
 output_end : (text : List ℕ) → is_output text ≡ true → get_or text (8 + (length (output_key text) + 2)) 0 ≡ 125
@@ -208,6 +163,12 @@ mark_byte (x ∷ rest) e = sym (eqb-true 123 x (first_brace (eqb 123 x) _ _ e))
 pub mark_byte-at : (body : List ℕ) (at : ℕ) → is_mark (drop at body) ≡ true → get_or body at 0 ≡ 123
 mark_byte-at body at m = let e : at + 0 ≡ at = omega arith in ap (λ j. get_or body j 0) (sym e) ∙ sym (get_or-drop at body 0 0) ∙ mark_byte (drop at body) m
 
-pub text-none : (yaml body : List ℕ) (at : ℕ) → length body ≤ at → page_text yaml (drop at body) ≡ []
-unfolding page_text
-text-none yaml body at le = ap (λ t. flat_map (printed yaml) (pieces t)) (drop_all at body le) ∙ ap (flat_map (printed yaml)) pieces-nil
+pub text-none : (vars : Plain) (body : List ℕ) (at : ℕ) → length body ≤ at → body_text vars (drop at body) ≡ Some []
+unfolding body_text
+text-none vars body at le = ap (λ t. joined (map (printed vars) (pieces t))) (drop_all at body le) ∙ ap (λ ps. joined (map (printed vars) ps)) pieces-nil
+
+-- what was printed before a run, and what is printed of the run and behind it
+pub run_past : (vars : Plain) (body text : List ℕ) (at mark : ℕ) (whole : Option (List ℕ)) → IsRun body at mark → both (Some text) (body_text vars (drop at body)) ≡ whole
+    → both (Some (text ++ slice_range body at mark)) (body_text vars (drop mark body)) ≡ whole
+run_past vars body text at mark whole run same =
+    sym (both_twice text (slice_range body at mark) (body_text vars (drop mark body))) ∙ ap (both (Some text)) (sym (text-run vars body at mark run)) ∙ same

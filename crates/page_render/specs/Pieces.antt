@@ -1,9 +1,13 @@
--- The body of a thin page: bytes of text and outputs `{{ page.KEY }}`, one after another.
-use Rattle.std.specs.Prelude.{ℕ, ◌+◌, Bool, ◌&&◌, ◌||◌, List, [], ◌∷◌, length, drop, ◌==◌, nat_eq, if◌then◌else◌, codes, slice_index, true, false}
-use Rattle.std.specs.List.{starts_with, list_any, flat_map}
+-- The body of a thin item: bytes of text and outputs `{{ page.KEY }}`, one after another.
+use Rattle.std.specs.Prelude.{◌≡◌, ◌≤◌, ℕ, ◌+◌, Bool, ◌&&◌, ◌||◌, List, [], ◌∷◌, ◌++◌, length, drop, map, ◌==◌, nat_eq, nat_le, if◌then◌else◌, codes, slice_index, true, false, Option, Some, None}
+use Rattle.std.specs.Char.{is_ascii_lowercase}
+use Rattle.std.specs.List.{list_all, starts_with}
+use Rattle.std.specs.Option.{option_map}
+use Rattle.site_base.specs.Plain.{Plain}
 use Rattle.site_base.specs.Recursion.{down}
+use Rattle.site_base.specs.Values.{value_text}
+use Rattle.site_config.specs.Forms.{setting}
 use Rattle.page_render.specs.Keys.{begins_with_key, key_of}
-use Rattle.page_render.specs.Settings.{variable}
 
 -- `Stray` is a mark `{{` or `{%` at which no output stands
 pub data Piece : Type 0 where
@@ -11,7 +15,7 @@ pub data Piece : Type 0 where
   Output : List ℕ → Piece
   Stray : Piece
 
--- the letters of the output at the front of a text, if one stands there
+-- the key of the output at the front of a text, if one stands there
 abbrev pub output_key : List ℕ → List ℕ
 output_key text = key_of (drop 8 text)
 
@@ -41,20 +45,37 @@ first_and rest text = let piece = piece_at text in if length text == 0 then [] e
 unfoldable pub pieces : List ℕ → List Piece
 pieces body = down length [] first_and body
 
-abbrev pub is_stray : Piece → Bool
-is_stray (Byte b) = false
-is_stray (Output key) = false
-is_stray Stray = true
+-- an output with this key stands at a place of a body, and ends within it
+pub record IsKeyAt (body : List ℕ) (at : ℕ) (key : List ℕ) : Type 0 where
+  pub output : is_output (drop at body) ≡ true
+  pub is : key ≡ output_key (drop at body)
+  pub fits : at + length key + 11 ≤ length body
+  pub letters : list_all is_ascii_lowercase key ≡ true
 
-unfoldable pub has_stray_mark : List ℕ → Bool
-has_stray_mark body = list_any is_stray (pieces body)
+-- a text of at most 40 bytes; a longer one is not printed yet
+abbrev pub short : List ℕ → Option (List ℕ)
+short text = if nat_le (length text) 40 then Some text else None
 
--- what a piece prints, where this is the front matter
-abbrev pub printed : List ℕ → Piece → List ℕ
-printed yaml (Byte b) = b ∷ []
-printed yaml (Output key) = variable yaml key
-printed yaml Stray = []
+-- the text of a variable, which is empty where there is none
+abbrev pub variable_text : Plain → List ℕ → List ℕ
+variable_text vars key = value_text (setting key vars)
 
--- the pieces printed, one after another
-unfoldable pub page_text : List ℕ → List ℕ → List ℕ
-page_text yaml body = flat_map (printed yaml) (pieces body)
+-- what a piece prints, where its form is built
+abbrev pub printed : Plain → Piece → Option (List ℕ)
+printed vars (Byte b) = Some (b ∷ [])
+printed vars (Output key) = short (variable_text vars key)
+printed vars Stray = None
+
+-- a text and what follows it, where both are there
+abbrev pub both : Option (List ℕ) → Option (List ℕ) → Option (List ℕ)
+both None more = None
+both (Some text) more = option_map (λ t. text ++ t) more
+
+-- the texts one after another, where all are there
+abbrev pub joined : List (Option (List ℕ)) → Option (List ℕ)
+joined [] = Some []
+joined (text ∷ texts) = both text (joined texts)
+
+-- the pieces printed, one after another, where all are built
+unfoldable pub body_text : Plain → List ℕ → Option (List ℕ)
+body_text vars body = joined (map (printed vars) (pieces body))

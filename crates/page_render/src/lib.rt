@@ -1,17 +1,17 @@
-//! What is made of the files of a site.
+//! What is made of the items of a site.
 //!
-//! A file with front matter is a page, and all others are copied. A thin page sets variables by lines `KEY: TEXT` of
-//! its front matter, and prints them where its body has `{{ page.KEY }}`. Pages of other forms, and files to which
-//! Jekyll gives another meaning, are not built yet: the first such file of a site is found here.
+//! A thin item has text in its body, and outputs `{{ page.KEY }}` that print its variables. Items of other forms (Markdown,
+//! layouts, other templates) are not built yet, and have the fault that says so.
 #![tactic(auto)]
 
+mod body;
 mod key;
-mod page;
-mod path;
+mod outcome;
 mod piece;
 mod render;
-mod setting;
-mod site;
 
-pub use page::is_page;
-pub use site::{is_unbuilt, render_thin, unbuilt};
+pub use outcome::Outcome;
+pub use render::render_thin;
+
+#[cfg(test)]
+mod tests;

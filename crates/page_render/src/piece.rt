@@ -1,15 +1,14 @@
-// The body of a thin page: bytes of text and outputs `{{ page.KEY }}`.
-ghost use Rattle.std.specs.Prelude.{◌≡◌, ℕ, ◌+◌, ◌<◌, ◌≤◌, length, drop, true, false, MatchOption, IfSome, is_some};
-ghost use Rattle.page_render.specs.Pieces.{has_stray_mark, is_mark, is_output, is_stray, output_key, piece_at, piece_len};
-ghost use Rattle.page_render.specs.Pieces.{Stray};
+// The body of a thin item: bytes of text and outputs `{{ page.KEY }}`.
+ghost use Rattle.std.specs.Prelude.{◌≡◌, ℕ, ◌+◌, ◌<◌, ◌≤◌, length, drop, true, false, IfSome, MatchOption, is_some};
+ghost use Rattle.page_render.specs.Pieces.{IsKeyAt, is_mark, is_output, output_key};
 
 use crate::key::{begins_with_key, key_of};
 
 /// How many bytes an output has besides its key.
 pub(crate) const OUTPUT_FRAME: usize = 11;
 
-/// The key of the output at the front of a text, if one stands there.
-pub(crate) fn output_key(text: &[u8]) -> Option<&[u8]>
+// The key of the output at the front of a text, if one stands there.
+fn output_key(text: &[u8]) -> Option<&[u8]>
     ensures is { is_some result ≡ is_output text.now }
     ensures key { IfSome result (λ key. key.now ≡ output_key text.now) }
     ensures fits { IfSome result (λ key. length key.now + 11 ≤ length text.now) }
@@ -22,6 +21,17 @@ pub(crate) fn output_key(text: &[u8]) -> Option<&[u8]>
         Some(key_of(inside))
     } else {
         None
+    }
+}
+
+/// The key of the output at a place of a body, if one stands there.
+pub(crate) fn key_at(body: &[u8], at: usize) -> Option<&[u8]>
+    requires { at ≤ length body.now }
+    ensures { MatchOption result (is_output (drop at body.now) ≡ false) (λ key. IsKeyAt body.now at key.now) }
+{
+    match output_key(&body[at..]) {
+        Some(key) => Some(key),
+        None => None,
     }
 }
 
@@ -38,33 +48,6 @@ pub(crate) fn find_mark(text: &[u8], from: usize) -> usize
         at += 1;
     }
     at
-}
-
-/// Whether a body has a `{{` or `{%` at which no output stands.
-pub(crate) fn has_stray_mark(body: &[u8]) -> bool
-    ensures { result ≡ has_stray_mark body.now }
-{
-    let mut at = 0;
-    while at < body.len() {
-        match piece_len(&body[at..]) {
-            Some(len) => at += len,
-            None => return true,
-        }
-    }
-    false
-}
-
-// How long the piece at the front is, unless it is a stray mark.
-fn piece_len(text: &[u8]) -> Option<usize>
-    requires { 0 < length text.now }
-    ensures stray { MatchOption result (piece_at text.now ≡ Stray) (λ _. is_stray (piece_at text.now) ≡ false) }
-    ensures len { IfSome result (λ len. len ≡ piece_len (piece_at text.now)) }
-    ensures fits { IfSome result (λ len. (0 < len) × (len ≤ length text.now)) }
-{
-    match output_key(text) {
-        Some(key) => Some(key.len() + OUTPUT_FRAME),
-        None => { if is_mark(text) { None } else { Some(1) } }
-    }
 }
 
 fn is_mark(text: &[u8]) -> bool

@@ -1,55 +1,68 @@
-// The text of a thin page.
-ghost use Rattle.std.specs.Prelude.{◌≡◌, ◌+◌, ◌<◌, ◌≤◌, length, drop, IfOk, true, false};
-ghost use Rattle.page_render.specs.Settings.{sets_variables, variable};
-ghost use Rattle.page_render.specs.Pieces.{has_stray_mark, is_output, output_key, page_text};
+// The rendering of an item.
+ghost use Rattle.std.specs.Prelude.{◌≡◌, ◌<◌, IfOk, IfSome, length, slice_get, codes};
+ghost use Rattle.site_base.specs.View.{plain};
+ghost use Rattle.site_config.specs.Forms.{given, is_text, setting};
+ghost use Rattle.page_render.specs.Thin.{is_thin, item_text, outcome, outcome_by};
 
-use crate::piece::{OUTPUT_FRAME, find_mark, output_key};
-use crate::setting::variable;
-use site_base::{Memory, Text};
+use crate::body::{body_text, setting};
+use crate::outcome::Outcome;
+use site_base::{FaultKind, Memory, SiteFault, SitePath, Text, Value};
+use site_files::{extension, file_name};
+use site_items::is_listed;
+use site_reader::{Site, SiteItem};
 use std::alloc::Global;
-use std::str;
 
-/// Prints the pieces of a body, one after another.
-pub(crate) fn render(alloc: Global, yaml: &[u8], body: &str) -> Result<Text, Memory>
-    requires variables { sets_variables yaml.now ≡ true }
-    requires marks { has_stray_mark body.now ≡ false }
-    ensures { IfOk result (λ text. text ≡ page_text yaml.now body.now) }
+/// The most bytes of a body.
+const MOST_BYTES: usize = 1_024;
+
+/// Renders the item at a place of the site, counted from 0. Its one fault is that of a form that is not built yet.
+pub fn render_thin(alloc: Global, site: &Site, item: u32) -> Result<Outcome, Memory>
+    requires { item < length site.now.items }
+    ensures { IfOk result (λ made. IfSome (slice_get site.now.items item) (λ i. made ≡ outcome site.now i)) }
 {
-    let bytes = body.as_bytes();
-    let mut text = Text::new(alloc);
-    let mut at = 0;
-    'pieces: loop {
-        let mark = find_mark(bytes, at);
-        text.push_str(&body[at..mark])?;
-        if mark == bytes.len() {
-            return Ok(text);
-        }
-        let key = key_at(bytes, mark);
-        text.push_str(text_of(yaml, key))?;
-        at = mark + key.len() + OUTPUT_FRAME;
+    let item = site.items.at(item as u64);
+    let text = item_text(alloc, site.config.markdown_ext.as_str(), item)?;
+    outcome(alloc, &item.name.path, text)
+}
+
+fn outcome(alloc: Global, path: &SitePath, text: Option<Text>) -> Result<Outcome, Memory>
+    ensures { IfOk result (λ made. made ≡ outcome_by path.now text) }
+{
+    match text {
+        Some(output) => Ok(Outcome::Done {
+            content: Text::copy(alloc, output.as_str())?,
+            output,
+        }),
+        None => Ok(Outcome::Fault(SiteFault {
+            path: path.copy(alloc)?,
+            line: 0,
+            kind: FaultKind::Unbuilt,
+        })),
     }
 }
 
-// The key of the output that stands at a place.
-fn key_at(body: &[u8], at: usize) -> &[u8]
-    requires within { at < length body.now }
-    requires output { is_output (drop at body.now) ≡ true }
-    ensures key { result.now ≡ output_key (drop at body.now) }
-    ensures fits { at + length result.now + 11 ≤ length body.now }
+// The text of an item; `None` where its form is not built yet.
+fn item_text(alloc: Global, markdown: &str, item: &SiteItem) -> Result<Option<Text>, Memory>
+    ensures { IfOk result (λ text. text ≡ item_text markdown.now item.now) }
 {
-    match output_key(&body[at..]) {
-        Some(key) => key,
-        None => unreachable!(),
+    if is_thin(markdown, item) {
+        body_text(alloc, &item.vars, item.body.as_str())
+    } else {
+        Ok(None)
     }
 }
 
-// The text of a variable. It is ASCII, since a line sets it.
-fn text_of<'a>(yaml: &'a [u8], key: &[u8]) -> &'a str
-    requires { sets_variables yaml.now ≡ true }
-    ensures { result.now ≡ variable yaml.now key.now }
+fn is_thin(markdown: &str, item: &SiteItem) -> bool
+    ensures { result ≡ is_thin markdown.now item.now }
 {
-    match str::from_utf8(variable(yaml, key)) {
-        Ok(text) => text,
-        Err(_) => unreachable!(),
-    }
+    let ext = extension(file_name(item.name.path.text()));
+    item.body.len() <= MOST_BYTES
+        && !is_listed(markdown.as_bytes(), ext.as_bytes())
+        && !has_layout(&item.vars)
+}
+
+fn has_layout(vars: &Value) -> bool
+    ensures { result ≡ is_text (setting (codes "layout") (plain vars.now)) }
+{
+    matches!(setting(vars, "layout"), Some(Value::Text(_)))
 }

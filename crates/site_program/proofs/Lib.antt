@@ -1,3 +1,5 @@
 pub mod Cases
+pub mod Checking
 pub mod Onces
+pub mod Orders
 pub mod Turns

@@ -40,7 +40,7 @@ pub record Turned (given : Given) (old : Standing) (number : ℕ) (at : Line) (b
 
 pub turned : (given : Given) (old : Standing) (number : ℕ) (at : Line) (before : List ℕ) (new : Standing) (after : Option (List ℕ)) (told : Option Files) (counts : Counts) (reply : Reply)
     → (at ≡ line.End → ⊥) → (at ≡ line.Eof → ⊥) → IsRead at
-    → Answers given old number at reply new → after ≡ Some (before ++ reply_bytes reply) → Holds told new.belief given.output → Counted counts (reply ∷ [])
+    → Answers given old number at reply new → after ≡ Some (before ++ reply_bytes given.why reply) → Holds told new.belief given.output → Counted counts (reply ∷ [])
     → Turned given old number at before new after told counts (bad_status reply)
 turned given old number at before new after told counts (BadLine bad kind) end eof read answers bytes holds counted = record { next = tt; ends_at = (read, answers, bytes, holds) }
 turned given old number at before new after told counts (Scanned count) end eof read answers bytes holds counted =
@@ -92,9 +92,10 @@ run_more given old mid new n k (l ∷ lines) (r ∷ replies) at reply is run ans
 run_more given old mid new n k [] (r ∷ replies) at reply is run answers = absurd run
 run_more given old mid new n k (l ∷ lines) [] at reply is run answers = absurd run
 
-written_more : (replies : List Reply) (reply : Reply) → written (replies ++ reply ∷ []) ≡ written replies ++ reply_bytes reply
-written_more [] reply = append-nil (reply_bytes reply)
-written_more (r ∷ replies) reply = ap (λ b. reply_bytes r ++ b) (written_more replies reply) ∙ sym (append_assoc (reply_bytes r) (written replies) (reply_bytes reply))
+written_more : (why : Bool) (replies : List Reply) (reply : Reply) → written why (replies ++ reply ∷ []) ≡ written why replies ++ reply_bytes why reply
+written_more why [] reply = append-nil (reply_bytes why reply)
+written_more why (r ∷ replies) reply =
+    ap (λ b. reply_bytes why r ++ b) (written_more why replies reply) ∙ sym (append_assoc (reply_bytes why r) (written why replies) (reply_bytes why reply))
 
 good_line : (at : Line) → ends at ≡ false → is_bad at ≡ false
 good_line line.Scan e = refl
@@ -187,13 +188,13 @@ module _ (given : Given) (first : Standing) (text before : List ℕ) (now : Stan
   is_length : length so.lines ≡ 0 + length so.lines
   is_length = omega arith
 
-  longer : (new : Standing) (reply : Reply) (after' : Option (List ℕ)) (told' : Option Files) → IsRead at → Answers given now number at reply new → after' ≡ Some ((before ++ written so.replies) ++ reply_bytes reply) → Holds told' new.belief given.output
+  longer : (new : Standing) (reply : Reply) (after' : Option (List ℕ)) (told' : Option Files) → IsRead at → Answers given now number at reply new → after' ≡ Some ((before ++ written given.why so.replies) ++ reply_bytes given.why reply) → Holds told' new.belief given.output
       → Counted (following counts source output) (reply ∷ [])
       → Going given first text before (so.lines ++ at ∷ []) (so.replies ++ reply ∷ []) new (next_of so.lines so.left).1 after' told' (moved counts source output)
   longer new reply after' told' read answers bytes holds more = record {
     taken = taken_more 0 (length so.lines) text so.lines so.left at is_length so.going.taken (is_next read).0;
     run = run_more given first now new 0 (length so.lines) so.lines so.replies at reply is_length so.going.run (subst (λ (n : ℕ). Answers given now n at reply new) numbered answers);
-    bytes = bytes ∙ ap Some (append_assoc before (written so.replies) (reply_bytes reply)) ∙ ap (λ b. Some (before ++ b)) (sym (written_more so.replies reply));
+    bytes = bytes ∙ ap Some (append_assoc before (written given.why so.replies) (reply_bytes given.why reply)) ∙ ap (λ b. Some (before ++ b)) (sym (written_more given.why so.replies reply));
     output = holds;
     counted = counted_more counts source output so.replies reply so.going.counted more;
   }
@@ -201,7 +202,7 @@ module _ (given : Given) (first : Standing) (text before : List ℕ) (now : Stan
   pub session_more : (new : Standing) (after' : Option (List ℕ)) (told' : Option Files) → ((w : List ℕ) → after ≡ Some w → GoesOn given now number at w new after' (following counts source output)) → Holds told' new.belief given.output
       → SoFar given first text before new number rest after' told' (moved counts source output)
   session_more new after' told' goes holds =
-      let g = goes (before ++ written so.replies) so.going.bytes in
+      let g = goes (before ++ written given.why so.replies) so.going.bytes in
       let read : IsRead at = (λ e. (let wrong : true ≡ false = ap ends (sym e) ∙ g.0 in cc (wrong)), λ e. (let wrong : true ≡ false = ap ends (sym e) ∙ g.0 in cc (wrong))) in
       record {
         lines = so.lines ++ at ∷ [];
@@ -215,23 +216,23 @@ module _ (given : Given) (first : Standing) (text before : List ℕ) (now : Stan
   still : Counted (moved counts source output) so.replies
   still = counted_later counts source output so.replies so.going.counted source_later output_later
 
-  same_going : (after' : Option (List ℕ)) (told' : Option Files) → after' ≡ Some (before ++ written so.replies) → Holds told' now.belief given.output → Going given first text before so.lines so.replies now so.left after' told' (moved counts source output)
+  same_going : (after' : Option (List ℕ)) (told' : Option Files) → after' ≡ Some (before ++ written given.why so.replies) → Holds told' now.belief given.output → Going given first text before so.lines so.replies now so.left after' told' (moved counts source output)
   same_going after' told' bytes holds = record { taken = so.going.taken; run = so.going.run; bytes = bytes; output = holds; counted = still }
 
-  cut_at : (part : List ℕ) (after' : Option (List ℕ)) (told' : Option Files) (s : Status) → Stopped given now (line_number (length so.lines)) (next_of so.lines so.left).0 told' part → after' ≡ Some ((before ++ written so.replies) ++ part) → IsCut s part
+  cut_at : (part : List ℕ) (after' : Option (List ℕ)) (told' : Option Files) (s : Status) → Stopped given now (line_number (length so.lines)) (next_of so.lines so.left).0 told' part → after' ≡ Some ((before ++ written given.why so.replies) ++ part) → IsCut s part
       → SessionRun given first text before rest after' told' (moved counts source output) s
   cut_at part after' told' s stopped bytes cut =
-      AtLine so.lines so.replies now so.left part so.going.taken so.going.run stopped (bytes ∙ ap Some (append_assoc before (written so.replies) part)) still cut
+      AtLine so.lines so.replies now so.left part so.going.taken so.going.run stopped (bytes ∙ ap Some (append_assoc before (written given.why so.replies) part)) still cut
 
-  halted : (after' : Option (List ℕ)) (told' : Option Files) (s : Status) → Halted given now number at (before ++ written so.replies) after' told' s → SessionRun given first text before rest after' told' (moved counts source output) s
+  halted : (after' : Option (List ℕ)) (told' : Option Files) (s : Status) → Halted given now number at (before ++ written given.why so.replies) after' told' s → SessionRun given first text before rest after' told' (moved counts source output) s
   halted after' told' s (inl h) =
-      cut_at [] after' told' s (inl (h.2.1, refl)) (h.2.0 ∙ ap Some (sym (append-nil (before ++ written so.replies)))) (record { cases = inr h.1; memory = λ _. refl })
+      cut_at [] after' told' s (inl (h.2.1, refl)) (h.2.0 ∙ ap Some (sym (append-nil (before ++ written given.why so.replies)))) (record { cases = inr h.1; memory = λ _. refl })
   halted after' told' s (inr h) =
       cut_at h.1.0 after' told' s (subst (λ (l : Line). Stopped given now (line_number (length so.lines)) l told' h.1.0) (sym (is_next h.0).0) (subst (λ (n : ℕ). Stopped given now n at told' h.1.0) numbered h.1.1)) h.1.2 h.1.3
 
   pub session_ends : (new : Standing) (after' : Option (List ℕ)) (told' : Option Files) (s : Status) → ((w : List ℕ) → after ≡ Some w → EndsAt given now number at w new after' told' s)
       → SessionRun given first text before rest after' told' (moved counts source output) s
-  session_ends new after' told' s at_end = by s (at_end (before ++ written so.replies) so.going.bytes)
+  session_ends new after' told' s at_end = by s (at_end (before ++ written given.why so.replies) so.going.bytes)
     where
       read_of : ((at ≡ line.End) ⊎ (at ≡ line.Eof)) → IsRead at
       read_of (inl e) = (λ f. (let wrong : line.End ≡ line.Failed = sym e ∙ f in cc (wrong)), λ f. (let wrong : line.End ≡ line.Memory = sym e ∙ f in cc (wrong)))
@@ -245,7 +246,7 @@ module _ (given : Given) (first : Standing) (text before : List ℕ) (now : Stan
       next_is (inl e) n = inl (n ∙ e)
       next_is (inr e) n = inr (n ∙ e)
 
-      by : (s : Status) → EndsAt given now number at (before ++ written so.replies) new after' told' s → SessionRun given first text before rest after' told' (moved counts source output) s
+      by : (s : Status) → EndsAt given now number at (before ++ written given.why so.replies) new after' told' s → SessionRun given first text before rest after' told' (moved counts source output) s
       by status.Done e = AtEnd so.lines so.replies now so.left (same_going after' told' e.1.0 e.1.1) (next_is e.0 (is_next (read_of e.0)).0) ((is_next (read_of e.0)).1 (good_end e.0)) refl
       by status.InputFault e = AtInput so.lines so.replies now so.left (same_going after' told' e.1.0 e.1.1) refl
       by (status.Script bad kind) e = AtBad (so.lines ++ at ∷ []) so.replies new (next_of so.lines so.left).1 bad kind (longer new (BadLine bad kind) after' told' e.0 e.1 e.2 e.3 (counted_quiet counts source output (BadLine bad kind) refl refl source_later output_later)) refl
@@ -255,3 +256,10 @@ module _ (given : Given) (first : Standing) (text before : List ℕ) (now : Stan
       by (status.Usage kind) e = absurd e
       by status.SourceFault e = absurd e
       by (status.OutFault count) e = absurd e
+
+-- a session that came to nothing, for want of memory
+pub session_none : (given : Given) (first : Standing) (text before : List ℕ) (unread after : Option (List ℕ)) (told : Option Files) (source output : ℕ) (s : Status)
+    → Holds told first.belief given.output → after ≡ Some before → s ≡ status.Memory
+    → SessionRun given first text before unread after told (record { source_first = source; source_now = source; output_first = output; output_now = output }) s
+session_none given first text before unread after told source output s holds bytes ends =
+    AtLine [] [] first text [] refl refl (inl (holds, refl)) (bytes ∙ ap Some (sym (append-nil before))) (counted_none source output) (record { cases = inr ends; memory = λ _. refl })

@@ -40,7 +40,7 @@ reply_status Silent = Done
 abbrev pub Stopped : Given → Standing → ℕ → Line → Option Files → List ℕ → Type 0
 Stopped given old number line told part =
     (Holds told old.belief given.output × (part ≡ []))
-    ⊎ ((reply : Reply) × (new : Standing) × (k : ℕ) × Answers given old number line reply new × Holds told new.belief given.output × (part ≡ take k (reply_bytes reply)))
+    ⊎ ((reply : Reply) × (new : Standing) × (k : ℕ) × Answers given old number line reply new × Holds told new.belief given.output × (part ≡ take k (reply_bytes given.why reply)))
 
 -- these lines were done and their replies taken, and at the next the run was cut short
 pub record Cut (given : Given) (first : Standing) (lines : List Line) (before : List ℕ) (after : Option (List ℕ)) (told : Option Files) : Type 0 where
@@ -53,7 +53,7 @@ pub record Cut (given : Given) (first : Standing) (lines : List Line) (before : 
   pub whole : lines ≡ done ++ next ∷ left
   pub run : Run given first 0 done replies mid
   pub stopped : Stopped given mid (line_number (length done)) next told part
-  pub bytes : after ≡ Some (before ++ (written replies ++ part))
+  pub bytes : after ≡ Some (before ++ (written given.why replies ++ part))
 
 -- what a run that was cut short ends with; without memory no part of a reply was taken
 pub record IsCut (status : Status) (part : List ℕ) : Type 0 where
@@ -85,7 +85,7 @@ pub record OnceWhole (given : Given) (first : Standing) (before : List ℕ) (aft
   pub replies : List Reply
   pub last : Standing
   pub run : Run given first 0 (once_lines replies) replies last
-  pub bytes : after ≡ Some (before ++ written replies)
+  pub bytes : after ≡ Some (before ++ written given.why replies)
   pub output : Holds told last.belief given.output
   pub status_is : status ≡ once_status replies
 

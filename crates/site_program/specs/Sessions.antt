@@ -31,7 +31,7 @@ pub record Counted (counts : Counts) (replies : List Reply) : Type 0 where
 pub record Going (given : Given) (first : Standing) (text before : List ℕ) (lines : List Line) (replies : List Reply) (now : Standing) (left : List ℕ) (after : Option (List ℕ)) (told : Option Files) (counts : Counts) : Type 0 where
   pub taken : Taken 0 text lines left
   pub run : Run given first 0 lines replies now
-  pub bytes : after ≡ Some (before ++ written replies)
+  pub bytes : after ≡ Some (before ++ written given.why replies)
   pub output : Holds told now.belief given.output
   pub counted : Counted counts replies
 
@@ -54,7 +54,7 @@ pub data SessionRun (given : Given) (first : Standing) (text before : List ℕ) 
       → status ≡ InputFault → SessionRun given first text before unread after told counts status
   -- the sink failed, or memory was wanting, at the line that came next
   AtLine : (lines : List Line) (replies : List Reply) (mid : Standing) (left part : List ℕ) → Taken 0 text lines left → Run given first 0 lines replies mid
-      → Stopped given mid (line_number (length lines)) (next_of lines left).0 told part → after ≡ Some (before ++ (written replies ++ part))
+      → Stopped given mid (line_number (length lines)) (next_of lines left).0 told part → after ≡ Some (before ++ (written given.why replies ++ part))
       → Counted counts replies → IsCut status part
       → SessionRun given first text before unread after told counts status
 
@@ -86,7 +86,7 @@ abbrev pub EndsAt : Given → Standing → ℕ → Line → List ℕ → Standin
 EndsAt given old number at before new after told Done = ((at ≡ line.End) ⊎ (at ≡ line.Eof)) × Undone given old before after told
 EndsAt given old number at before new after told InputFault = (at ≡ line.Failed) × Undone given old before after told
 EndsAt given old number at before new after told (Script bad kind) =
-    IsRead at × Answers given old number at (BadLine bad kind) new × (after ≡ Some (before ++ reply_bytes (BadLine bad kind))) × Holds told new.belief given.output
+    IsRead at × Answers given old number at (BadLine bad kind) new × (after ≡ Some (before ++ reply_bytes given.why (BadLine bad kind))) × Holds told new.belief given.output
 EndsAt given old number at before new after told SinkFault = Halted given old number at before after told SinkFault
 EndsAt given old number at before new after told Memory = Halted given old number at before after told Memory
 EndsAt given old number at before new after told (Site fault) = ⊥
@@ -97,7 +97,7 @@ EndsAt given old number at before new after told (OutFault count) = ⊥
 -- a line after which the session goes on; the counts are those before and after this line
 abbrev pub GoesOn : Given → Standing → ℕ → Line → List ℕ → Standing → Option (List ℕ) → Counts → Type 0
 GoesOn given old number at before new after counts =
-    (ends at ≡ false) × ((reply : Reply) × Answers given old number at reply new × (after ≡ Some (before ++ reply_bytes reply)) × Counted counts (reply ∷ []))
+    (ends at ≡ false) × ((reply : Reply) × Answers given old number at reply new × (after ≡ Some (before ++ reply_bytes given.why reply)) × Counted counts (reply ∷ []))
 
 -- a bad line ends the session
 abbrev pub bad_status : Reply → Option Status

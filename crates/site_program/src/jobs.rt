@@ -1,22 +1,27 @@
 // Builds and sessions.
-ghost use Rattle.std.specs.Prelude.{◌≡◌, ◌⊎◌, ◌++◌, ◌∷◌, [], ◌≤◌, ◌+◌, ◌-◌, ◌^◌, min, max, ℕ, List, Some, None, codes, IfNone, IfSome};
+ghost use Rattle.std.specs.Prelude.{◌≡◌, ◌++◌, ◌≤◌, ◌+◌, ◌-◌, ◌^◌, min, max, ℕ, List, Some, Ok, Err, true, IfNone, IfSome};
 ghost use Rattle.site_base.specs.Ends.{Rose};
 ghost use Rattle.site_base.specs.Places.{Files};
+ghost use Rattle.site_script.specs.Line.{IsInTime, is_moment};
 ghost use Rattle.site_session.specs.Standing.{Holds};
 ghost use Rattle.site_session.specs.Session.{Given, start};
+ghost use Rattle.site_words.specs.declared.faults.UsageKind.{UsageKind};
+ghost use Rattle.site_words.specs.declared.orders.Options.{Options};
+ghost use Rattle.site_words.specs.declared.orders.Order.TheVariants as order;
 ghost use Rattle.site_program.specs.Runs.{OnceRun};
-ghost use Rattle.site_program.specs.Once.{jobs_usage, Took, WasUsage, Ended};
+ghost use Rattle.site_program.specs.Once.{after_scan, jobs_order, Took, WasUsage, Ended};
 ghost use Rattle.site_program.specs.Sessions.{SessionRun, EndsAt, GoesOn, EndsSession, bad_status};
-ghost use Rattle.site_program.specs.declared.usage.UsageKind.{UsageKind};
+ghost use Rattle.site_program.specs.Usage.{usage_line};
 
 use crate::line::do_line;
 use crate::once::scan_and_build;
 use crate::status::Status;
-use crate::usage::{TopCall, tell_usage, usage_kind};
+use crate::usage::{TopCall, read_order, tell_usage};
 use out_tree::OutTree;
-use site_base::{ByteSink, ByteSource, Settings, Words};
+use site_base::{ByteSink, ByteSource, Words};
 use site_script::{Line, ScriptReader, next_line};
 use site_session::{Reply, Session};
+use site_words::{Options, Order, WordsError};
 use source_tree::SourceTree;
 use std::alloc::Global;
 use std::sync::Wait;
@@ -36,30 +41,32 @@ pub fn run_jobs<H: Wait, S: SourceTree, O: OutTree, I: ByteSource, K: ByteSink>(
     sink: &mut K,
 ) -> Status
     // A session does the lines of its script, and tells what it did.
-    ensures session { (given : Given) (text before : List ℕ) → jobs_usage words.now moment ≡ None → words.now ≡ codes "session" ∷ [] →
+    ensures session { (given : Given) (options : Options) (text before : List ℕ) → jobs_order words.now moment ≡ Ok (order.Session options) → given.why ≡ options.why →
         S.files source.old ≡ Some given.source → O.contents out.old ≡ Some given.output → I.left input.old ≡ Some text → K.taken sink.old ≡ Some before →
-        SessionRun given (start moment) text before (I.left input.new) (K.taken sink.new) (O.contents out.new)
+        SessionRun given (start options.settings moment) text before (I.left input.new) (K.taken sink.new) (O.contents out.new)
         (record { source_first = S.faults source.old; source_now = S.faults source.new; output_first = O.faults out.old; output_now = O.faults out.new }) result }
-    ensures session_status { jobs_usage words.now moment ≡ None → words.now ≡ codes "session" ∷ [] → EndsSession result }
+    ensures session_status { (options : Options) → jobs_order words.now moment ≡ Ok (order.Session options) → EndsSession result }
 
     // When each status of a build comes, what the output then has,
-    ensures build { (given : Given) → jobs_usage words.now moment ≡ None → words.now ≡ codes "build" ∷ [] →
+    ensures build { (given : Given) (options : Options) → jobs_order words.now moment ≡ Ok (order.Build options) →
         S.files source.old ≡ Some given.source → O.contents out.old ≡ Some given.output →
-        Ended given (O.contents out.old) (O.contents out.new) result }
+        Ended (after_scan given (start options.settings moment)) (O.contents out.old) (O.contents out.new) result }
     // what the sink then took,
-    ensures build_took { (given : Given) (before : List ℕ) → jobs_usage words.now moment ≡ None → words.now ≡ codes "build" ∷ [] →
+    ensures build_took { (given : Given) (options : Options) (before : List ℕ) → jobs_order words.now moment ≡ Ok (order.Build options) → given.why ≡ options.why →
         S.files source.old ≡ Some given.source → O.contents out.old ≡ Some given.output → K.taken sink.old ≡ Some before →
-        Took given before (K.taken sink.new) result }
+        Took given (after_scan given (start options.settings moment)) before (K.taken sink.new) result }
     // and how the run is one of a session.
-    ensures build_run { (given : Given) (before : List ℕ) → jobs_usage words.now moment ≡ None → words.now ≡ codes "build" ∷ [] →
+    ensures build_run { (given : Given) (options : Options) (before : List ℕ) → jobs_order words.now moment ≡ Ok (order.Build options) → given.why ≡ options.why →
         S.files source.old ≡ Some given.source → O.contents out.old ≡ Some given.output → K.taken sink.old ≡ Some before →
-        OnceRun given (start moment) before (K.taken sink.new) (O.contents out.new) result }
-    ensures build_input { words.now ≡ codes "build" ∷ [] → input.new ≡ input.old }
+        OnceRun given (start options.settings moment) before (K.taken sink.new) (O.contents out.new) result }
+    ensures build_input { (options : Options) → jobs_order words.now moment ≡ Ok (order.Build options) → input.new ≡ input.old }
 
     // Whatever the ends tell: the words alone decide about Usage.
-    ensures usage { (kind : UsageKind) → jobs_usage words.now moment ≡ Some kind → WasUsage kind result }
-    ensures only_usage { (kind : UsageKind) → result ≡ Status.Usage kind → jobs_usage words.now moment ≡ Some kind }
-    ensures usage_untouched { (kind : UsageKind) → jobs_usage words.now moment ≡ Some kind →
+    ensures usage { (kind : UsageKind) → jobs_order words.now moment ≡ Err kind → WasUsage kind result }
+    ensures usage_took { (kind : UsageKind) (before : List ℕ) → K.taken sink.old ≡ Some before → result ≡ Status.Usage kind →
+        K.taken sink.new ≡ Some (before ++ usage_line kind) }
+    ensures only_usage { (kind : UsageKind) → result ≡ Status.Usage kind → jobs_order words.now moment ≡ Err kind }
+    ensures usage_untouched { (kind : UsageKind) → jobs_order words.now moment ≡ Err kind →
         (source.new ≡ source.old) × (out.new ≡ out.old) × (input.new ≡ input.old) }
 
     // A failure is answered only where that end failed in this call.
@@ -68,15 +75,24 @@ pub fn run_jobs<H: Wait, S: SourceTree, O: OutTree, I: ByteSource, K: ByteSink>(
     ensures input_fault { result ≡ Status.InputFault → Rose (I.faults input.old) (I.faults input.new) }
     ensures sink_fault { result ≡ Status.SinkFault → Rose (K.faults sink.old) (K.faults sink.new) }
 {
-    match usage_kind(words, TopCall::Jobs, moment) {
-        Some(kind) => tell_usage(alloc, kind, sink),
-        None => {
-            if words.at(0) == "build" {
-                scan_and_build(alloc, moment, source, out, sink)
-            } else {
-                run_session(rt, alloc, moment, source, out, input, sink)
+    match read_order(alloc, words, TopCall::Jobs, moment) {
+        Ok(order) => match order {
+            Order::Build(options) => scan_and_build(
+                alloc,
+                options.settings,
+                options.why,
+                moment,
+                source,
+                out,
+                sink,
+            ),
+            Order::Session(options) => {
+                run_session(rt, alloc, options, moment, source, out, input, sink)
             }
-        }
+            _ => unreachable!(),
+        },
+        Err(WordsError::Usage(kind)) => tell_usage(alloc, kind, sink),
+        Err(WordsError::Memory) => Status::Memory,
     }
 }
 
@@ -84,39 +100,47 @@ pub fn run_jobs<H: Wait, S: SourceTree, O: OutTree, I: ByteSource, K: ByteSink>(
 fn run_session<H: Wait, S: SourceTree, O: OutTree, I: ByteSource, K: ByteSink>(
     rt: &H,
     alloc: Global,
+    options: Options,
     moment: i64,
     source: &mut S,
     out: &mut O,
     input: &mut I,
     sink: &mut K,
 ) -> Status
-    ensures run { (given : Given) (text before : List ℕ) → S.files source.old ≡ Some given.source → O.contents out.old ≡ Some given.output →
+    requires { is_moment moment ≡ true }
+    ensures run { (given : Given) (text before : List ℕ) → given.why ≡ options.why → S.files source.old ≡ Some given.source → O.contents out.old ≡ Some given.output →
         I.left input.old ≡ Some text → K.taken sink.old ≡ Some before →
-        SessionRun given (start moment) text before (I.left input.new) (K.taken sink.new) (O.contents out.new)
+        SessionRun given (start options.settings moment) text before (I.left input.new) (K.taken sink.new) (O.contents out.new)
         (record { source_first = S.faults source.old; source_now = S.faults source.new; output_first = O.faults out.old; output_now = O.faults out.new }) result }
     ensures status { EndsSession result }
     ensures input_fault { result ≡ Status.InputFault → Rose (I.faults input.old) (I.faults input.new) }
     ensures sink_fault { result ≡ Status.SinkFault → Rose (K.faults sink.old) (K.faults sink.new) }
 {
-    let settings = Settings {
-        drafts: false,
-        future: false,
-    };
-    let mut session = Session::open(alloc, settings, moment);
-    do_lines(rt, alloc, &mut session, source, out, input, sink)
+    let mut session = Session::open(alloc, options.settings, moment);
+    do_lines(
+        rt,
+        alloc,
+        options.why,
+        &mut session,
+        source,
+        out,
+        input,
+        sink,
+    )
 }
 
 // The lines on the input, one after another.
 fn do_lines<H: Wait, S: SourceTree, O: OutTree, I: ByteSource, K: ByteSink>(
     rt: &H,
     alloc: Global,
+    why: bool,
     session: &mut Session,
     source: &mut S,
     out: &mut O,
     input: &mut I,
     sink: &mut K,
 ) -> Status
-    ensures run { (given : Given) (text before : List ℕ) → S.files source.old ≡ Some given.source → Holds (O.contents out.old) session.old.belief given.output →
+    ensures run { (given : Given) (text before : List ℕ) → given.why ≡ why → S.files source.old ≡ Some given.source → Holds (O.contents out.old) session.old.belief given.output →
         I.left input.old ≡ Some text → K.taken sink.old ≡ Some before →
         SessionRun given session.old text before (I.left input.new) (K.taken sink.new) (O.contents out.new)
         (record { source_first = S.faults source.old; source_now = S.faults source.new; output_first = O.faults out.old; output_now = O.faults out.new }) result }
@@ -127,7 +151,16 @@ fn do_lines<H: Wait, S: SourceTree, O: OutTree, I: ByteSource, K: ByteSink>(
     let mut reader = ScriptReader::new();
     'lines: for _ in rt.forever() {
         let line = next_line(alloc, &mut reader, input);
-        match turn(alloc, session, reader.number(), line, source, out, sink) {
+        match turn(
+            alloc,
+            why,
+            session,
+            reader.number(),
+            line,
+            source,
+            out,
+            sink,
+        ) {
             Some(status) => return status,
             None => {}
         }
@@ -138,6 +171,7 @@ fn do_lines<H: Wait, S: SourceTree, O: OutTree, I: ByteSource, K: ByteSink>(
 // Does what a line says; `None` where the session goes on.
 fn turn<S: SourceTree, O: OutTree, K: ByteSink>(
     alloc: Global,
+    why: bool,
     session: &mut Session,
     number: u64,
     line: Line,
@@ -145,10 +179,11 @@ fn turn<S: SourceTree, O: OutTree, K: ByteSink>(
     out: &mut O,
     sink: &mut K,
 ) -> Option<Status>
-    ensures next { (given : Given) (before : List ℕ) → S.files source.old ≡ Some given.source → Holds (O.contents out.old) session.old.belief given.output →
+    requires { IsInTime line }
+    ensures next { (given : Given) (before : List ℕ) → given.why ≡ why → S.files source.old ≡ Some given.source → Holds (O.contents out.old) session.old.belief given.output →
         K.taken sink.old ≡ Some before → IfNone result (GoesOn given session.old number line before session.new (K.taken sink.new)
         (record { source_first = S.faults source.old; source_now = S.faults source.new; output_first = O.faults out.old; output_now = O.faults out.new })) }
-    ensures ends { (given : Given) (before : List ℕ) → S.files source.old ≡ Some given.source → Holds (O.contents out.old) session.old.belief given.output →
+    ensures ends { (given : Given) (before : List ℕ) → given.why ≡ why → S.files source.old ≡ Some given.source → Holds (O.contents out.old) session.old.belief given.output →
         K.taken sink.old ≡ Some before → IfSome result (λ status. EndsAt given session.old number line before session.new (K.taken sink.new) (O.contents out.new) status) }
     ensures belief { (first : Files) → Holds (O.contents out.old) session.old.belief first → Holds (O.contents out.new) session.new.belief first }
     ensures status { IfSome result (λ status. EndsSession status) }
@@ -164,7 +199,7 @@ fn turn<S: SourceTree, O: OutTree, K: ByteSink>(
         Line::Eof => Some(Status::Done),
         Line::Failed => Some(Status::InputFault),
         Line::Memory => Some(Status::Memory),
-        line => match do_line(alloc, session, number, line, source, out, sink) {
+        line => match do_line(alloc, why, session, number, line, source, out, sink) {
             Ok(reply) => bad_status(reply),
             Err(stop) => Some(stop.status()),
         },

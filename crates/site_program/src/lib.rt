@@ -1,6 +1,7 @@
 //! The top calls of sitebuild: all that the program does, from the words of its command line to its status.
 #![tactic(auto)]
 
+mod check;
 mod jobs;
 mod line;
 mod once;
@@ -12,4 +13,3 @@ pub use jobs::run_jobs;
 pub use once::run_once;
 pub use status::Status;
 pub use std_sink::StdSink;
-pub use usage::UsageKind;

@@ -1,7 +1,8 @@
 // One line of a session, with its reply.
-ghost use Rattle.std.specs.Prelude.{◌≡◌, ◌+◌, ◌-◌, ◌^◌, ◌≤◌, ◌++◌, [], min, ℕ, List, Some, Err, IfOk, IfErr, false};
+ghost use Rattle.std.specs.Prelude.{◌≡◌, ◌+◌, ◌-◌, ◌^◌, ◌≤◌, ◌++◌, [], min, take, ℕ, List, Some, Err, IfOk, IfErr, false};
 ghost use Rattle.site_base.specs.Places.{Files};
 ghost use Rattle.site_base.specs.Ends.{Rose};
+ghost use Rattle.site_script.specs.Line.{IsInTime};
 ghost use Rattle.site_session.specs.Standing.{Holds};
 ghost use Rattle.site_session.specs.Session.{Given, Answers, output_faults, source_faults};
 ghost use Rattle.site_session.specs.Replies.{LeavesBy, has_called_output};
@@ -16,9 +17,10 @@ use site_session::{Reply, Session};
 use source_tree::SourceTree;
 use std::alloc::Global;
 
-// Does a line, and writes what is replied.
+// Does a line, and writes what is replied, with the reasons of a build where `why` asks for them.
 pub(crate) fn do_line<S: SourceTree, O: OutTree, K: ByteSink>(
     alloc: Global,
+    why: bool,
     session: &mut Session,
     number: u64,
     line: Line,
@@ -26,16 +28,17 @@ pub(crate) fn do_line<S: SourceTree, O: OutTree, K: ByteSink>(
     out: &mut O,
     sink: &mut K,
 ) -> Result<Reply, Stop>
+    requires { IsInTime line }
     ensures answers { (given : Given) → S.files source.old ≡ Some given.source → Holds (O.contents out.old) session.old.belief given.output →
         IfOk result (λ reply. Answers given session.old number line reply session.new) }
-    ensures bytes { (before : List ℕ) → K.taken sink.old ≡ Some before → IfOk result (λ reply. K.taken sink.new ≡ Some (before ++ reply_bytes reply)) }
+    ensures bytes { (before : List ℕ) → K.taken sink.old ≡ Some before → IfOk result (λ reply. K.taken sink.new ≡ Some (before ++ reply_bytes why reply)) }
     ensures belief { (first : Files) → Holds (O.contents out.old) session.old.belief first → Holds (O.contents out.new) session.new.belief first }
     ensures leaves { (first : Files) → Holds (O.contents out.old) session.old.belief first →
-        IfOk result (λ reply. LeavesBy session.old.files reply (O.contents out.old) (O.contents out.new) session.new.belief) }
+        IfOk result (λ reply. LeavesBy session.old reply (O.contents out.old) (O.contents out.new) session.new.belief) }
     ensures untouched { IfOk result (λ reply. has_called_output reply ≡ false → out.new ≡ out.old) }
 
     // Where the run is cut short, the line was not done, or done without its whole reply.
-    ensures stopped { (given : Given) (before : List ℕ) → S.files source.old ≡ Some given.source →
+    ensures stopped { (given : Given) (before : List ℕ) → given.why ≡ why → S.files source.old ≡ Some given.source →
         Holds (O.contents out.old) session.old.belief given.output → K.taken sink.old ≡ Some before →
         IfErr result (λ stop. (part : List ℕ) × Stopped given session.old number line (O.contents out.new) part
         × (K.taken sink.new ≡ Some (before ++ part)) × (stop ≡ Stop.Memory → part ≡ [])) }
@@ -52,11 +55,30 @@ pub(crate) fn do_line<S: SourceTree, O: OutTree, K: ByteSink>(
         Ok(reply) => reply,
         Err(Memory) => return Err(Stop::Memory),
     };
-    let Ok(text) = reply.text(alloc) else {
+    match write_reply(alloc, why, &reply, sink) {
+        Ok(()) => Ok(reply),
+        Err(stop) => Err(stop),
+    }
+}
+
+/// Writes a reply, with the reasons of a build where `why` asks for them.
+pub(crate) fn write_reply<K: ByteSink>(
+    alloc: Global,
+    why: bool,
+    reply: &Reply,
+    sink: &mut K,
+) -> Result<(), Stop>
+    ensures ok { (before : List ℕ) → K.taken sink.old ≡ Some before → IfOk result (λ _. K.taken sink.new ≡ Some (before ++ reply_bytes why reply.now)) }
+    ensures err { (before : List ℕ) → K.taken sink.old ≡ Some before →
+        IfErr result (λ stop. (k : ℕ) × (K.taken sink.new ≡ Some (before ++ take k (reply_bytes why reply.now))) × (stop ≡ Stop.Memory → k ≡ 0)) }
+    ensures later { K.faults sink.old ≤ K.faults sink.new }
+    ensures cause { result ≡ Err Stop.Sink → Rose (K.faults sink.old) (K.faults sink.new) }
+{
+    let Ok(text) = reply.text(alloc, why) else {
         return Err(Stop::Memory);
     };
     match sink.write(text.as_bytes()) {
-        Ok(()) => Ok(reply),
+        Ok(()) => Ok(()),
         Err(_) => Err(Stop::Sink),
     }
 }

@@ -1,24 +1,31 @@
 // One build from nothing.
-ghost use Rattle.std.specs.Prelude.{◌≡◌, ◌⊎◌, ◌++◌, ◌∷◌, ◌≤◌, ◌+◌, ◌-◌, ◌^◌, min, max, ℕ, List, Some, None, codes, []};
+ghost use Rattle.std.specs.Prelude.{◌≡◌, ◌⊎◌, ◌++◌, ◌≤◌, ◌+◌, ◌-◌, ◌^◌, min, max, ℕ, List, Some, Ok, Err, true, false};
 ghost use Rattle.site_base.specs.Ends.{Rose};
-ghost use Rattle.site_base.specs.Places.{Files};
+ghost use Rattle.site_base.specs.declared.settings.Settings.{Settings};
+ghost use Rattle.site_script.specs.Line.{is_moment};
 ghost use Rattle.site_session.specs.Session.{Given, start};
+ghost use Rattle.site_words.specs.declared.faults.UsageKind.{UsageKind};
+ghost use Rattle.site_words.specs.declared.orders.Order.TheVariants as order;
+ghost use Rattle.site_program.specs.Checks.{Checked, CheckTook};
 ghost use Rattle.site_program.specs.Runs.{OnceRun};
-ghost use Rattle.site_program.specs.Once.{once_usage, Comes, Left, Took, Untouched, WasUsage, Ended};
-ghost use Rattle.site_program.specs.declared.usage.UsageKind.{UsageKind};
+ghost use Rattle.site_program.specs.Once.{after_scan, once_order, Took, Untouched, WasUsage, Ended};
+ghost use Rattle.site_program.specs.Usage.{usage_line};
 
+use crate::check::scan_and_check;
 use crate::line::do_line;
 use crate::status::{Status, status_of};
-use crate::usage::{TopCall, tell_usage, usage_kind};
+use crate::usage::{TopCall, read_order, tell_usage};
 use out_tree::OutTree;
 use site_base::{ByteSink, Settings, Words};
 use site_script::Line;
 use site_session::{Reply, Session};
+use site_words::{Order, WordsError};
 use source_tree::SourceTree;
 use std::alloc::Global;
 
-/// The command `once`: scans the source and, where that answers a number, makes the output equal to what its files
-/// stand for. It waits for nobody and always returns.
+/// The commands `once` and `check`. `once` scans the source and, where that answers a number, makes the output equal to what
+/// its files stand for; `check` tells their first fault, or that they have none, and does not call the output. It waits for
+/// nobody and always returns.
 pub fn run_once<S: SourceTree, O: OutTree, K: ByteSink>(
     alloc: Global,
     words: &Words,
@@ -27,25 +34,35 @@ pub fn run_once<S: SourceTree, O: OutTree, K: ByteSink>(
     out: &mut O,
     sink: &mut K,
 ) -> Status
-    // When each status comes,
-    ensures comes { (given : Given) → S.files source.old ≡ Some given.source → O.contents out.old ≡ Some given.output →
-        Comes words.now moment given.source result }
-    // what the output then has,
-    ensures left { (given : Given) → S.files source.old ≡ Some given.source → O.contents out.old ≡ Some given.output →
-        Left given.source (O.contents out.old) (O.contents out.new) result }
-    // and what the sink then took.
-    ensures took { (given : Given) (before : List ℕ) → S.files source.old ≡ Some given.source → O.contents out.old ≡ Some given.output →
-        K.taken sink.old ≡ Some before → Took given before (K.taken sink.new) result }
-
-    // Where the words are a command line, the run is that of a session over the script `scan`, `build`.
-    ensures run { (given : Given) (before : List ℕ) → once_usage words.now moment ≡ None →
+    // Of `once`: when each status comes and what the output then has,
+    ensures once { (given : Given) (settings : Settings) → once_order words.now moment ≡ Ok (order.Once settings) →
+        S.files source.old ≡ Some given.source → O.contents out.old ≡ Some given.output →
+        Ended (after_scan given (start settings moment)) (O.contents out.old) (O.contents out.new) result }
+    // what the sink then took,
+    ensures once_took { (given : Given) (settings : Settings) (before : List ℕ) → once_order words.now moment ≡ Ok (order.Once settings) → given.why ≡ false →
         S.files source.old ≡ Some given.source → O.contents out.old ≡ Some given.output → K.taken sink.old ≡ Some before →
-        OnceRun given (start moment) before (K.taken sink.new) (O.contents out.new) result }
+        Took given (after_scan given (start settings moment)) before (K.taken sink.new) result }
+    // and that the run is one of a session over the script `scan`, `build`.
+    ensures once_run { (given : Given) (settings : Settings) (before : List ℕ) → once_order words.now moment ≡ Ok (order.Once settings) → given.why ≡ false →
+        S.files source.old ≡ Some given.source → O.contents out.old ≡ Some given.output → K.taken sink.old ≡ Some before →
+        OnceRun given (start settings moment) before (K.taken sink.new) (O.contents out.new) result }
+
+    // Of `check`: when each status comes,
+    ensures check { (given : Given) (settings : Settings) → once_order words.now moment ≡ Ok (order.Check settings) →
+        S.files source.old ≡ Some given.source → Checked (after_scan given (start settings moment)) result }
+    // what the sink then took,
+    ensures check_took { (given : Given) (settings : Settings) (before : List ℕ) → once_order words.now moment ≡ Ok (order.Check settings) →
+        S.files source.old ≡ Some given.source → K.taken sink.old ≡ Some before →
+        CheckTook given (after_scan given (start settings moment)) before (K.taken sink.new) result }
+    // and that the output is the same value as before.
+    ensures check_untouched { (settings : Settings) → once_order words.now moment ≡ Ok (order.Check settings) → out.new ≡ out.old }
 
     // Whatever the ends tell: the words alone decide about Usage, and a run that did not come to build left the output alone.
-    ensures usage { (kind : UsageKind) → once_usage words.now moment ≡ Some kind → WasUsage kind result }
-    ensures only_usage { (kind : UsageKind) → result ≡ Status.Usage kind → once_usage words.now moment ≡ Some kind }
-    ensures usage_untouched { (kind : UsageKind) → once_usage words.now moment ≡ Some kind → (source.new ≡ source.old) × (out.new ≡ out.old) }
+    ensures usage { (kind : UsageKind) → once_order words.now moment ≡ Err kind → WasUsage kind result }
+    ensures usage_took { (kind : UsageKind) (before : List ℕ) → K.taken sink.old ≡ Some before → result ≡ Status.Usage kind →
+        K.taken sink.new ≡ Some (before ++ usage_line kind) }
+    ensures only_usage { (kind : UsageKind) → result ≡ Status.Usage kind → once_order words.now moment ≡ Err kind }
+    ensures usage_untouched { (kind : UsageKind) → once_order words.now moment ≡ Err kind → (source.new ≡ source.old) × (out.new ≡ out.old) }
     ensures untouched { Untouched result → out.new ≡ out.old }
 
     // A failure is answered only where that end failed in this call.
@@ -53,27 +70,37 @@ pub fn run_once<S: SourceTree, O: OutTree, K: ByteSink>(
     ensures out_fault { (count : ℕ) → result ≡ Status.OutFault count → min (O.faults out.old + max count 1) (2 ^ 64 - 1) ≤ O.faults out.new }
     ensures sink_fault { result ≡ Status.SinkFault → Rose (K.faults sink.old) (K.faults sink.new) }
 {
-    match usage_kind(words, TopCall::Once, moment) {
-        Some(kind) => tell_usage(alloc, kind, sink),
-        None => scan_and_build(alloc, moment, source, out, sink),
+    match read_order(alloc, words, TopCall::Once, moment) {
+        Ok(order) => match order {
+            Order::Once(settings) => {
+                scan_and_build(alloc, settings, false, moment, source, out, sink)
+            }
+            Order::Check(settings) => scan_and_check(alloc, settings, moment, source, sink),
+            _ => unreachable!(),
+        },
+        Err(WordsError::Usage(kind)) => tell_usage(alloc, kind, sink),
+        Err(WordsError::Memory) => Status::Memory,
     }
 }
 
 // The session over the script `scan`, `build`, where the build is left out if the scan answers no number.
 pub(crate) fn scan_and_build<S: SourceTree, O: OutTree, K: ByteSink>(
     alloc: Global,
+    settings: Settings,
+    why: bool,
     moment: i64,
     source: &mut S,
     out: &mut O,
     sink: &mut K,
 ) -> Status
+    requires { is_moment moment ≡ true }
     ensures told { (given : Given) → S.files source.old ≡ Some given.source → O.contents out.old ≡ Some given.output →
-        Ended given (O.contents out.old) (O.contents out.new) result }
-    ensures took { (given : Given) (before : List ℕ) → S.files source.old ≡ Some given.source → O.contents out.old ≡ Some given.output →
-        K.taken sink.old ≡ Some before → Took given before (K.taken sink.new) result }
-    ensures run { (given : Given) (before : List ℕ) →
+        Ended (after_scan given (start settings moment)) (O.contents out.old) (O.contents out.new) result }
+    ensures took { (given : Given) (before : List ℕ) → given.why ≡ why → S.files source.old ≡ Some given.source → O.contents out.old ≡ Some given.output →
+        K.taken sink.old ≡ Some before → Took given (after_scan given (start settings moment)) before (K.taken sink.new) result }
+    ensures run { (given : Given) (before : List ℕ) → given.why ≡ why →
         S.files source.old ≡ Some given.source → O.contents out.old ≡ Some given.output → K.taken sink.old ≡ Some before →
-        OnceRun given (start moment) before (K.taken sink.new) (O.contents out.new) result }
+        OnceRun given (start settings moment) before (K.taken sink.new) (O.contents out.new) result }
     ensures no_usage { (kind : UsageKind) → result ≡ Status.Usage kind → ⊥ }
     ensures no_input { result ≡ Status.InputFault → ⊥ }
     ensures untouched { Untouched result → out.new ≡ out.old }
@@ -81,12 +108,8 @@ pub(crate) fn scan_and_build<S: SourceTree, O: OutTree, K: ByteSink>(
     ensures out_fault { (count : ℕ) → result ≡ Status.OutFault count → min (O.faults out.old + max count 1) (2 ^ 64 - 1) ≤ O.faults out.new }
     ensures sink_fault { result ≡ Status.SinkFault → Rose (K.faults sink.old) (K.faults sink.new) }
 {
-    let settings = Settings {
-        drafts: false,
-        future: false,
-    };
     let mut session = Session::open(alloc, settings, moment);
-    let scanned = match do_line(alloc, &mut session, 1, Line::Scan, source, out, sink) {
+    let scanned = match do_line(alloc, why, &mut session, 1, Line::Scan, source, out, sink) {
         Ok(scanned) => scanned,
         Err(stop) => return stop.status(),
     };
@@ -94,7 +117,7 @@ pub(crate) fn scan_and_build<S: SourceTree, O: OutTree, K: ByteSink>(
         Reply::Scanned(_) => {}
         other => return status_of(other),
     }
-    match do_line(alloc, &mut session, 2, Line::Build, source, out, sink) {
+    match do_line(alloc, why, &mut session, 2, Line::Build, source, out, sink) {
         Ok(built) => status_of(built),
         Err(stop) => stop.status(),
     }

@@ -2,10 +2,10 @@
 ghost use Rattle.std.specs.Prelude.{◌≡◌, ◌⊎◌, ℕ, length};
 ghost use Rattle.site_program.specs.Runs.{status_number, reply_status};
 
-use crate::usage::UsageKind;
 use site_base::SiteFault;
 use site_script::ScriptKind;
 use site_session::Reply;
+use site_words::UsageKind;
 
 /// How a run ended.
 #[derive(Drop)]
@@ -14,7 +14,7 @@ pub enum Status {
     Done,
     /// The site has this first fault.
     Site(SiteFault),
-    /// The words are no command line.
+    /// The words are no command line, or the moment is out of its range.
     Usage(UsageKind),
     /// The source failed.
     SourceFault,

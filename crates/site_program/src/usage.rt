@@ -1,49 +1,22 @@
-// What is wrong with the words of a command line.
-ghost use Rattle.std.specs.Prelude.{◌≡◌, ◌⊎◌, ◌++◌, ℕ, List, Some, IfOk, codes, length};
+// What the words of a command line order.
+ghost use Rattle.std.specs.Prelude.{◌≡◌, ◌⊎◌, ◌++◌, ℕ, List, Some, IfOk, Ok, codes};
 ghost use Rattle.std.specs.String.{string_bytes};
 ghost use Rattle.site_base.specs.Ends.{Rose};
-ghost use Rattle.site_program.specs.Usage.{usage_number, usage_line, usage_kind, knows, is_moment};
+ghost use Rattle.site_script.specs.Line.{is_moment};
+ghost use Rattle.site_words.specs.Words.{Answers};
+ghost use Rattle.site_program.specs.Usage.{knows, order_of, timed, usage_line};
 
 use crate::status::Status;
 use site_base::{ByteSink, Words};
+use site_words::{Order, UsageKind, WordsError, read_words};
 use std::alloc::{AllocError, Global};
 
 const LAST_MOMENT: i64 = 253_402_214_399;
 
-/// What is wrong with the words of a command line, in the order tested.
-#[derive(Clone, Copy, Debug, PartialEq, Eq)]
-pub enum UsageKind {
-    /// There is no word.
-    Missing,
-    /// The first word is no command.
-    Command,
-    /// A further word is no option of the command.
-    Option,
-    /// The words after `make` are not two numbers in their ranges.
-    Number,
-    /// The moment is out of its range.
-    Moment,
-}
-
-impl UsageKind {
-    /// The number that the program prints: the kind's place, from 1 for `Missing`.
-    pub fn number(self) -> u8
-        ensures { result ≡ usage_number self }
-    {
-        match self {
-            UsageKind::Missing => 1,
-            UsageKind::Command => 2,
-            UsageKind::Option => 3,
-            UsageKind::Number => 4,
-            UsageKind::Moment => 5,
-        }
-    }
-}
-
 // A top call, which knows some of the commands.
 #[derive(Clone, Copy, Debug, PartialEq, Eq)]
 pub(crate) enum TopCall {
-    // `once`.
+    // `once` and `check`.
     Once,
     // `build` and `session`.
     Jobs,
@@ -54,29 +27,41 @@ impl TopCall {
         ensures { result ≡ knows self word.now }
     {
         match self {
-            TopCall::Once => word == "once",
+            TopCall::Once => word == "once" || word == "check",
             TopCall::Jobs => word == "build" || word == "session",
         }
     }
 }
 
-// What is wrong with the words of a top call.
-pub(crate) fn usage_kind(words: &Words, call: TopCall, moment: i64) -> Option<UsageKind>
-    ensures { result ≡ usage_kind call words.now moment }
+// What the words of a top call order.
+pub(crate) fn read_order(
+    alloc: Global,
+    words: &Words,
+    call: TopCall,
+    moment: i64,
+) -> Result<Order, WordsError>
+    ensures { Answers (order_of call words.now moment) result }
 {
     if words.is_empty() {
-        return Some(UsageKind::Missing);
+        return Err(WordsError::Usage(UsageKind::Missing));
     }
     if !call.knows(words.at(0)) {
-        return Some(UsageKind::Command);
+        return Err(WordsError::Usage(UsageKind::Command));
     }
-    if words.len() > 1 {
-        return Some(UsageKind::Option);
+    match read_words(alloc, words) {
+        Ok(order) => timed(order, moment),
+        Err(error) => Err(error),
     }
-    if !is_moment(moment) {
-        return Some(UsageKind::Moment);
+}
+
+fn timed(order: Order, moment: i64) -> Result<Order, WordsError>
+    ensures { Answers (timed moment (Ok order)) result }
+{
+    if is_moment(moment) {
+        Ok(order)
+    } else {
+        Err(WordsError::Usage(UsageKind::Moment))
     }
-    None
 }
 
 fn is_moment(moment: i64) -> bool

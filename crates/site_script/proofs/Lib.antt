@@ -1,3 +1,4 @@
 pub mod Forms
 pub mod Readings
+pub mod Times
 pub mod Rows

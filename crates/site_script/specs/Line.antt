@@ -1,5 +1,7 @@
 -- The numbers of lines and of the kinds of bad lines.
-use Rattle.std.specs.Prelude.{ℕ, ◌+◌, ◌-◌, ◌^◌, min, Bool, true, false}
+use Rattle.std.specs.Prelude.{◌≡◌, ℕ, ◌+◌, ◌-◌, ◌^◌, min, Bool, true, false, nat_le, ℤ, pos, negsuc}
+use Rattle.site_script.specs.declared.head.Head.{Head}
+use Rattle.site_script.specs.declared.head.Head.TheVariants as head
 use Rattle.site_script.specs.declared.line.Line.{Line}
 use Rattle.site_script.specs.declared.line.Line.TheVariants.{Scan, Put, Delete, Time, Build, End, Eof, Bad, Failed, Memory}
 use Rattle.site_script.specs.declared.line.ScriptKind.{ScriptKind}
@@ -32,3 +34,31 @@ ends (Put path bytes) = false
 ends (Delete path) = false
 ends (Time seconds) = false
 ends Build = false
+
+-- from the first second of 1970 to the last of the year 9999 that every offset can name
+abbrev pub is_moment : ℤ → Bool
+is_moment (pos seconds) = nat_le seconds 253402214399
+is_moment (negsuc n) = false
+
+-- a line that sets the moment sets one of these
+abbrev pub IsInTime : Line → Type 0
+IsInTime (Time seconds) = is_moment seconds ≡ true
+IsInTime End = Unit {0}
+IsInTime Eof = Unit {0}
+IsInTime (Bad number kind) = Unit {0}
+IsInTime Failed = Unit {0}
+IsInTime Memory = Unit {0}
+IsInTime Scan = Unit {0}
+IsInTime (Put path bytes) = Unit {0}
+IsInTime (Delete path) = Unit {0}
+IsInTime Build = Unit {0}
+
+-- the same of a line's content
+abbrev pub HasTime : Head → Type 0
+HasTime (head.Time seconds) = is_moment seconds ≡ true
+HasTime head.Scan = Unit {0}
+HasTime head.Build = Unit {0}
+HasTime head.End = Unit {0}
+HasTime (head.Put path count) = Unit {0}
+HasTime (head.Delete path) = Unit {0}
+HasTime (head.Bad kind) = Unit {0}

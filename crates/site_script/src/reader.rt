@@ -1,7 +1,7 @@
 // The lines of a script, read one after another.
 ghost use Rattle.std.specs.Prelude.{◌≡◌, ◌≤◌, ℕ, List, Some, true, false};
 ghost use Rattle.site_base.specs.Ends.{Rose};
-ghost use Rattle.site_script.specs.Line.{line_number, ends};
+ghost use Rattle.site_script.specs.Line.{line_number, ends, HasTime, IsInTime};
 ghost use Rattle.site_script.specs.Script.{first_line, whole_line, ReadsFirst, BearsNumber};
 
 use crate::body::read_body;
@@ -54,6 +54,7 @@ pub fn next_line<I: ByteSource>(alloc: Global, reader: &mut ScriptReader, input:
         ReadsFirst (first_line (line_number reader.old.lines) text) result (I.left input.new) }
     ensures number { reader.old.over ≡ false → reader.new.lines ≡ line_number reader.old.lines }
     ensures bad { BearsNumber reader.new.lines result }
+    ensures time { IsInTime result }
     ensures over { reader.new.over ≡ ends result }
 
     // Once the script is over, no call touches the input.
@@ -87,6 +88,7 @@ fn read_line<I: ByteSource>(alloc: Global, number: u64, input: &mut I) -> Line
     ensures line { (text : List ℕ) → I.left input.old ≡ Some text →
         ReadsFirst (first_line number text) result (I.left input.new) }
     ensures bad { BearsNumber number result }
+    ensures time { IsInTime result }
     ensures later { I.faults input.old ≤ I.faults input.new }
     ensures failed { result ≡ Line.Failed → Rose (I.faults input.old) (I.faults input.new) }
 {
@@ -107,9 +109,11 @@ fn read_line<I: ByteSource>(alloc: Global, number: u64, input: &mut I) -> Line
 
 // The line that a head begins.
 fn finish<I: ByteSource>(alloc: Global, number: u64, head: Head, input: &mut I) -> Line
+    requires { HasTime head }
     ensures line { (text : List ℕ) → I.left input.old ≡ Some text →
         ReadsFirst (whole_line number head text) result (I.left input.new) }
     ensures bad { BearsNumber number result }
+    ensures time { IsInTime result }
     ensures later { I.faults input.old ≤ I.faults input.new }
     ensures failed { result ≡ Line.Failed → Rose (I.faults input.old) (I.faults input.new) }
 {

@@ -1,14 +1,8 @@
 -- What a build makes of a session.
 use Rattle.std.proofs.Common.{◌≡◌, ℕ, Bool, true, false, List, [], ◌∷◌, length, refl, sym, ◌∙◌, ap, subst, Option, Some, None, Result, Ok, Err, arith}
-use Rattle.std.specs.Option.{IsSome, option_map}
-use Rattle.std.specs.FinMap.{entries}
+use Rattle.std.specs.Option.{IsSome}
 use Rattle.site_base.specs.Places.{Files, is_listed}
-use Rattle.site_base.specs.Faults.{fault_at}
-use Rattle.site_base.specs.declared.faults.SiteFault.{SiteFault}
-use Rattle.site_base.specs.declared.faults.FaultKind.TheVariants.{Unbuilt}
 use Rattle.out_tree.specs.Belief.{Belief, believed, all_marked, IsTrueOf, HoldsOf}
-use Rattle.page_render.specs.Thin.{first_unbuilt}
-use Rattle.site_session.specs.Full.{Full, Gives, Fails, kept, full, full_by, tree_of, page_count}
 use Rattle.out_tree.specs.Exact.{IsExactlyBut, MadeBut, MarksThose}
 use Rattle.out_tree.specs.Keep.{is_kept}
 use Rattle.out_tree.specs.declared.state.State.TheVariants as state
@@ -16,9 +10,9 @@ use Rattle.std.specs.FinMap.{get}
 use Rattle.out_tree.specs.Tries.{DoneBut, StaysTrue}
 use Rattle.out_tree.specs.declared.step.Step.{Step}
 use Rattle.site_session.specs.Standing.{Standing, TrueTo, Holds, MakesBut, MarksExactly}
-use Rattle.site_session.specs.Session.{Given, Reply, Event, Built, Marked, Unlisted, Nothing, TheScan, TheList, TheSteps, event_of, failed_of, Faulty, build, build_listed, build_tree}
+use Rattle.site_session.specs.Session.{Given, Reply, Event, Built, Marked, Unlisted, Nothing, TheScan, TheList, TheSteps, event_of, failed_of, build_listed, build_tree}
 use Rattle.site_session.specs.Replies.{built_reply}
-use Rattle.site_session.specs.declared.build.Report.{Report}
+use Rattle.site_session.specs.declared.output.Output.{Output}
 use Rattle.site_session.specs.declared.build.Rebuilt.{Rebuilt}
 use Rattle.site_session.specs.declared.build.Rebuilt.TheVariants as rebuilt
 use Rattle.site_base.specs.declared.errors.Memory.{Memory}
@@ -29,35 +23,27 @@ holds_listed told None there first some is truth = absurd (cc (some))
 holds_listed told (Some belief) there first some is truth = record { there = there; told_is = is; is_true = truth }
 
 -- the standing after a build that took place
-listed_now : (given : Given) (now : Standing) (tree : Files) (pages : ℕ) (e : Event) → (e ≡ TheList → ⊥) → build_tree given now tree pages None e ≡ build_listed now tree pages (all_marked given.output) (failed_of e)
-listed_now given now tree pages Nothing other = refl
-listed_now given now tree pages TheScan other = refl
-listed_now given now tree pages TheList other = absurd (other refl)
-listed_now given now tree pages (TheSteps paths) other = refl
+listed_now : (given : Given) (now : Standing) (output : Output) (e : Event) → (e ≡ TheList → ⊥) → build_tree given now output None e ≡ build_listed now output (all_marked given.output) (failed_of e)
+listed_now given now output Nothing other = refl
+listed_now given now output TheScan other = refl
+listed_now given now output TheList other = absurd (other refl)
+listed_now given now output (TheSteps paths) other = refl
 
 -- what a first list makes of a belief: all is marked, or it stays where the output had been listed
 pub record Listed (was now : Option Belief) (told : Option Files) : Type 0 where
   pub again : IsSome was → now ≡ was
   pub marks : was ≡ None → (files : Files) → told ≡ Some files → now ≡ Some (all_marked files)
 
-pub make_answers : (given : Given) (now : Standing) (tree : Files) (pages : ℕ) (reply : Reply) (was mid new : Option Belief) (told : Option Files)
+pub make_answers : (given : Given) (now : Standing) (output : Output) (reply : Reply) (was mid new : Option Belief) (told : Option Files)
     → Listed was mid told → Holds told was given.output
     → (event_of reply ≡ TheList → ⊥)
-    → build_listed now tree pages (believed mid) (failed_of (event_of reply)) ≡ (record now { belief = new }, reply)
-    → build_tree given now tree pages was (event_of reply) ≡ (record now { belief = new }, reply)
-make_answers given now tree pages reply (Some belief) mid new told l h other is =
-    ap (λ (b : Option Belief). build_listed now tree pages (believed b) (failed_of (event_of reply))) (sym (l.again refl)) ∙ is
-make_answers given now tree pages reply None mid new told l h other is =
+    → build_listed now output (believed mid) (failed_of (event_of reply)) ≡ (record now { belief = new }, reply)
+    → build_tree given now output was (event_of reply) ≡ (record now { belief = new }, reply)
+make_answers given now output reply (Some belief) mid new told l h other is =
+    ap (λ (b : Option Belief). build_listed now output (believed b) (failed_of (event_of reply))) (sym (l.again refl)) ∙ is
+make_answers given now output reply None mid new told l h other is =
     let marked : mid ≡ Some (all_marked given.output) = l.marks refl given.output (h.told_is ∙ ap Some h.is_true) in
-    listed_now given now tree pages (event_of reply) other ∙ ap (λ (b : Option Belief). build_listed now tree pages (believed b) (failed_of (event_of reply))) (sym marked) ∙ is
-
-pub fails_at : (files : Files) (fault : SiteFault) (found : Option SiteFault) → found ≡ option_map (fault_at Unbuilt) (first_unbuilt (entries files)) → found ≡ Some fault → full files ≡ Fails fault
-unfolding full
-fails_at files fault found is some = by (first_unbuilt (entries files)) (sym is ∙ some)
-  where
-    by : (path : Option (List ℕ)) → option_map (fault_at Unbuilt) path ≡ Some fault → full_by files path ≡ Fails fault
-    by None e = absurd (cc (e))
-    by (Some path) e = let same : fault_at Unbuilt path ≡ fault = cc in ap Fails same
+    listed_now given now output (event_of reply) other ∙ ap (λ (b : Option Belief). build_listed now output (believed b) (failed_of (event_of reply))) (sym marked) ∙ is
 
 pub nothing : {A : Type 0} (xs : List A) → length xs ≡ 0 → xs ≡ []
 nothing [] e = refl
@@ -71,30 +57,21 @@ holds_after was now told tells steps failed old first some done stays told_is tr
     holds_listed tells now after.0 first some after.1 (stays.stays old after.0 told_is after.1 truth)
 
 -- the output is exactly the tree but for what failed, and that is marked
-pub makes_but : (was now : Option Belief) (told tells : Option Files) (tree : Files) (keep : List (List ℕ)) (steps : List Step) (failed other : List (List ℕ)) (old : Files)
-    → DoneBut failed steps told tells → MadeBut failed (believed was) tree keep told tells → MarksThose failed keep (believed was) (believed now) → other ≡ failed → keep ≡ kept
-    → told ≡ Some old → IsTrueOf (believed was) old → MakesBut other tree told tells × MarksExactly other now
-makes_but was now told tells tree keep steps failed other old done made marks same keep_is told_is truth =
+pub makes_but : (was now : Option Belief) (told tells : Option Files) (output : Output) (steps : List Step) (failed other : List (List ℕ)) (old : Files)
+    → DoneBut failed steps told tells → MadeBut failed (believed was) output.tree output.keep told tells → MarksThose failed output.keep (believed was) (believed now) → other ≡ failed
+    → told ≡ Some old → IsTrueOf (believed was) old → MakesBut other output told tells × MarksExactly other output.keep now
+makes_but was now told tells output steps failed other old done made marks same told_is truth =
     let after = done.tells_still old told_is in
-    subst (λ (f : List (List ℕ)). MakesBut f tree told tells × MarksExactly f now) (sym same) (
-      record {
-        old = old;
-        new = after.0;
-        told_is = told_is;
-        tells_is = after.1;
-        exactly = subst (λ (k : List (List ℕ)). IsExactlyBut failed tree k old after.0) keep_is (made.is_exactly old after.0 told_is after.1 truth);
-      },
+    subst (λ (f : List (List ℕ)). MakesBut f output told tells × MarksExactly f output.keep now) (sym same) (
+      record { old = old; new = after.0; told_is = told_is; tells_is = after.1; exactly = made.is_exactly old after.0 told_is after.1 truth },
       λ path apart. (marked_listed path apart, λ there. marks.failed_marked path there),
     )
   where
-    marked_listed : (path : List ℕ) → is_kept kept path ≡ false → get (believed now) path ≡ Some state.Marked → is_listed path failed ≡ true
+    marked_listed : (path : List ℕ) → is_kept output.keep path ≡ false → get (believed now) path ≡ Some state.Marked → is_listed path failed ≡ true
     marked_listed path apart at =
         elim (is_listed path failed) as (λ b. is_listed path failed ≡ b → b ≡ true) [
           | true ↦ λ e. refl
-          | false ↦ λ e.
-              let both = marks.marked_failed path e at in
-              let keeps : is_kept kept path ≡ true = ap (λ (k : List (List ℕ)). is_kept k path) (sym keep_is) ∙ both.0 in
-              absurd (cc (apart, keeps))
+          | false ↦ λ e. let both = marks.marked_failed path e at in absurd (cc (apart, both.0))
         ] refl
 
 -- the belief after the first list is true of what was there
@@ -115,6 +92,6 @@ pub holds_again : (told : Option Files) (belief : Option Belief) (first other : 
 holds_again told None first other some h = absurd (cc (some))
 holds_again told (Some belief) first other some h = record { there = h.there; told_is = h.told_is; is_true = h.is_true }
 
-pub same_told : (failed : List (List ℕ)) (tree : Files) (told was tells : Option Files) → told ≡ was → MakesBut failed tree told tells → MakesBut failed tree was tells
-same_told failed tree told was tells same made =
+pub same_told : (failed : List (List ℕ)) (output : Output) (told was tells : Option Files) → told ≡ was → MakesBut failed output told tells → MakesBut failed output was tells
+same_told failed output told was tells same made =
     record { old = made.old; new = made.new; told_is = sym same ∙ made.told_is; tells_is = made.tells_is; exactly = made.exactly }

@@ -1,3 +1,4 @@
+pub mod Moments
+pub mod Rendering
 pub mod Builds
-pub mod Keeping
 pub mod Steps

@@ -1,10 +1,12 @@
 -- The bytes of a reply.
-use Rattle.std.specs.Prelude.{ℕ, List, [], ◌∷◌, ◌++◌, length, codes, flat_map}
+use Rattle.std.specs.Prelude.{ℕ, Bool, List, [], ◌∷◌, ◌++◌, ◌==◌, length, codes, flat_map, if◌then◌else◌}
 use Rattle.std.specs.Fmt.{decimal}
 use Rattle.site_base.specs.Faults.{fault_number}
 use Rattle.site_base.specs.declared.faults.SiteFault.{SiteFault}
 use Rattle.site_script.specs.Line.{script_number}
+use Rattle.site_base.specs.declared.item_name.ItemName.{ItemName}
 use Rattle.site_session.specs.declared.build.Report.{Report}
+use Rattle.site_session.specs.declared.why.Why.{Why}
 use Rattle.site_session.specs.declared.reply.Reply.{Reply}
 use Rattle.site_session.specs.declared.reply.Reply.TheVariants.{Scanned, ScanFault, Faulty, Fine, Absent, Built, Marked, Unlisted, BadLine, Silent}
 
@@ -16,22 +18,33 @@ built_line report =
     codes "built rendered=" ++ (decimal report.rendered ++ (codes " reused=" ++ (decimal report.reused
     ++ (codes " written=" ++ (decimal report.written ++ (codes " removed=" ++ (decimal report.removed ++ codes "\n")))))))
 
+-- the path of an item, with `#` and its part where that is not 0
+abbrev pub item_text : ItemName → List ℕ
+item_text name = name.path ++ (if name.part == 0 then [] else codes "#" ++ decimal name.part)
+
+abbrev pub why_line : Why → List ℕ
+why_line why = codes "why " ++ (item_text why.name ++ codes " new\n")
+
+-- where reasons are told, they stand before what was built
+abbrev pub why_lines : Bool → Report → List ℕ
+why_lines tells report = if tells then flat_map why_line report.why else []
+
 abbrev pub marked_line : List ℕ → List ℕ
 marked_line path = codes "marked " ++ (path ++ codes "\n")
 
 -- each line with its end
-abbrev pub reply_bytes : Reply → List ℕ
-reply_bytes (Scanned count) = codes "scanned " ++ (decimal count ++ codes "\n")
-reply_bytes ScanFault = codes "scan-fault\n"
-reply_bytes (Faulty fault) = fault_line fault
-reply_bytes Fine = codes "ok\n"
-reply_bytes Absent = codes "absent\n"
-reply_bytes (Built report) = built_line report
-reply_bytes (Marked paths) = codes "out-fault " ++ (decimal (length paths) ++ (codes "\n" ++ flat_map marked_line paths))
-reply_bytes Unlisted = codes "out-fault 0\n"
-reply_bytes (BadLine number kind) = codes "script " ++ (decimal number ++ (codes " " ++ (decimal (script_number kind) ++ codes "\n")))
-reply_bytes Silent = []
+abbrev pub reply_bytes : Bool → Reply → List ℕ
+reply_bytes tells (Scanned count) = codes "scanned " ++ (decimal count ++ codes "\n")
+reply_bytes tells ScanFault = codes "scan-fault\n"
+reply_bytes tells (Faulty fault) = fault_line fault
+reply_bytes tells Fine = codes "ok\n"
+reply_bytes tells Absent = codes "absent\n"
+reply_bytes tells (Built report) = why_lines tells report ++ built_line report
+reply_bytes tells (Marked paths) = codes "out-fault " ++ (decimal (length paths) ++ (codes "\n" ++ flat_map marked_line paths))
+reply_bytes tells Unlisted = codes "out-fault 0\n"
+reply_bytes tells (BadLine number kind) = codes "script " ++ (decimal number ++ (codes " " ++ (decimal (script_number kind) ++ codes "\n")))
+reply_bytes tells Silent = []
 
 -- the replies, one after another
-abbrev pub written : List Reply → List ℕ
-written replies = flat_map reply_bytes replies
+abbrev pub written : Bool → List Reply → List ℕ
+written tells replies = flat_map (reply_bytes tells) replies

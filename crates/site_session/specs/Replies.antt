@@ -3,11 +3,11 @@ use Rattle.std.specs.Prelude.{◌≡◌, ℕ, Bool, true, false, List, [], Optio
 use Rattle.site_base.specs.declared.errors.Memory.{Memory}
 use Rattle.source_tree.specs.declared.scan_error.ScanError.{ScanError}
 use Rattle.source_tree.specs.declared.scan_error.ScanError.TheVariants as scan_error
-use Rattle.site_session.specs.Session.{Reply, Scanned, ScanFault, Faulty, Fine, Absent, Built, Marked, Unlisted, BadLine, Silent, output_faults}
+use Rattle.site_session.specs.Session.{full_now, Reply, Scanned, ScanFault, Faulty, Fine, Absent, Built, Marked, Unlisted, BadLine, Silent, output_faults}
 use Rattle.site_base.specs.Places.{Files}
 use Rattle.out_tree.specs.Belief.{Belief}
-use Rattle.site_session.specs.Full.{full, Gives}
-use Rattle.site_session.specs.Standing.{MakesBut, MarksExactly}
+use Rattle.site_session.specs.Standing.{Standing, MakesBut, MarksExactly}
+use Rattle.site_session.specs.declared.output.Output.{Output}
 use Rattle.site_session.specs.declared.build.Rebuilt.{Rebuilt}
 use Rattle.site_session.specs.declared.build.Rebuilt.TheVariants as rebuilt
 
@@ -32,26 +32,25 @@ FailedAt (Ok (rebuilt.Fault fault)) failed = ⊥
 FailedAt (Ok rebuilt.Unlisted) failed = ⊥
 FailedAt (Err error) failed = ⊥
 
--- what these files stand for is what the output was made, but for these paths, and these are marked
-pub record Leaves (files : Files) (failed : List (List ℕ)) (told tells : Option Files) (belief : Option Belief) : Type 0 where
-  pub tree : Files
-  pub pages : ℕ
-  pub stands_for : full files ≡ Gives tree pages
-  pub made : MakesBut failed tree told tells
-  pub marked : MarksExactly failed belief
+-- what the held files stand for is what the output was made, but for these paths, and these are marked
+pub record Leaves (now : Standing) (failed : List (List ℕ)) (told tells : Option Files) (belief : Option Belief) : Type 0 where
+  pub output : Output
+  pub stands_for : full_now now ≡ Ok output
+  pub made : MakesBut failed output told tells
+  pub marked : MarksExactly failed output.keep belief
 
 -- what a build that is replied so has left; another reply tells nothing of the output
-abbrev pub LeavesBy : Files → Reply → Option Files → Option Files → Option Belief → Type 0
-LeavesBy files (Built report) told tells belief = Leaves files [] told tells belief
-LeavesBy files (Marked paths) told tells belief = Leaves files paths told tells belief
-LeavesBy files (Scanned count) told tells belief = Unit {0}
-LeavesBy files ScanFault told tells belief = Unit {0}
-LeavesBy files (Faulty fault) told tells belief = Unit {0}
-LeavesBy files Fine told tells belief = Unit {0}
-LeavesBy files Absent told tells belief = Unit {0}
-LeavesBy files Unlisted told tells belief = tells ≡ told
-LeavesBy files (BadLine number kind) told tells belief = Unit {0}
-LeavesBy files Silent told tells belief = Unit {0}
+abbrev pub LeavesBy : Standing → Reply → Option Files → Option Files → Option Belief → Type 0
+LeavesBy now (Built report) told tells belief = Leaves now [] told tells belief
+LeavesBy now (Marked paths) told tells belief = Leaves now paths told tells belief
+LeavesBy now (Scanned count) told tells belief = Unit {0}
+LeavesBy now ScanFault told tells belief = Unit {0}
+LeavesBy now (Faulty fault) told tells belief = Unit {0}
+LeavesBy now Fine told tells belief = Unit {0}
+LeavesBy now Absent told tells belief = Unit {0}
+LeavesBy now Unlisted told tells belief = tells ≡ told
+LeavesBy now (BadLine number kind) told tells belief = Unit {0}
+LeavesBy now Silent told tells belief = Unit {0}
 
 -- a reply to a line that has called the output
 abbrev pub has_called_output : Reply → Bool

@@ -1,9 +1,10 @@
 -- A session: what each line of a script does, and its reply. It is a fold over the lines, and knows neither how the
 -- output is compared nor what is kept from one build to the next.
-use Rattle.std.specs.Prelude.{◌≡◌, ℕ, ℤ, ◌+◌, Bool, true, false, List, [], ◌∷◌, length, max, Option, Some, None, if◌then◌else◌}
+use Rattle.std.specs.Prelude.{◌≡◌, ℕ, ℤ, ◌+◌, Bool, true, false, List, [], ◌∷◌, length, max, Option, Some, None, Ok, Err, if◌then◌else◌}
 use Rattle.std.specs.FinMap.{entries, empty, insert, remove, contains_key, len}
 use Rattle.site_base.specs.Places.{Files}
 use Rattle.site_base.specs.declared.faults.SiteFault.{SiteFault}
+use Rattle.site_base.specs.declared.settings.Settings.{Settings}
 use Rattle.site_script.specs.Line.{line_number}
 use Rattle.site_script.specs.declared.line.Line.{Line}
 use Rattle.site_script.specs.declared.line.Line.TheVariants.{Scan, Put, Delete, Time, Build, End, Eof, Bad, Failed, Memory}
@@ -17,16 +18,20 @@ use Rattle.source_tree.specs.declared.put_error.PutError.TheVariants as refusal
 use Rattle.out_tree.specs.Plan.{planned, removals, writes}
 use Rattle.out_tree.specs.Belief.{Belief, after, all_marked}
 use Rattle.site_session.specs.Standing.{Standing}
-use Rattle.site_session.specs.Full.{Full, Gives, Fails, full, kept}
+use Rattle.site_reader.specs.Found.{Found}
+use Rattle.site_session.specs.Full.{full}
+use Rattle.site_session.specs.declared.build.Report.{Report}
+use Rattle.site_session.specs.declared.output.Output.{Output}
 
 -- the session before its first line
-abbrev pub start : ℤ → Standing
-start moment = record { files = empty; moment = moment; belief = None }
+abbrev pub start : Settings → ℤ → Standing
+start settings moment = record { files = empty; moment = moment; settings = settings; belief = None }
 
--- what is given: the files of the source, and those that the output has at first
+-- what is given: the files of the source, those that the output has at first, and whether reasons are told
 pub record Given : Type 0 where
   pub source : Files
   pub output : Files
+  pub why : Bool
 
 -- what failed at a line
 pub data Event : Type 0 where
@@ -75,28 +80,40 @@ failed_of Nothing = []
 failed_of TheScan = []
 failed_of TheList = []
 
-abbrev pub build_reply : Belief → Files → ℕ → List (List ℕ) → Reply
-build_reply belief tree pages [] =
-    Built (record { rendered = pages; reused = 0; written = length (writes belief tree); removed = length (removals belief tree kept) })
-build_reply belief tree pages (path ∷ paths) = Marked (path ∷ paths)
+abbrev pub report : Belief → Output → Report
+report belief output = record {
+  rendered = output.rendered;
+  reused = 0;
+  written = length (writes belief output.tree);
+  removed = length (removals belief output.tree output.keep);
+  why = output.why;
+}
+
+abbrev pub build_reply : Belief → Output → List (List ℕ) → Reply
+build_reply belief output [] = Built (report belief output)
+build_reply belief output (path ∷ paths) = Marked (path ∷ paths)
 
 -- an output that has been listed is made equal to the tree, but for what failed
-abbrev pub build_listed : Standing → Files → ℕ → Belief → List (List ℕ) → Standing × Reply
-build_listed now tree pages belief failed =
-    (record now { belief = Some (after belief (planned belief tree kept) failed) }, build_reply belief tree pages failed)
+abbrev pub build_listed : Standing → Output → Belief → List (List ℕ) → Standing × Reply
+build_listed now output belief failed =
+    (record now { belief = Some (after belief (planned belief output.tree output.keep) failed) }, build_reply belief output failed)
 
 -- the first build whose list of the output succeeds marks every path that is there
-abbrev pub build_tree : Given → Standing → Files → ℕ → Option Belief → Event → Standing × Reply
-build_tree given now tree pages (Some belief) event = build_listed now tree pages belief (failed_of event)
-build_tree given now tree pages None TheList = (now, Unlisted)
-build_tree given now tree pages None Nothing = build_listed now tree pages (all_marked given.output) []
-build_tree given now tree pages None TheScan = build_listed now tree pages (all_marked given.output) []
-build_tree given now tree pages None (TheSteps paths) = build_listed now tree pages (all_marked given.output) paths
+abbrev pub build_tree : Given → Standing → Output → Option Belief → Event → Standing × Reply
+build_tree given now output (Some belief) event = build_listed now output belief (failed_of event)
+build_tree given now output None TheList = (now, Unlisted)
+build_tree given now output None Nothing = build_listed now output (all_marked given.output) []
+build_tree given now output None TheScan = build_listed now output (all_marked given.output) []
+build_tree given now output None (TheSteps paths) = build_listed now output (all_marked given.output) paths
 
 -- a build tells the first fault of the files that are held, or makes the output equal to what they stand for
-abbrev pub build : Given → Standing → Full → Event → Standing × Reply
-build given now (Fails fault) event = (now, Faulty fault)
-build given now (Gives tree pages) event = build_tree given now tree pages now.belief event
+abbrev pub build : Given → Standing → Found Output → Event → Standing × Reply
+build given now (Err fault) event = (now, Faulty fault)
+build given now (Ok output) event = build_tree given now output now.belief event
+
+-- what the held files stand for
+abbrev pub full_now : Standing → Found Output
+full_now now = full now.files now.moment now.settings
 
 -- what follows a line that has this number, and its reply
 abbrev pub step : Given → Standing → ℕ → Line → Event → Standing × Reply
@@ -105,7 +122,7 @@ step given now number (Put path bytes) event = put now number path bytes (put_re
 step given now number (Delete path) event =
     (record now { files = remove now.files path }, if contains_key now.files path then Fine else Absent)
 step given now number (Time seconds) event = (record now { moment = seconds }, Fine)
-step given now number Build event = build given now (full now.files) event
+step given now number Build event = build given now (full_now now) event
 step given now number (Bad at bad) event = (now, BadLine at bad)
 step given now number End event = (now, Silent)
 step given now number Eof event = (now, Silent)

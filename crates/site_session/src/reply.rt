@@ -3,10 +3,10 @@ ghost use Rattle.std.specs.Prelude.{◌≡◌, ◌++◌, ◌∷◌, [], IfOk, On
 ghost use Rattle.std.specs.Fmt.{decimal};
 ghost use Rattle.std.specs.String.{string_bytes};
 ghost use Rattle.site_script.specs.Line.{script_number};
-ghost use Rattle.site_session.specs.Bytes.{fault_line, built_line, marked_line};
+ghost use Rattle.site_session.specs.Bytes.{fault_line, built_line, item_text, marked_line, why_line, why_lines};
 
-use crate::Report;
-use site_base::{PathList, SiteFault};
+use crate::{Report, Why};
+use site_base::{ItemName, PathList, SiteFault};
 use site_script::ScriptKind;
 use std::alloc::{AllocError, Global};
 
@@ -37,9 +37,9 @@ pub enum Reply {
 impl Reply {
     ghost use Rattle.site_session.specs.Bytes.{reply_bytes};
 
-    /// The bytes of the reply, each line with its end.
-    pub fn text(&self, alloc: Global) -> Result<String, AllocError>
-        ensures { IfOk result (λ text. string_bytes text ≡ reply_bytes self.now) }
+    /// The bytes of the reply, each line with its end. Where reasons are told, those of a build stand before it.
+    pub fn text(&self, alloc: Global, tells_why: bool) -> Result<String, AllocError>
+        ensures { IfOk result (λ text. string_bytes text ≡ reply_bytes tells_why self.now) }
     {
         match self {
             Reply::Scanned(count) => format!(in alloc; "scanned {count}\n"),
@@ -47,7 +47,7 @@ impl Reply {
             Reply::Faulty(fault) => fault_text(alloc, fault),
             Reply::Fine => String::from_str(alloc, "ok\n"),
             Reply::Absent => String::from_str(alloc, "absent\n"),
-            Reply::Built(report) => built_text(alloc, report),
+            Reply::Built(report) => built_text(alloc, report, tells_why),
             Reply::Marked(paths) => marked_text(alloc, paths),
             Reply::Unlisted => String::from_str(alloc, "out-fault 0\n"),
             Reply::BadLine(number, kind) => bad_line_text(alloc, *number, *kind),
@@ -65,7 +65,15 @@ fn fault_text(alloc: Global, fault: &SiteFault) -> Result<String, AllocError>
     format!(in alloc; "fault F{kind} {line} {path}\n")
 }
 
-fn built_text(alloc: Global, report: &Report) -> Result<String, AllocError>
+fn built_text(alloc: Global, report: &Report, tells_why: bool) -> Result<String, AllocError>
+    ensures { IfOk result (λ text. string_bytes text ≡ why_lines tells_why report.now ++ built_line report.now) }
+{
+    let mut text = why_text(alloc, report, tells_why)?;
+    text.push_str(counts_text(alloc, report)?.as_str())?;
+    Ok(text)
+}
+
+fn counts_text(alloc: Global, report: &Report) -> Result<String, AllocError>
     ensures { IfOk result (λ text. string_bytes text ≡ built_line report.now) }
 {
     let rendered = report.rendered;
@@ -75,6 +83,44 @@ fn built_text(alloc: Global, report: &Report) -> Result<String, AllocError>
     format!(in alloc;
         "built rendered={rendered} reused={reused} written={written} removed={removed}\n"
     )
+}
+
+fn why_text(alloc: Global, report: &Report, tells_why: bool) -> Result<String, AllocError>
+    ensures { IfOk result (λ text. string_bytes text ≡ why_lines tells_why report.now) }
+{
+    let mut text = String::new(alloc);
+    if tells_why {
+        push_reasons(alloc, &mut text, report.why.as_slice())?;
+    }
+    Ok(text)
+}
+
+fn push_reasons(alloc: Global, text: &mut String, why: &[Why]) -> Result<(), AllocError>
+    ensures { OnOk result (string_bytes text.new ≡ string_bytes text.old ++ flat_map why_line why.now) }
+{
+    for one in why {
+        text.push_str(why_line(alloc, one)?.as_str())?;
+    }
+    Ok(())
+}
+
+fn why_line(alloc: Global, why: &Why) -> Result<String, AllocError>
+    ensures { IfOk result (λ text. string_bytes text ≡ why_line why.now) }
+{
+    let name = item_text(alloc, &why.name)?;
+    format!(in alloc; "why {name} new\n")
+}
+
+fn item_text(alloc: Global, name: &ItemName) -> Result<String, AllocError>
+    ensures { IfOk result (λ text. string_bytes text ≡ item_text name.now) }
+{
+    let path = name.path.text();
+    let part = name.part;
+    if part == 0 {
+        String::from_str(alloc, path)
+    } else {
+        format!(in alloc; "{path}#{part}")
+    }
 }
 
 fn marked_text(alloc: Global, paths: &PathList) -> Result<String, AllocError>

@@ -5,17 +5,19 @@ ghost use Rattle.site_base.specs.Places.{Files};
 ghost use Rattle.site_base.specs.Ends.{HasCauseOf, Rose};
 ghost use Rattle.source_tree.specs.Put.{put_refusal};
 ghost use Rattle.site_base.specs.declared.faults.SiteFault.{SiteFault};
-ghost use Rattle.site_session.specs.Full.{full, Fails};
+ghost use Rattle.site_script.specs.Line.{IsInTime, is_moment};
+ghost use Rattle.site_session.specs.Full.{full, fault_of};
 ghost use Rattle.site_session.specs.Standing.{Holds};
 ghost use Rattle.site_session.specs.Session.{Given, Reply, Fine, Absent, Answers, start, output_faults, source_faults};
 ghost use Rattle.site_session.specs.Replies.{scan_reply, built_reply, FailedAt, Leaves, LeavesBy, IsQuiet, has_called_output};
 ghost use Rattle.site_script.specs.declared.line.Line.TheVariants as line;
 
 use crate::build::{Rebuilt, make};
-use crate::made::{Made, Outputs, kept_last, make_outputs};
+use crate::output::full;
 use crate::reply::Reply;
 use out_tree::{OutKeeper, OutTree};
-use site_base::{FileBytes, Memory, Settings, SitePath};
+use site_base::{FileBytes, Memory, Settings, SiteFault, SitePath};
+use site_reader::SiteError;
 use site_script::{Line, ScriptKind};
 use source_tree::{Held, PutError, ScanError, SourceTree};
 use std::alloc::Global;
@@ -28,9 +30,6 @@ pub struct Session {
     settings: Settings,
     moment: i64,
     keeper: OutKeeper,
-    alloc: Global,
-    // What is kept of the last build, where it was done and nothing since has made it useless.
-    last: Option<Made>,
 }
 
 impl Model for Session {
@@ -40,26 +39,25 @@ impl Model for Session {
 
     ghost coded = { standing_code };
 
-    ghost view = { λ s. record { files = s.held; moment = s.moment; belief = s.keeper } };
+    ghost view = { λ s. record { files = s.held; moment = s.moment; settings = s.settings; belief = s.keeper } };
 
-    ghost use Rattle.site_session.specs.Made.{Stands, IsSettled};
-    ghost use Rattle.site_session.specs.Ready.{IfLast};
+    ghost use Rattle.std.specs.Prelude.{◌≡◌, true};
+    ghost use Rattle.site_script.specs.Line.{is_moment};
 
-    ghost invariant = { λ s. IfLast s.last (λ made. Stands s.held made × IsSettled s.keeper made) };
+    ghost invariant = { λ s. is_moment s.moment ≡ true };
 }
 
 impl Session {
     /// A session that holds no files, over an output that has not been listed. It takes no memory.
     pub fn open(alloc: Global, settings: Settings, moment: i64) -> Session
-        ensures { result ≡ start moment }
+        requires { is_moment moment ≡ true }
+        ensures { result ≡ start settings moment }
     {
         Session {
             held: Held::new(alloc),
             settings,
             moment,
             keeper: OutKeeper::open(),
-            alloc,
-            last: None,
         }
     }
 
@@ -69,12 +67,7 @@ impl Session {
             (λ _. (self.new ≡ record self.old { files = map.insert self.old.files path bytes.items }) × (put_refusal self.old.files path bytes.items ≡ None))
             (λ error. (self.new ≡ self.old) × ((error ≡ PutError.Memory) ⊎ (put_refusal self.old.files path bytes.items ≡ Some error))) }
     {
-        let name = path.copy(self.alloc);
-        match self.held.put(path, bytes) {
-            Ok(()) => self.last = kept_last(self.last.take(), self.alloc, &self.held, name),
-            Err(error) => return Err(error),
-        }
-        Ok(())
+        self.held.put(path, bytes)
     }
 
     /// Deletes a file, and says whether it was held. It takes no memory.
@@ -82,12 +75,12 @@ impl Session {
         ensures files { self.new ≡ record self.old { files = map.remove self.old.files path.now } }
         ensures was { result ≡ map.contains_key self.old.files path.now }
     {
-        self.last = None;
         self.held.delete(path)
     }
 
     /// Sets the moment, in seconds from 1970 in UTC. It takes no memory.
     pub fn set_moment(&mut self, moment: i64)
+        requires { is_moment moment ≡ true }
         ensures { self.new ≡ record self.old { moment = moment } }
     {
         self.moment = moment;
@@ -97,16 +90,26 @@ impl Session {
     pub fn scan<S: SourceTree>(&mut self, alloc: Global, source: &mut S) -> Result<u32, ScanError>
         ensures answers { (given : Given) (number : ℕ) (reply : Reply) → S.files source.old ≡ Some given.source →
             scan_reply result ≡ Some reply → Answers given self.old number line.Scan reply self.new }
-        ensures kept { (self.new.moment ≡ self.old.moment) × (self.new.belief ≡ self.old.belief) }
+        ensures kept { (self.new.moment ≡ self.old.moment) × (self.new.settings ≡ self.old.settings) × (self.new.belief ≡ self.old.belief) }
         ensures err { OnErr result (self.new ≡ self.old) }
         ensures same { S.files source.new ≡ S.files source.old }
         ensures cause { HasCauseOf ScanError.Failed (S.faults source.old) (S.faults source.new) result }
     {
-        self.last = None;
         self.held.scan(alloc, source)
     }
 
-    /// Makes the output equal to what the held files stand for, one file after another.
+    /// The first fault of what the held files stand for: of reading, or else of rendering; `None` where they have none.
+    pub fn first_fault(&self, alloc: Global) -> Result<Option<SiteFault>, Memory>
+        ensures { IfOk result (λ fault. fault ≡ fault_of (full self.now.files self.now.moment self.now.settings)) }
+    {
+        match full(alloc, &self.held, self.moment, &self.settings) {
+            Ok(_) => Ok(None),
+            Err(SiteError::Fault(fault)) => Ok(Some(fault)),
+            Err(SiteError::Memory) => Err(Memory),
+        }
+    }
+
+    /// Makes the output equal to what the held files stand for, rendered one after another from nothing.
     pub fn rebuild_serial<O: OutTree>(
         &mut self,
         alloc: Global,
@@ -118,33 +121,18 @@ impl Session {
         ensures belief { (first : Files) → Holds (O.contents out.old) self.old.belief first → Holds (O.contents out.new) self.new.belief first }
         // and the output is exactly what the held files stand for, but for the paths that failed, and these are marked.
         ensures leaves { (first : Files) (failed : List (List ℕ)) → Holds (O.contents out.old) self.old.belief first → FailedAt result failed →
-            Leaves self.old.files failed (O.contents out.old) (O.contents out.new) self.new.belief }
+            Leaves self.old failed (O.contents out.old) (O.contents out.new) self.new.belief }
         ensures unlisted { result ≡ Ok Rebuilt.Unlisted → O.contents out.new ≡ O.contents out.old }
-        ensures fault { (fault : SiteFault) → result ≡ Ok (Rebuilt.Fault fault) → (full self.old.files ≡ Fails fault) × (self.new ≡ self.old) × (out.new ≡ out.old) }
+        ensures fault { (fault : SiteFault) → result ≡ Ok (Rebuilt.Fault fault) → (full self.old.files self.old.moment self.old.settings ≡ Err fault) × (self.new ≡ self.old) × (out.new ≡ out.old) }
         ensures later { O.faults out.old ≤ O.faults out.new }
         ensures cause { (reply : Reply) → built_reply result ≡ Some reply → min (O.faults out.old + output_faults reply) (2 ^ 64 - 1) ≤ O.faults out.new }
-        ensures same { (self.new.files ≡ self.old.files) × (self.new.moment ≡ self.old.moment) }
+        ensures same { (self.new.files ≡ self.old.files) × (self.new.moment ≡ self.old.moment) × (self.new.settings ≡ self.old.settings) }
         ensures err { OnErr result (O.contents out.new ≡ O.contents out.old) }
     {
-        let last = self.last.take();
-        let outputs = match make_outputs(alloc, &self.held, last) {
-            Ok(outputs) => outputs,
-            Err(Memory) => return Err(Memory),
-        };
-        match outputs {
-            Outputs::Fault(fault) => Ok(Rebuilt::Fault(fault)),
-            Outputs::Tree(made, rendered) => {
-                let built = make(
-                    &mut self.keeper,
-                    alloc,
-                    &made.tree,
-                    &made.touched,
-                    rendered,
-                    out,
-                );
-                self.last = made.after(alloc, &built);
-                built
-            }
+        match full(alloc, &self.held, self.moment, &self.settings) {
+            Ok(output) => make(&mut self.keeper, alloc, output, out),
+            Err(SiteError::Fault(fault)) => Ok(Rebuilt::Fault(fault)),
+            Err(SiteError::Memory) => Err(Memory),
         }
     }
 
@@ -157,12 +145,13 @@ impl Session {
         source: &mut S,
         out: &mut O,
     ) -> Result<Reply, Memory>
+        requires { IsInTime line }
         ensures answers { (given : Given) → S.files source.old ≡ Some given.source → Holds (O.contents out.old) self.old.belief given.output →
             IfOk result (λ reply. Answers given self.old number line reply self.new) }
         ensures belief { (first : Files) → Holds (O.contents out.old) self.old.belief first → Holds (O.contents out.new) self.new.belief first }
         ensures err { OnErr result (O.contents out.new ≡ O.contents out.old) }
         ensures leaves { (first : Files) → Holds (O.contents out.old) self.old.belief first →
-            IfOk result (λ reply. LeavesBy self.old.files reply (O.contents out.old) (O.contents out.new) self.new.belief) }
+            IfOk result (λ reply. LeavesBy self.old reply (O.contents out.old) (O.contents out.new) self.new.belief) }
         // Where no build was tried, the output is the same value as before.
         ensures untouched { IfOk result (λ reply. has_called_output reply ≡ false → out.new ≡ out.old) }
         ensures source_same { S.files source.new ≡ S.files source.old }
@@ -242,7 +231,7 @@ impl Session {
             IfOk result (λ reply. Answers given self.old number line.Build reply self.new) }
         ensures belief { (first : Files) → Holds (O.contents out.old) self.old.belief first → Holds (O.contents out.new) self.new.belief first }
         ensures leaves { (first : Files) → Holds (O.contents out.old) self.old.belief first →
-            IfOk result (λ reply. LeavesBy self.old.files reply (O.contents out.old) (O.contents out.new) self.new.belief) }
+            IfOk result (λ reply. LeavesBy self.old reply (O.contents out.old) (O.contents out.new) self.new.belief) }
         ensures untouched { IfOk result (λ reply. has_called_output reply ≡ false → out.new ≡ out.old) }
         ensures err { OnErr result (O.contents out.new ≡ O.contents out.old) }
         ensures later { O.faults out.old ≤ O.faults out.new }

@@ -6,6 +6,10 @@ mod once;
 #[cfg(test)]
 mod real;
 #[cfg(test)]
+mod rules;
+#[cfg(test)]
 mod run;
 #[cfg(test)]
 mod sessions;
+#[cfg(test)]
+mod sites;

@@ -1,6 +1,7 @@
 // Worked runs of `once`.
 use crate::run::{Given, MOMENT};
-use site_program::{Status, UsageKind};
+use site_program::Status;
+use site_words::UsageKind;
 use std::alloc::Global;
 use std::process::Abort;
 use std::test::Fail;
@@ -171,15 +172,23 @@ fn builds_and_refuses(rt: HostRuntime) -> Result<(), Fail> {
 fn refuses_words(rt: HostRuntime) -> Result<(), Fail> {
     let alloc = rt.alloc();
     let site: &[(&str, &str)] = &[("a.txt", "x")];
-    let rows: [(&[&str], i64, UsageKind, &str); 9] = [
+    let rows: [(&[&str], i64, UsageKind, &str); 12] = [
         (&[], MOMENT, UsageKind::Missing, "usage 1\n"),
         (&["build"], MOMENT, UsageKind::Command, "usage 2\n"),
         (&[""], MOMENT, UsageKind::Command, "usage 2\n"),
         (&["Once"], MOMENT, UsageKind::Command, "usage 2\n"),
         (&["build", "once"], MOMENT, UsageKind::Command, "usage 2\n"),
-        (&["once", "--drafts"], -1, UsageKind::Option, "usage 3\n"),
+        (&["make", "1", "2"], MOMENT, UsageKind::Command, "usage 2\n"),
+        (&["once", "--why"], -1, UsageKind::Option, "usage 3\n"),
+        (
+            &["check", "--drafts", "--drafts"],
+            MOMENT,
+            UsageKind::Option,
+            "usage 3\n",
+        ),
         (&["once", "once"], MOMENT, UsageKind::Option, "usage 3\n"),
         (&["once"], -1, UsageKind::Moment, "usage 5\n"),
+        (&["check", "--future"], -1, UsageKind::Moment, "usage 5\n"),
         (&["once"], 253_402_214_400, UsageKind::Moment, "usage 5\n"),
     ];
     for (words, moment, kind, reply) in rows {

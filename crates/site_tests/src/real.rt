@@ -85,11 +85,8 @@ fn refuses_an_output_that_is_a_file(rt: HostRuntime) -> Result<(), Fail> {
     fs::write(&rt, "a.txt", "x")?;
     fs::write(&rt, "_site", "old")?;
     let (status, replies) = once_here(rt)?;
-    // The file `_site` itself is no folder to pass over, so it is a file of the site, and one that is not built.
-    assert_eq!(rt;
-        (status, replies.as_str()),
-        (1, "scanned 2\nfault F0 0 _site\n")
-    );
+    // The file `_site` is no folder to pass over, so the source has it too; it is hidden, and the output cannot be listed.
+    assert_eq!(rt; (status, replies.as_str()), (4, "scanned 2\nout-fault 0\n"));
     assert_eq!(rt; fs::read_to_string(&rt, "_site")?.as_str(), "old");
     leave(&rt, "refuses_an_output_that_is_a_file")
 }

@@ -78,9 +78,9 @@ fn sessions_go_on(rt: HostRuntime) -> Result<(), Fail> {
     comes_out(
         &rt,
         alloc,
-        Given::session("put a 1\nxbuild\nput _b 0\nbuild\ndelete _b\nbuild"),
+        Given::session("put a 1\nxbuild\nput b.md 9\n---\n---\nbbuild\ndelete b.md\nbuild"),
         0,
-        "ok\nbuilt rendered=0 reused=0 written=1 removed=0\nok\nfault F0 0 _b\nok\nbuilt rendered=0 reused=0 written=0 removed=0\n",
+        "ok\nbuilt rendered=0 reused=0 written=1 removed=0\nok\nfault F0 0 b.md\nok\nbuilt rendered=0 reused=0 written=0 removed=0\n",
         &[("a", "x")],
     )?;
     // What the scan finds takes the place of what was put; CR LF ends a line too.

@@ -1,23 +1,69 @@
-use Rattle.std.proofs.Common.{◌≡◌, subst}
+use Rattle.std.proofs.Common.{◌≡◌, ap, refl, subst, sym, ◌∙◌}
 use Rattle.std.proofs.Math.Facts.{to_z-of_z}
 use Rattle.site_session.specs.Session.{start}
+use Rattle.site_session.specs.Standing.{Standing}
+use Rattle.site_words.specs.declared.orders.Options.{Options}
+use Rattle.site_program.specs.Once.{after_scan, Ended, Took}
 use Rattle.site_program.specs.Runs.{OnceRun}
 use Rattle.site_program.specs.Sessions.{Counts, SessionRun}
+use Rattle.site_program.specs.declared.usage.TopCall.TheVariants as call
+use Rattle.site_program.proofs.Onces.{cut_none, holds_first}
+use Rattle.site_program.proofs.Orders.{in_time, known, none_for_jobs, ordered, same_build, same_session, same_start}
+use Rattle.site_program.proofs.Turns.{session_none}
 use Rattle.site_program.proofs.jobs.run_jobs.Goals as goal
 
--- an i64 that is handed on is the same number
-pub returns-then-eq-clause-build_run : goal.returns-then-eq-clause-build_run
-returns-then-eq-clause-build_run g c = λ given before words build told out w.
-    subst (λ m. OnceRun given (start m) before (g.K.ByteSink.taken c.scan_and_build.new.sink) (g.O.OutTree.contents c.scan_and_build.new.out) c.scan_and_build.result) (to_z-of_z c.ranges.moment)
-    (c.scan_and_build.ensures.run given before told out w)
+pub scan_and_build-requires : goal.scan_and_build-requires
+scan_and_build-requires g c = in_time call.Jobs c.args.words.now _ _ c.in-Ok.ensures
 
-pub returns-else-eq-clause-session : goal.returns-else-eq-clause-session
-returns-else-eq-clause-session g c = λ given text before words session told out bytes w.
+pub run_session-requires : goal.run_session-requires
+run_session-requires g c = in_time call.Jobs c.args.words.now _ _ c.in-Ok.ensures
+
+pub unreachable-requires : goal.unreachable-requires
+unreachable-requires g c = none_for_jobs c.in-Ok.order (known call.Jobs c.args.words.now _ _ c.in-Ok.ensures) c.in_default.not-Build c.in_default.not-Session
+
+-- the order is the one that the clause speaks of, and a moment that is handed on is the same number
+pub returns-in-Build-clause-build : goal.returns-in-Build-clause-build
+returns-in-Build-clause-build g c = λ given options is told out.
+    let moment_is = to_z-of_z c.ranges.moment in
+    let order_is = ordered call.Jobs c.args.words.now _ _ _ _ moment_is c.in-Ok.ensures is in
+    let options_is = same_build c.in-Ok.order c.in-Build.options options c.in-Build.is order_is in
+    subst (λ (s : Standing). Ended (after_scan given s) (g.O.OutTree.contents c.args.out.now) (g.O.OutTree.contents c.scan_and_build.new.out) c.scan_and_build.result) (same_start _ _ _ _ (ap (λ (o : Options). o.settings) options_is) moment_is)
+    (c.scan_and_build.ensures.told given told out)
+
+pub returns-in-Build-clause-build_took : goal.returns-in-Build-clause-build_took
+returns-in-Build-clause-build_took g c = λ given options before is why told out w.
+    let moment_is = to_z-of_z c.ranges.moment in
+    let order_is = ordered call.Jobs c.args.words.now _ _ _ _ moment_is c.in-Ok.ensures is in
+    let options_is = same_build c.in-Ok.order c.in-Build.options options c.in-Build.is order_is in
+    subst (λ (s : Standing). Took given (after_scan given s) before (g.K.ByteSink.taken c.scan_and_build.new.sink) c.scan_and_build.result) (same_start _ _ _ _ (ap (λ (o : Options). o.settings) options_is) moment_is)
+    (c.scan_and_build.ensures.took given before (why ∙ ap (λ (o : Options). o.why) (sym options_is)) told out w)
+
+pub returns-in-Build-clause-build_run : goal.returns-in-Build-clause-build_run
+returns-in-Build-clause-build_run g c = λ given options before is why told out w.
+    let moment_is = to_z-of_z c.ranges.moment in
+    let order_is = ordered call.Jobs c.args.words.now _ _ _ _ moment_is c.in-Ok.ensures is in
+    let options_is = same_build c.in-Ok.order c.in-Build.options options c.in-Build.is order_is in
+    subst (λ (s : Standing). OnceRun given s before (g.K.ByteSink.taken c.scan_and_build.new.sink) (g.O.OutTree.contents c.scan_and_build.new.out) c.scan_and_build.result) (same_start _ _ _ _ (ap (λ (o : Options). o.settings) options_is) moment_is)
+    (c.scan_and_build.ensures.run given before (why ∙ ap (λ (o : Options). o.why) (sym options_is)) told out w)
+
+pub returns-in-Session-clause-session : goal.returns-in-Session-clause-session
+returns-in-Session-clause-session g c = λ given options text before is why told out bytes w.
+    let moment_is = to_z-of_z c.ranges.moment in
+    let order_is = ordered call.Jobs c.args.words.now _ _ _ _ moment_is c.in-Ok.ensures is in
+    let options_is = same_session c.in-Ok.order c.in-Session.options options c.in-Session.is order_is in
     let counts : Counts = record {
       source_first = g.S.SourceTree.faults c.args.source.now;
       source_now = g.S.SourceTree.faults c.run_session.new.source;
       output_first = g.O.OutTree.faults c.args.out.now;
       output_now = g.O.OutTree.faults c.run_session.new.out;
     } in
-    subst (λ m. SessionRun given (start m) text before (g.I.ByteSource.left c.run_session.new.input) (g.K.ByteSink.taken c.run_session.new.sink) (g.O.OutTree.contents c.run_session.new.out) counts c.run_session.result) (to_z-of_z c.ranges.moment)
-    (c.run_session.ensures.run given text before told out bytes w)
+    subst (λ (s : Standing). SessionRun given s text before (g.I.ByteSource.left c.run_session.new.input) (g.K.ByteSink.taken c.run_session.new.sink) (g.O.OutTree.contents c.run_session.new.out) counts c.run_session.result) (same_start _ _ _ _ (ap (λ (o : Options). o.settings) options_is) moment_is)
+    (c.run_session.ensures.run given text before (why ∙ ap (λ (o : Options). o.why) (sym options_is)) told out bytes w)
+
+pub returns-in-Err-Memory-clause-build_run : goal.returns-in-Err-Memory-clause-build_run
+returns-in-Err-Memory-clause-build_run g c = λ given options before is why told out w.
+    cut_none given (start options.settings c.args.moment) before _ _ _ refl out w refl
+
+pub returns-in-Err-Memory-clause-session : goal.returns-in-Err-Memory-clause-session
+returns-in-Err-Memory-clause-session g c = λ given options text before is why told out bytes w.
+    session_none given (start options.settings c.args.moment) text before _ _ _ _ _ _ (holds_first (start options.settings c.args.moment) _ given.output refl out) w refl

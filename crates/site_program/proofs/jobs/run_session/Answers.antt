@@ -6,8 +6,8 @@ use Rattle.site_program.proofs.Onces.{holds_first}
 use Rattle.site_program.proofs.jobs.run_session.Goals as goal
 
 pub returns-clause-run : goal.returns-clause-run
-returns-clause-run g c = λ given text before told out bytes w.
-    let opened : c.open-session.result ≡ start c.args.moment = search rules in
+returns-clause-run g c = λ given text before why told out bytes w.
+    let opened : c.open-session.result ≡ start c.args.options.settings c.args.moment = search rules in
     let counts : Counts = record {
       source_first = g.S.SourceTree.faults c.args.source.now;
       source_now = g.S.SourceTree.faults c.do_lines.new.source;
@@ -15,4 +15,4 @@ returns-clause-run g c = λ given text before told out bytes w.
       output_now = g.O.OutTree.faults c.do_lines.new.out;
     } in
     subst (λ (s : Standing). SessionRun given s text before (g.I.ByteSource.left c.do_lines.new.input) (g.K.ByteSink.taken c.do_lines.new.sink) (g.O.OutTree.contents c.do_lines.new.out) counts c.do_lines.result) opened
-    (c.do_lines.ensures.run given text before told (holds_first c.open-session.result _ given.output (ap (λ (s : Standing). s.belief) opened) out) bytes w)
+    (c.do_lines.ensures.run given text before why told (holds_first c.open-session.result _ given.output (ap (λ (s : Standing). s.belief) opened) out) bytes w)

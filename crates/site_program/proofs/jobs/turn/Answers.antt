@@ -1,4 +1,5 @@
-use Rattle.std.proofs.Common.{◌≡◌, subst, sym, Option, List, ℕ, rules}
+use Rattle.std.proofs.Common.{◌≡◌, ◌∙◌, ◌++◌, ap, subst, sym, Option, Some, List, ℕ, rules}
+use Rattle.site_session.specs.Bytes.{reply_bytes}
 use Rattle.std.specs.Option.{IfNone, IfSome}
 use Rattle.site_session.specs.Session.{Given}
 use Rattle.site_program.specs.Sessions.{Counts, GoesOn, EndsAt, EndsSession}
@@ -7,7 +8,7 @@ use Rattle.site_program.proofs.Turns.{Turned, turned, halts, counted_one, bad_en
 use Rattle.site_program.proofs.jobs.turn.Goals as goal
 
 pub returns-in-Ok-clause-next : goal.returns-in-Ok-clause-next
-returns-in-Ok-clause-next g c = λ given before told h w.
+returns-in-Ok-clause-next g c = λ given before why told h w.
     let counts : Counts = record {
       source_first = g.S.SourceTree.faults c.args.source.now;
       source_now = g.S.SourceTree.faults c.do_line.new.source;
@@ -16,11 +17,11 @@ returns-in-Ok-clause-next g c = λ given before told h w.
     } in
     subst (λ (r : Option Status). IfNone r (GoesOn given c.args.session.now c.args.number c.args.line before c.do_line.new.session (g.K.ByteSink.taken c.do_line.new.sink) counts)) (sym c.bad_status.ensures)
     (turned given c.args.session.now c.args.number c.args.line before c.do_line.new.session _ (g.O.OutTree.contents c.do_line.new.out) counts c.in-Ok.reply c.in_default.not-End c.in_default.not-Eof (c.in_default.not-Failed, c.in_default.not-Memory)
-    (c.in-Ok.ensures.answers given told h) (c.in-Ok.ensures.bytes before w) (c.do_line.ensures.belief given.output h)
+    (c.in-Ok.ensures.answers given told h) (c.in-Ok.ensures.bytes before w ∙ ap (λ b. Some (before ++ reply_bytes b c.in-Ok.reply)) (sym why)) (c.do_line.ensures.belief given.output h)
     (counted_one counts c.in-Ok.reply c.in-Ok.ensures.source_cause c.in-Ok.ensures.output_cause)).next
 
 pub returns-in-Ok-clause-ends : goal.returns-in-Ok-clause-ends
-returns-in-Ok-clause-ends g c = λ given before told h w.
+returns-in-Ok-clause-ends g c = λ given before why told h w.
     let counts : Counts = record {
       source_first = g.S.SourceTree.faults c.args.source.now;
       source_now = g.S.SourceTree.faults c.do_line.new.source;
@@ -29,14 +30,14 @@ returns-in-Ok-clause-ends g c = λ given before told h w.
     } in
     subst (λ (r : Option Status). IfSome r (λ s. EndsAt given c.args.session.now c.args.number c.args.line before c.do_line.new.session (g.K.ByteSink.taken c.do_line.new.sink) (g.O.OutTree.contents c.do_line.new.out) s)) (sym c.bad_status.ensures)
     (turned given c.args.session.now c.args.number c.args.line before c.do_line.new.session _ _ counts c.in-Ok.reply c.in_default.not-End c.in_default.not-Eof (c.in_default.not-Failed, c.in_default.not-Memory)
-    (c.in-Ok.ensures.answers given told h) (c.in-Ok.ensures.bytes before w) (c.do_line.ensures.belief given.output h)
+    (c.in-Ok.ensures.answers given told h) (c.in-Ok.ensures.bytes before w ∙ ap (λ b. Some (before ++ reply_bytes b c.in-Ok.reply)) (sym why)) (c.do_line.ensures.belief given.output h)
     (counted_one counts c.in-Ok.reply c.in-Ok.ensures.source_cause c.in-Ok.ensures.output_cause)).ends_at
 
 pub returns-in-Ok-clause-status : goal.returns-in-Ok-clause-status
 returns-in-Ok-clause-status g c = subst (λ (r : Option Status). IfSome r EndsSession) (sym c.bad_status.ensures) (bad_ends c.in-Ok.reply)
 
 pub returns-in-Err-clause-ends : goal.returns-in-Err-clause-ends
-returns-in-Err-clause-ends g c = λ given before told h w.
-    let s = c.in-Err.ensures.stopped given before told h w in
+returns-in-Err-clause-ends g c = λ given before why told h w.
+    let s = c.in-Err.ensures.stopped given before why told h w in
     halts given c.args.session.now c.args.number c.args.line before s.0 c.do_line.new.session _ _ c.status.result (c.in_default.not-Failed, c.in_default.not-Memory) s.1 s.2
     (record { cases = c.status.ensures.cases; memory = λ e. s.3 (c.status.ensures.memory e) })

@@ -1,11 +1,65 @@
-use Rattle.std.proofs.Common.{◌≡◌, subst}
+use Rattle.std.proofs.Common.{◌≡◌, refl, subst}
 use Rattle.std.proofs.Math.Facts.{to_z-of_z}
 use Rattle.site_session.specs.Session.{start}
+use Rattle.site_session.specs.Standing.{Standing}
+use Rattle.site_program.specs.Checks.{Checked, CheckTook}
+use Rattle.site_program.specs.Once.{after_scan, Ended, Took}
 use Rattle.site_program.specs.Runs.{OnceRun}
+use Rattle.site_program.specs.declared.usage.TopCall.TheVariants as call
+use Rattle.site_program.proofs.Onces.{cut_none}
+use Rattle.site_program.proofs.Orders.{in_time, known, none_for_once, ordered, same_check, same_once, same_start}
 use Rattle.site_program.proofs.once.run_once.Goals as goal
 
--- an i64 that is handed on is the same number
-pub returns-in-None-clause-run : goal.returns-in-None-clause-run
-returns-in-None-clause-run g c = λ given before words told out w.
-    subst (λ m. OnceRun given (start m) before (g.K.ByteSink.taken c.scan_and_build.new.sink) (g.O.OutTree.contents c.scan_and_build.new.out) c.scan_and_build.result) (to_z-of_z c.ranges.moment)
-    (c.scan_and_build.ensures.run given before told out w)
+pub scan_and_build-requires : goal.scan_and_build-requires
+scan_and_build-requires g c = in_time call.Once c.args.words.now _ _ c.in-Ok.ensures
+
+pub scan_and_check-requires : goal.scan_and_check-requires
+scan_and_check-requires g c = in_time call.Once c.args.words.now _ _ c.in-Ok.ensures
+
+pub unreachable-requires : goal.unreachable-requires
+unreachable-requires g c = none_for_once c.in-Ok.order (known call.Once c.args.words.now _ _ c.in-Ok.ensures) c.in_default.not-Once c.in_default.not-Check
+
+-- the order is the one that the clause speaks of, and a moment that is handed on is the same number
+pub returns-in-Once-clause-once : goal.returns-in-Once-clause-once
+returns-in-Once-clause-once g c = λ given settings is told out.
+    let moment_is = to_z-of_z c.ranges.moment in
+    let order_is = ordered call.Once c.args.words.now _ _ _ _ moment_is c.in-Ok.ensures is in
+    let settings_is = same_once c.in-Ok.order c.in-Once.settings settings c.in-Once.is order_is in
+    subst (λ (s : Standing). Ended (after_scan given s) (g.O.OutTree.contents c.args.out.now) (g.O.OutTree.contents c.scan_and_build.new.out) c.scan_and_build.result) (same_start _ _ _ _ settings_is moment_is)
+    (c.scan_and_build.ensures.told given told out)
+
+pub returns-in-Once-clause-once_took : goal.returns-in-Once-clause-once_took
+returns-in-Once-clause-once_took g c = λ given settings before is why told out w.
+    let moment_is = to_z-of_z c.ranges.moment in
+    let order_is = ordered call.Once c.args.words.now _ _ _ _ moment_is c.in-Ok.ensures is in
+    let settings_is = same_once c.in-Ok.order c.in-Once.settings settings c.in-Once.is order_is in
+    subst (λ (s : Standing). Took given (after_scan given s) before (g.K.ByteSink.taken c.scan_and_build.new.sink) c.scan_and_build.result) (same_start _ _ _ _ settings_is moment_is)
+    (c.scan_and_build.ensures.took given before why told out w)
+
+pub returns-in-Once-clause-once_run : goal.returns-in-Once-clause-once_run
+returns-in-Once-clause-once_run g c = λ given settings before is why told out w.
+    let moment_is = to_z-of_z c.ranges.moment in
+    let order_is = ordered call.Once c.args.words.now _ _ _ _ moment_is c.in-Ok.ensures is in
+    let settings_is = same_once c.in-Ok.order c.in-Once.settings settings c.in-Once.is order_is in
+    subst (λ (s : Standing). OnceRun given s before (g.K.ByteSink.taken c.scan_and_build.new.sink) (g.O.OutTree.contents c.scan_and_build.new.out) c.scan_and_build.result) (same_start _ _ _ _ settings_is moment_is)
+    (c.scan_and_build.ensures.run given before why told out w)
+
+pub returns-in-Check-clause-check : goal.returns-in-Check-clause-check
+returns-in-Check-clause-check g c = λ given settings is told.
+    let moment_is = to_z-of_z c.ranges.moment in
+    let order_is = ordered call.Once c.args.words.now _ _ _ _ moment_is c.in-Ok.ensures is in
+    let settings_is = same_check c.in-Ok.order c.in-Check.settings settings c.in-Check.is order_is in
+    subst (λ (s : Standing). Checked (after_scan given s) c.scan_and_check.result) (same_start _ _ _ _ settings_is moment_is)
+    (c.scan_and_check.ensures.told given told)
+
+pub returns-in-Check-clause-check_took : goal.returns-in-Check-clause-check_took
+returns-in-Check-clause-check_took g c = λ given settings before is told w.
+    let moment_is = to_z-of_z c.ranges.moment in
+    let order_is = ordered call.Once c.args.words.now _ _ _ _ moment_is c.in-Ok.ensures is in
+    let settings_is = same_check c.in-Ok.order c.in-Check.settings settings c.in-Check.is order_is in
+    subst (λ (s : Standing). CheckTook given (after_scan given s) before (g.K.ByteSink.taken c.scan_and_check.new.sink) c.scan_and_check.result) (same_start _ _ _ _ settings_is moment_is)
+    (c.scan_and_check.ensures.took given before told w)
+
+pub returns-in-Err-Memory-clause-once_run : goal.returns-in-Err-Memory-clause-once_run
+returns-in-Err-Memory-clause-once_run g c = λ given settings before is why told out w.
+    cut_none given (start settings c.args.moment) before _ _ _ refl out w refl

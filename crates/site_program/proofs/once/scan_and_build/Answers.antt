@@ -5,40 +5,42 @@ use Rattle.site_session.specs.Bytes.{reply_bytes}
 use Rattle.site_session.specs.Session.{Given, Answers, start}
 use Rattle.site_session.specs.Replies.{has_called_output}
 use Rattle.site_program.specs.Runs.{IsCut, reply_status}
-use Rattle.site_program.specs.Once.{Untouched}
+use Rattle.site_program.specs.Once.{after_scan, Ended, Took, Untouched}
 use Rattle.site_program.proofs.Cases.{one_tells, two_tells, untouched_quiet, out_rose, source_rose}
 use Rattle.site_program.proofs.Onces.{holds_first, whole_one, whole_two, cut_one, cut_two}
 use Rattle.site_program.proofs.once.scan_and_build.Goals as goal
 
 pub returns-in-Err-clause-run : goal.returns-in-Err-clause-run
-returns-in-Err-clause-run g c = λ given before told out w.
-    let opened : c.open-session.result ≡ start c.args.moment = search rules in
+returns-in-Err-clause-run g c = λ given before why told out w.
+    let opened : c.open-session.result ≡ start c.args.settings c.args.moment = search rules in
     let h = holds_first c.open-session.result _ given.output (ap (λ (s : Standing). s.belief) opened) out in
-    let s = c.in-Err.ensures.stopped given before told h w in
-    cut_one given (start c.args.moment) c.open-session.result before s.0 _ _ _ opened s.1 s.2
+    let s = c.in-Err.ensures.stopped given before why told h w in
+    cut_one given (start c.args.settings c.args.moment) c.open-session.result before s.0 _ _ _ opened s.1 s.2
     (record { cases = c.status.ensures.cases; memory = λ e. s.3 (c.status.ensures.memory e) })
 
 pub returns-in_default-clause-told : goal.returns-in_default-clause-told
 returns-in_default-clause-told g c = λ given told out.
-    let opened : c.open-session.result ≡ start c.args.moment = search rules in
+    let opened : c.open-session.result ≡ start c.args.settings c.args.moment = search rules in
     let h = holds_first c.open-session.result _ given.output (ap (λ (s : Standing). s.belief) opened) out in
+    subst (λ (t : Standing). Ended (after_scan given t) (g.O.OutTree.contents c.args.out.now) (g.O.OutTree.contents c.do_line.new.out) c.status_of.result) opened
     (one_tells given c.open-session.result c.do_line.new.session c.in-Ok.scanned (g.O.OutTree.contents c.args.out.now) (g.O.OutTree.contents c.do_line.new.out) c.status_of.result c.status_of.ensures
     (c.in-Ok.ensures.answers given told h) c.in_default.not-Scanned (λ quiet. ap g.O.OutTree.contents (c.in-Ok.ensures.untouched quiet))).ended
 
 pub returns-in_default-clause-took : goal.returns-in_default-clause-took
-returns-in_default-clause-took g c = λ given before told out w.
-    let opened : c.open-session.result ≡ start c.args.moment = search rules in
+returns-in_default-clause-took g c = λ given before why told out w.
+    let opened : c.open-session.result ≡ start c.args.settings c.args.moment = search rules in
     let h = holds_first c.open-session.result _ given.output (ap (λ (s : Standing). s.belief) opened) out in
-    (one_tells given c.open-session.result c.do_line.new.session c.in-Ok.scanned (g.O.OutTree.contents c.args.out.now) (g.O.OutTree.contents c.do_line.new.out) c.status_of.result c.status_of.ensures
-    (c.in-Ok.ensures.answers given told h) c.in_default.not-Scanned (λ quiet. ap g.O.OutTree.contents (c.in-Ok.ensures.untouched quiet))).took before _ (c.in-Ok.ensures.bytes before w)
+    subst (λ (t : Standing). Took given (after_scan given t) before (g.K.ByteSink.taken c.do_line.new.sink) c.status_of.result) opened
+    ((one_tells given c.open-session.result c.do_line.new.session c.in-Ok.scanned (g.O.OutTree.contents c.args.out.now) (g.O.OutTree.contents c.do_line.new.out) c.status_of.result c.status_of.ensures
+    (c.in-Ok.ensures.answers given told h) c.in_default.not-Scanned (λ quiet. ap g.O.OutTree.contents (c.in-Ok.ensures.untouched quiet))).took before _ (c.in-Ok.ensures.bytes before w ∙ ap (λ b. Some (before ++ reply_bytes b c.in-Ok.scanned)) (sym why)))
 
 pub returns-in_default-clause-run : goal.returns-in_default-clause-run
-returns-in_default-clause-run g c = λ given before told out w.
-    let opened : c.open-session.result ≡ start c.args.moment = search rules in
+returns-in_default-clause-run g c = λ given before why told out w.
+    let opened : c.open-session.result ≡ start c.args.settings c.args.moment = search rules in
     let h = holds_first c.open-session.result _ given.output (ap (λ (s : Standing). s.belief) opened) out in
-    whole_one given (start c.args.moment) c.do_line.new.session before _ _ _ c.in-Ok.scanned c.in_default.not-Scanned
+    whole_one given (start c.args.settings c.args.moment) c.do_line.new.session before _ _ _ c.in-Ok.scanned c.in_default.not-Scanned
     (subst (λ (s : Standing). Answers given s 1 line.Scan c.in-Ok.scanned c.do_line.new.session) opened (c.in-Ok.ensures.answers given told h))
-    (c.in-Ok.ensures.bytes before w) (c.do_line.ensures.belief given.output h) c.status_of.ensures
+    (c.in-Ok.ensures.bytes before w ∙ ap (λ b. Some (before ++ reply_bytes b c.in-Ok.scanned)) (sym why)) (c.do_line.ensures.belief given.output h) c.status_of.ensures
 
 pub returns-in_default-clause-source_fault : goal.returns-in_default-clause-source_fault
 returns-in_default-clause-source_fault g c = λ is.
@@ -56,10 +58,11 @@ returns-in_default-clause-untouched g c = λ u.
 
 pub returns-in-Ok-do_line-clause-told : goal.returns-in-Ok-do_line-clause-told
 returns-in-Ok-do_line-clause-told g c = λ given told out.
-    let opened : c.open-session.result ≡ start c.args.moment = search rules in
+    let opened : c.open-session.result ≡ start c.args.settings c.args.moment = search rules in
     let h = holds_first c.open-session.result _ given.output (ap (λ (s : Standing). s.belief) opened) out in
     let h1 = c.do_line.ensures.belief given.output h in
     let told1 = c.do_line.ensures.source_same ∙ told in
+    subst (λ (t : Standing). Ended (after_scan given t) (g.O.OutTree.contents c.args.out.now) (g.O.OutTree.contents c.do_line-2.new.out) c.status_of-in-Ok-do_line.result) opened
     (two_tells given c.open-session.result c.do_line.new.session c.do_line-2.new.session c.in-Ok.scanned c.in-Ok-do_line.built _ (g.O.OutTree.contents c.args.out.now) (g.O.OutTree.contents c.do_line.new.out) (g.O.OutTree.contents c.do_line-2.new.out)
     c.status_of-in-Ok-do_line.result c.status_of-in-Ok-do_line.ensures c.in-Scanned.is (ap (λ (s : Standing). s.belief) opened)
     (c.in-Ok.ensures.answers given told h) (c.in-Ok-do_line.ensures.answers given told1 h1)
@@ -67,28 +70,30 @@ returns-in-Ok-do_line-clause-told g c = λ given told out.
     (c.in-Ok-do_line.ensures.leaves given.output h1) (λ quiet. ap g.O.OutTree.contents (c.in-Ok-do_line.ensures.untouched quiet))).ended
 
 pub returns-in-Ok-do_line-clause-took : goal.returns-in-Ok-do_line-clause-took
-returns-in-Ok-do_line-clause-took g c = λ given before told out w.
-    let opened : c.open-session.result ≡ start c.args.moment = search rules in
+returns-in-Ok-do_line-clause-took g c = λ given before why told out w.
+    let opened : c.open-session.result ≡ start c.args.settings c.args.moment = search rules in
     let h = holds_first c.open-session.result _ given.output (ap (λ (s : Standing). s.belief) opened) out in
     let h1 = c.do_line.ensures.belief given.output h in
     let told1 = c.do_line.ensures.source_same ∙ told in
-    (two_tells given c.open-session.result c.do_line.new.session c.do_line-2.new.session c.in-Ok.scanned c.in-Ok-do_line.built _ (g.O.OutTree.contents c.args.out.now) (g.O.OutTree.contents c.do_line.new.out) (g.O.OutTree.contents c.do_line-2.new.out)
+    subst (λ (t : Standing). Took given (after_scan given t) before (g.K.ByteSink.taken c.do_line-2.new.sink) c.status_of-in-Ok-do_line.result) opened
+    ((two_tells given c.open-session.result c.do_line.new.session c.do_line-2.new.session c.in-Ok.scanned c.in-Ok-do_line.built _ (g.O.OutTree.contents c.args.out.now) (g.O.OutTree.contents c.do_line.new.out) (g.O.OutTree.contents c.do_line-2.new.out)
     c.status_of-in-Ok-do_line.result c.status_of-in-Ok-do_line.ensures c.in-Scanned.is (ap (λ (s : Standing). s.belief) opened)
     (c.in-Ok.ensures.answers given told h) (c.in-Ok-do_line.ensures.answers given told1 h1)
     (ap g.O.OutTree.contents (c.in-Ok.ensures.untouched (ap has_called_output c.in-Scanned.is)))
     (c.in-Ok-do_line.ensures.leaves given.output h1) (λ quiet. ap g.O.OutTree.contents (c.in-Ok-do_line.ensures.untouched quiet))).took before _
-    (c.in-Ok-do_line.ensures.bytes _ (c.in-Ok.ensures.bytes before w) ∙ ap Some (append_assoc before (reply_bytes c.in-Ok.scanned) (reply_bytes c.in-Ok-do_line.built)))
+    (c.in-Ok-do_line.ensures.bytes _ (c.in-Ok.ensures.bytes before w) ∙ ap (λ b. Some ((before ++ reply_bytes b c.in-Ok.scanned) ++ reply_bytes b c.in-Ok-do_line.built)) (sym why)
+    ∙ ap Some (append_assoc before (reply_bytes given.why c.in-Ok.scanned) (reply_bytes given.why c.in-Ok-do_line.built))))
 
 pub returns-in-Ok-do_line-clause-run : goal.returns-in-Ok-do_line-clause-run
-returns-in-Ok-do_line-clause-run g c = λ given before told out w.
-    let opened : c.open-session.result ≡ start c.args.moment = search rules in
+returns-in-Ok-do_line-clause-run g c = λ given before why told out w.
+    let opened : c.open-session.result ≡ start c.args.settings c.args.moment = search rules in
     let h = holds_first c.open-session.result _ given.output (ap (λ (s : Standing). s.belief) opened) out in
     let h1 = c.do_line.ensures.belief given.output h in
     let told1 = c.do_line.ensures.source_same ∙ told in
-    whole_two given (start c.args.moment) c.do_line.new.session c.do_line-2.new.session before _ _ _ c.in-Ok.scanned c.in-Ok-do_line.built _ c.in-Scanned.is
+    whole_two given (start c.args.settings c.args.moment) c.do_line.new.session c.do_line-2.new.session before _ _ _ c.in-Ok.scanned c.in-Ok-do_line.built _ c.in-Scanned.is
     (subst (λ (s : Standing). Answers given s 1 line.Scan c.in-Ok.scanned c.do_line.new.session) opened (c.in-Ok.ensures.answers given told h))
     (c.in-Ok-do_line.ensures.answers given told1 h1)
-    (c.in-Ok-do_line.ensures.bytes _ (c.in-Ok.ensures.bytes before w)) (c.do_line-2.ensures.belief given.output h1) c.status_of-in-Ok-do_line.ensures
+    (c.in-Ok-do_line.ensures.bytes _ (c.in-Ok.ensures.bytes before w) ∙ ap (λ b. Some ((before ++ reply_bytes b c.in-Ok.scanned) ++ reply_bytes b c.in-Ok-do_line.built)) (sym why)) (c.do_line-2.ensures.belief given.output h1) c.status_of-in-Ok-do_line.ensures
 
 pub returns-in-Ok-do_line-clause-out_fault : goal.returns-in-Ok-do_line-clause-out_fault
 returns-in-Ok-do_line-clause-out_fault g c = λ count is.
@@ -97,12 +102,12 @@ returns-in-Ok-do_line-clause-out_fault g c = λ count is.
     omega (arith, rose, c.do_line.ensures.output_later)
 
 pub returns-clause-run : goal.returns-clause-run
-returns-clause-run g c = λ given before told out w.
-    let opened : c.open-session.result ≡ start c.args.moment = search rules in
+returns-clause-run g c = λ given before why told out w.
+    let opened : c.open-session.result ≡ start c.args.settings c.args.moment = search rules in
     let h = holds_first c.open-session.result _ given.output (ap (λ (s : Standing). s.belief) opened) out in
     let h1 = c.do_line.ensures.belief given.output h in
     let told1 = c.do_line.ensures.source_same ∙ told in
-    let s = c.in-Err-do_line.ensures.stopped given (before ++ reply_bytes c.in-Ok.scanned) told1 h1 (c.in-Ok.ensures.bytes before w) in
-    cut_two given (start c.args.moment) c.do_line.new.session before s.0 _ _ _ c.in-Ok.scanned
+    let s = c.in-Err-do_line.ensures.stopped given (before ++ reply_bytes c.args.why c.in-Ok.scanned) why told1 h1 (c.in-Ok.ensures.bytes before w) in
+    cut_two given (start c.args.settings c.args.moment) c.do_line.new.session before s.0 _ _ _ c.in-Ok.scanned
     (subst (λ (s : Standing). Answers given s 1 line.Scan c.in-Ok.scanned c.do_line.new.session) opened (c.in-Ok.ensures.answers given told h))
-    s.1 s.2 (record { cases = c.status-in-Err-do_line.ensures.cases; memory = λ e. s.3 (c.status-in-Err-do_line.ensures.memory e) })
+    s.1 (s.2 ∙ ap (λ b. Some ((before ++ reply_bytes b c.in-Ok.scanned) ++ s.0)) (sym why)) (record { cases = c.status-in-Err-do_line.ensures.cases; memory = λ e. s.3 (c.status-in-Err-do_line.ensures.memory e) })

@@ -5,6 +5,8 @@ use Rattle.site_script.specs.declared.line.Line.{Line}
 use Rattle.site_script.specs.declared.line.Line.TheVariants as line
 use Rattle.site_script.specs.declared.raw_line.RawLine.{RawLine}
 use Rattle.site_script.proofs.Readings.{long_first, end_first, nothing_read, no_line, some_line}
+use Rattle.site_script.specs.Line.{HasTime}
+use Rattle.site_script.proofs.Times.{head_time}
 use Rattle.site_script.proofs.reader.read_line.Goals as goal
 
 pub returns-in-Ok-None-clause-line : goal.returns-in-Ok-None-clause-line
@@ -26,3 +28,6 @@ returns-in-Ok-clause-line g c = λ text w.
     ∙ ap (λ h. whole_line c.args.number h (after_line text)) (ap head_of (sym c.content.ensures) ∙ sym c.in-Ok.ensures) in
     subst (λ (f : Line × List ℕ). (c.finish.result ≡ line.Failed) ⊎ ((c.finish.result ≡ line.Memory) ⊎ IsFirst f c.finish.result (g.I.ByteSource.left c.finish.new.input))) (sym is)
     (c.finish.ensures.line (after_line text) raw.2)
+
+pub finish-requires : goal.finish-requires
+finish-requires g c = subst (λ h. HasTime h) (sym c.in-Ok.ensures) (head_time c.content.result.now)

@@ -10,7 +10,7 @@ listed g c = record {
 
 pub returns-in-Ok-clause-answers : goal.returns-in-Ok-clause-answers
 returns-in-Ok-clause-answers g c = λ given now reply was h is.
-    make_answers given now c.args.tree.now c.args.rendered reply c.args.keeper.now _ _ _ (listed g c) h (c.make_listed.ensures.unlisted reply is) (c.make_listed.ensures.answers now reply is)
+    make_answers given now c.args.output reply c.args.keeper.now _ _ _ (listed g c) h (c.make_listed.ensures.unlisted reply is) (c.make_listed.ensures.answers now reply is)
 
 pub returns-in-Ok-clause-belief : goal.returns-in-Ok-clause-belief
 returns-in-Ok-clause-belief g c = λ first h.
@@ -21,4 +21,4 @@ pub returns-in-Ok-clause-made : goal.returns-in-Ok-clause-made
 returns-in-Ok-clause-made g c = λ first failed h is.
     let mid = mid_true c.args.keeper.now _ _ first c.in-Ok.ensures.listed c.list_once.ensures.holds h in
     let made = c.make_listed.ensures.made mid.0 failed (c.list_once.ensures.same ∙ mid.1) mid.2 is in
-    (same_told failed c.args.tree.now _ _ _ c.list_once.ensures.same made.0, made.1)
+    (same_told failed c.args.output _ _ _ c.list_once.ensures.same made.0, made.1)

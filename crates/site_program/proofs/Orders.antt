@@ -1,0 +1,109 @@
+-- What the words of a top call may order.
+use Rattle.std.proofs.Common.{◌≡◌, inl, inr, ℤ, Bool, true, false, cond, List, ℕ, [], ◌∷◌, refl, sym, ◌∙◌, ap, subst, Option, Some, None, Result, Ok, Err}
+use Rattle.std.specs.Prelude.{codes}
+use Rattle.std.specs.Str.{bytes_eq}
+use Rattle.std.proofs.lemmas.Bool.{or_cases}
+use Rattle.std.proofs.lemmas.Slice.Eq.{bytes_eq-Decides}
+use Rattle.site_base.specs.declared.settings.Settings.{Settings}
+use Rattle.site_script.specs.Line.{is_moment}
+use Rattle.site_session.specs.Session.{start}
+use Rattle.site_words.specs.Words.{command_order, options_in, order_with}
+use Rattle.site_words.specs.declared.faults.UsageKind.{UsageKind}
+use Rattle.site_words.specs.declared.faults.UsageKind.TheVariants as kind
+use Rattle.site_words.specs.declared.orders.Options.{Options}
+use Rattle.site_words.specs.declared.orders.Order.{Order}
+use Rattle.site_words.specs.declared.orders.Order.TheVariants as order
+use Rattle.site_program.specs.Usage.{knows, order_of, timed}
+use Rattle.site_program.specs.declared.usage.TopCall.{TopCall}
+use Rattle.site_program.specs.declared.usage.TopCall.TheVariants as call
+
+-- an order that one of two tests lets through
+chosen : (b : Bool) (r : Result Order UsageKind) (bad : UsageKind) (o : Order) → cond b r (Err bad) ≡ Ok o → (b ≡ true) × (r ≡ Ok o)
+chosen true r bad o e = (refl, e)
+chosen false r bad o e = absurd (cc (e))
+
+timed_is : (m : ℤ) (r : Result Order UsageKind) (o : Order) → timed m r ≡ Ok o → (is_moment m ≡ true) × (r ≡ Ok o)
+timed_is m (Ok made) o e = chosen (is_moment m) (Ok made) kind.Moment o e
+timed_is m (Err bad) o e = absurd (cc (e))
+
+-- where there is an order, the moment is in its range
+pub in_time : (top : TopCall) (words : List (List ℕ)) (m : ℤ) (o : Order) → order_of top words m ≡ Ok o → is_moment m ≡ true
+in_time top [] m o e = absurd (cc (e))
+in_time top (w ∷ ws) m o e = (timed_is m (command_order w ws) o (chosen (knows top w) (timed m (command_order w ws)) kind.Command o e).1).0
+
+-- the orders of a top call
+abbrev pub Knows : TopCall → Order → Type 0
+Knows call.Once (order.Once settings) = Unit {0}
+Knows call.Once (order.Check settings) = Unit {0}
+Knows call.Once (order.Build options) = ⊥
+Knows call.Once (order.Session options) = ⊥
+Knows call.Once (order.Make number count) = ⊥
+Knows call.Jobs (order.Build options) = Unit {0}
+Knows call.Jobs (order.Session options) = Unit {0}
+Knows call.Jobs (order.Once settings) = ⊥
+Knows call.Jobs (order.Check settings) = ⊥
+Knows call.Jobs (order.Make number count) = ⊥
+
+made_with : (make : Options → Order) (options : Option Options) (o : Order) (P : Order → Type 0) → ((x : Options) → P (make x)) → order_with make options ≡ Ok o → P o
+made_with make None o P h e = absurd (cc (e))
+made_with make (Some x) o P h e = let same : make x ≡ o = cc in subst P same (h x)
+
+is_word : (w v : List ℕ) (ws : List (List ℕ)) (o : Order) → bytes_eq w v ≡ true → command_order w ws ≡ Ok o → command_order v ws ≡ Ok o
+is_word w v ws o h is = subst (λ x. command_order x ws ≡ Ok o) ((bytes_eq-Decides w v).0 h) is
+
+-- a top call orders nothing but its own commands
+pub known : (top : TopCall) (words : List (List ℕ)) (m : ℤ) (o : Order) → order_of top words m ≡ Ok o → Knows top o
+known top [] m o e = absurd (cc (e))
+known call.Once (w ∷ ws) m o e =
+    let both = chosen (knows call.Once w) (timed m (command_order w ws)) kind.Command o e in
+    let is = (timed_is m (command_order w ws) o both.1).1 in
+    elim (or_cases (bytes_eq w (codes "once")) (bytes_eq w (codes "check")) both.0) [
+      | inl h ↦ made_with (λ x. order.Once x.settings) (options_in false ws) o (Knows call.Once) (λ x. tt) (is_word w (codes "once") ws o h is)
+      | inr h ↦ made_with (λ x. order.Check x.settings) (options_in false ws) o (Knows call.Once) (λ x. tt) (is_word w (codes "check") ws o h is)
+    ]
+known call.Jobs (w ∷ ws) m o e =
+    let both = chosen (knows call.Jobs w) (timed m (command_order w ws)) kind.Command o e in
+    let is = (timed_is m (command_order w ws) o both.1).1 in
+    elim (or_cases (bytes_eq w (codes "build")) (bytes_eq w (codes "session")) both.0) [
+      | inl h ↦ made_with order.Build (options_in true ws) o (Knows call.Jobs) (λ x. tt) (is_word w (codes "build") ws o h is)
+      | inr h ↦ made_with order.Session (options_in true ws) o (Knows call.Jobs) (λ x. tt) (is_word w (codes "session") ws o h is)
+    ]
+
+-- so no arm besides those is reached
+pub none_for_once : (o : Order) → Knows call.Once o → ((s : Settings) → o ≡ order.Once s → ⊥) → ((s : Settings) → o ≡ order.Check s → ⊥) → ⊥
+none_for_once (order.Once s) h no_once no_check = no_once s refl
+none_for_once (order.Check s) h no_once no_check = no_check s refl
+none_for_once (order.Build options) h no_once no_check = h
+none_for_once (order.Session options) h no_once no_check = h
+none_for_once (order.Make number count) h no_once no_check = h
+
+pub none_for_jobs : (o : Order) → Knows call.Jobs o → ((x : Options) → o ≡ order.Build x → ⊥) → ((x : Options) → o ≡ order.Session x → ⊥) → ⊥
+none_for_jobs (order.Build x) h no_build no_session = no_build x refl
+none_for_jobs (order.Session x) h no_build no_session = no_session x refl
+none_for_jobs (order.Once s) h no_build no_session = h
+none_for_jobs (order.Check s) h no_build no_session = h
+none_for_jobs (order.Make number count) h no_build no_session = h
+
+-- the settings and options of one order
+pub same_once : (o : Order) (s t : Settings) → o ≡ order.Once s → o ≡ order.Once t → s ≡ t
+same_once o s t a b = let both : order.Once s ≡ order.Once t = sym a ∙ b in cc
+
+pub same_check : (o : Order) (s t : Settings) → o ≡ order.Check s → o ≡ order.Check t → s ≡ t
+same_check o s t a b = let both : order.Check s ≡ order.Check t = sym a ∙ b in cc
+
+pub same_build : (o : Order) (x y : Options) → o ≡ order.Build x → o ≡ order.Build y → x ≡ y
+same_build o x y a b = let both : order.Build x ≡ order.Build y = sym a ∙ b in cc
+
+pub same_session : (o : Order) (x y : Options) → o ≡ order.Session x → o ≡ order.Session y → x ≡ y
+same_session o x y a b = let both : order.Session x ≡ order.Session y = sym a ∙ b in cc
+
+abbrev made_or : Order → Result Order UsageKind → Order
+made_or other (Ok o) = o
+made_or other (Err bad) = other
+
+-- what the words order at a moment, told of the moment as it is handed on
+pub ordered : (top : TopCall) (words : List (List ℕ)) (m n : ℤ) (o p : Order) → m ≡ n → order_of top words m ≡ Ok o → order_of top words n ≡ Ok p → o ≡ p
+ordered top words m n o p same a b = ap (made_or o) (sym a ∙ ap (λ z. order_of top words z) same ∙ b)
+
+pub same_start : (s t : Settings) (m n : ℤ) → s ≡ t → m ≡ n → start s m ≡ start t n
+same_start s t m n settings_is moment_is i = start (settings_is i) (moment_is i)

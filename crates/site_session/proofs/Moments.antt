@@ -1,0 +1,10 @@
+-- The moments of a session.
+use Rattle.std.proofs.Common.{◌≡◌, true, leb-true}
+use Rattle.std.specs.Prelude.{ℤ, pos, negsuc}
+use lib.Dec.{le→leb}
+use Rattle.site_dates.specs.Moment.{IsMoment}
+use Rattle.site_script.specs.Line.{is_moment}
+
+pub moment : (m : ℤ) → is_moment m ≡ true → IsMoment m
+moment (pos n) e = (record { le = tt }, record { le = le→leb n 253402214399 (leb-true n 253402214399 e) })
+moment (negsuc n) e = absurd (cc (e))

@@ -1,0 +1,67 @@
+// The items of a site, rendered one after another.
+ghost use Rattle.std.specs.Prelude.{◌≡◌, ◌<◌, IfOk, IfSome, MatchResult, Ok, length, map, slice_get};
+ghost use Rattle.site_reader.specs.Found.{IsFirst};
+ghost use Rattle.site_session.specs.Full.{made, made_by, rendered, seen};
+
+use page_render::{Outcome, render_thin};
+use site_base::{Memory, SharedBytes};
+use site_reader::{Site, SiteError, SiteItem};
+use std::alloc::Global;
+
+/// An item with the bytes of its output.
+#[derive(Drop)]
+pub(crate) struct Rendered<'a> {
+    pub(crate) item: &'a SiteItem,
+    pub(crate) bytes: SharedBytes,
+}
+
+/// The items in their order, each with its output, or the first fault.
+pub(crate) fn render_items<'a>(
+    alloc: Global,
+    site: &'a Site,
+) -> Result<Vec<Rendered<'a>>, SiteError>
+    ensures { let found = rendered site.entry.now in
+        MatchResult result (λ items. found ≡ Ok (map seen items.items)) (IsFirst found) }
+{
+    let mut items = Vec::new(alloc);
+    for place in 0..count(site)? {
+        items.push(rendered_at(alloc, site, place)?)?;
+    }
+    Ok(items)
+}
+
+/// How many items there are. Each is of a held file, so their number fits.
+pub(crate) fn count(site: &Site) -> Result<u32, Memory>
+    ensures { IfOk result (λ count. count ≡ length site.now.items) }
+{
+    match u32::try_from(site.items.len()) {
+        Ok(count) => Ok(count),
+        Err(_) => Err(Memory),
+    }
+}
+
+fn rendered_at<'a>(alloc: Global, site: &'a Site, place: u32) -> Result<Rendered<'a>, SiteError>
+    requires { place < length site.now.items }
+    ensures { IfSome (slice_get site.entry.now.items place) (λ item. let found = made site.entry.now item in
+        MatchResult result (λ one. found ≡ Ok (seen one)) (IsFirst found)) }
+{
+    let outcome = render_thin(alloc, site, place)?;
+    rendered_by(alloc, site.items.at(place as u64), outcome)
+}
+
+fn rendered_by<'a>(
+    alloc: Global,
+    item: &'a SiteItem,
+    outcome: Outcome,
+) -> Result<Rendered<'a>, SiteError>
+    ensures { let found = made_by item.entry.now outcome in
+        MatchResult result (λ one. found ≡ Ok (seen one)) (IsFirst found) }
+{
+    match outcome {
+        Outcome::Done { output, .. } => Ok(Rendered {
+            item,
+            bytes: SharedBytes::from_vec(alloc, output.into_bytes()?)?,
+        }),
+        Outcome::Fault(fault) => Err(SiteError::Fault(fault)),
+    }
+}

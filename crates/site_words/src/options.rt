@@ -1,0 +1,139 @@
+// The options of a command, read by the parser of command lines.
+ghost use Rattle.std.specs.Prelude.{◌≡◌, ◌≢◌, ◌⊎◌, Bool, List, ℕ, IfOk, map, codes};
+ghost use Rattle.std.specs.List.{list_any};
+ghost use Rattle.std.specs.Str.{bytes_eq};
+ghost use Rattle.clap.specs.Words.{app_of, found_of, first_of, one_of, rows_of};
+ghost use Rattle.site_words.specs.Commands.{IsFlag, Tells, jobs_app, options_app, settings_app};
+ghost use Rattle.site_words.specs.Numbers.{number_in};
+ghost use Rattle.site_words.specs.Words.{AnswersOptions, Given, jobs_of, options_in, options_of};
+
+use crate::faults::{UsageKind, WordsError};
+use crate::numbers::number_in;
+use crate::orders::Options;
+use clap::error::ErrorKind;
+use clap::{Arg, ArgAction, ArgMatches, Command};
+use site_base::Settings;
+use std::alloc::{AllocError, Global};
+
+const MOST_JOBS: u64 = 64;
+
+// The options that words are, where they are nothing else; `--jobs` and `--why` are options where
+// `has_jobs` holds. The error is a fault of the options, or want of memory.
+pub(crate) fn read_options<'a>(
+    alloc: Global,
+    words: &'a [&'a str],
+    has_jobs: bool,
+) -> Result<Options, WordsError>
+    ensures { AnswersOptions (options_in has_jobs (map (λ word. word.now) words.entry.now)) result }
+{
+    // The parser takes `--` for the end of the options.
+    if has_dashes(words) {
+        return Err(WordsError::Usage(UsageKind::Option));
+    }
+    let Ok(command) = options_command(alloc, has_jobs) else {
+        return Err(WordsError::Memory);
+    };
+    match command.try_get_matches_from(words) {
+        Ok(matches) => options_given(&matches),
+        Err(error) => Err(refusal(error.kind())),
+    }
+}
+
+fn has_dashes(words: &[&str]) -> bool
+    ensures { result ≡ list_any (λ word. bytes_eq word (codes "--")) (map (λ word. word.now) words.entry.now) }
+{
+    words.iter().any(|word| *word == "--")
+}
+
+// A command that knows `--drafts` and `--future`.
+fn settings_command<'a>(alloc: Global) -> Result<Command<'a>, AllocError>
+    ensures { IfOk result (λ command. app_of command ≡ settings_app) }
+{
+    let drafts = Arg::new(alloc, "drafts")
+        .long("drafts")
+        .action(ArgAction::SetTrue);
+    let future = Arg::new(alloc, "future")
+        .long("future")
+        .action(ArgAction::SetTrue);
+    Command::new(alloc, "sitebuild")
+        .no_binary_name(true)
+        .disable_help_flag(true)
+        .disable_version_flag(true)
+        .arg(drafts)?
+        .arg(future)
+}
+
+// A command that knows `--jobs N` and `--why` besides.
+fn jobs_command<'a>(alloc: Global) -> Result<Command<'a>, AllocError>
+    ensures { IfOk result (λ command. app_of command ≡ jobs_app) }
+{
+    let jobs = Arg::new(alloc, "jobs").long("jobs").action(ArgAction::Set);
+    let why = Arg::new(alloc, "why")
+        .long("why")
+        .action(ArgAction::SetTrue);
+    settings_command(alloc)?.arg(jobs)?.arg(why)
+}
+
+fn options_command<'a>(alloc: Global, has_jobs: bool) -> Result<Command<'a>, AllocError>
+    ensures { IfOk result (λ command. app_of command ≡ options_app has_jobs) }
+{
+    if has_jobs {
+        jobs_command(alloc)
+    } else {
+        settings_command(alloc)
+    }
+}
+
+// Why the parser refused the words.
+fn refusal(kind: ErrorKind) -> WordsError
+    ensures { (result ≡ WordsError.Memory)
+        ⊎ ((result ≡ WordsError.Usage UsageKind.Option) × (kind ≢ ErrorKind.OutOfMemory)) }
+{
+    match kind {
+        ErrorKind::OutOfMemory => WordsError::Memory,
+        _ => WordsError::Usage(UsageKind::Option),
+    }
+}
+
+// The options that the parser found, unless the number of `--jobs` is wrong.
+fn options_given(matches: &ArgMatches<'_>) -> Result<Options, WordsError>
+    ensures { (given : Given) → Tells (rows_of (found_of matches.now)) given → AnswersOptions (options_of given) result }
+{
+    let Some(jobs) = jobs_given(matches) else {
+        return Err(WordsError::Usage(UsageKind::Option));
+    };
+    let settings = Settings {
+        drafts: is_given(matches, "drafts"),
+        future: is_given(matches, "future"),
+    };
+    let why = is_given(matches, "why");
+    Ok(Options {
+        jobs,
+        settings,
+        why,
+    })
+}
+
+fn jobs_given(matches: &ArgMatches<'_>) -> Option<u32>
+    ensures { result ≡ jobs_of (first_of (codes "jobs") (rows_of (found_of matches.now))) }
+{
+    match matches.get_str("jobs") {
+        None => Some(1),
+        Some(number) => jobs_in(number),
+    }
+}
+
+fn jobs_in(number: &str) -> Option<u32>
+    ensures { result ≡ number_in 1 64 number.now }
+{
+    match number_in(number, 1, MOST_JOBS) {
+        Some(jobs) => Some(jobs as u32),
+        None => None,
+    }
+}
+
+fn is_given(matches: &ArgMatches<'_>, id: &str) -> bool
+    ensures { (b : Bool) → IsFlag (one_of id.now (rows_of (found_of matches.now))) b → result ≡ b }
+{
+    matches.get_flag(id)
+}
