@@ -116,13 +116,13 @@ fn three_collections(alloc: Global) -> Result<Value, Fail> {
     )?)
 }
 
-// The list of one default: the layout of the films below `a`.
+// The list of one default: the layout of the posts below `a`.
 fn one_default(alloc: Global) -> Result<Value, Fail> {
     let scope = hash(
         alloc,
         vec![in alloc;
             ("path", text(alloc, "a")?),
-            ("type", text(alloc, "films")?),
+            ("type", text(alloc, "posts")?),
         ]?,
     )?;
     let values = hash(alloc, vec![in alloc; ("layout", text(alloc, "page")?)]?)?;
