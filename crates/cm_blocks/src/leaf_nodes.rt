@@ -30,11 +30,7 @@ pub(crate) fn leaf_node(alloc: Global, leaf: Leaf) -> Result<Option<Node>, Memor
     }
 }
 
-fn underlined(
-    alloc: Global,
-    level: HeadingLevel,
-    lines: LeafLines,
-) -> Result<Option<Node>, Memory>
+fn underlined(alloc: Global, level: HeadingLevel, lines: LeafLines) -> Result<Option<Node>, Memory>
     ensures { IfOk result (λ found. option_to_list found ≡ node.Heading level (prose_of lines) ∷ []) }
 {
     let text = prose(alloc, lines)?;
