@@ -25,6 +25,9 @@ use site_files::{extension, file_name, stem};
 use std::alloc::Global;
 use std::str;
 
+/// How many variables of a document name its neighbours, the next and the previous.
+const NEIGHBOURS: usize = 2;
+
 /// An item of the site, as its file makes it.
 #[derive(Drop)]
 pub struct Item {
@@ -255,9 +258,11 @@ fn set_variables(alloc: Global, sought: &Sought, url: &str, mut vars: Hash) -> R
     set_placed(alloc, &mut vars, sought.path, url)?;
     if sought.kind.is_page() {
         set_page_variables(alloc, &mut vars, sought.path, url)?;
+        vars.fit(0)?;
         return Ok(vars);
     }
     set_document_variables(alloc, &mut vars, sought, url)?;
+    vars.fit(NEIGHBOURS)?;
     Ok(vars)
 }
 

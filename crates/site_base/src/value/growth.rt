@@ -49,6 +49,16 @@ impl Hash {
         })
     }
 
+    /// Leaves room for so many more pairs and for no others, where what holds them can give room back: for hashes that are
+    /// kept, since one that grows has room for up to twice its pairs.
+    pub fn fit(&mut self, more: usize) -> Result<(), Memory>
+        ensures { self.new ≡ self.old }
+    {
+        self.pairs.reserve_exact(more)?;
+        self.pairs.shrink_to(self.pairs.len() + more);
+        Ok(())
+    }
+
     /// Adds a pair at the end, and looks at no other: for keys that are known to differ.
     #[tactic(auto, using(crate::proofs::ValueLaws::pairs_append))]
     pub fn push(&mut self, key: Text, value: Value) -> Result<(), Memory>

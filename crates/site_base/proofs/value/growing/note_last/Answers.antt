@@ -5,8 +5,7 @@ use Rattle.std.specs.Ordering.{nat_cmp}
 use Rattle.std.specs.BTreeMap.{get}
 use Rattle.std.proofs.lemmas.List.{take_all}
 use Rattle.std.proofs.lemmas.Result.{on_ok_weaker}
-use Rattle.site_base.specs.Fingerprints.{fingerprint, IsIndex, IsIndexed}
-use Rattle.site_base.specs.declared.value.Pair.{Pair}
+use Rattle.site_base.specs.Fingerprints.{fingerprint, IsIndex}
 use Rattle.site_base.proofs.IndexLaws.{index_more}
 use Rattle.site_base.proofs.value.growing.note_last.Goals as goal
 
