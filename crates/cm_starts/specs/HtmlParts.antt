@@ -1,4 +1,4 @@
--- The rule for what starts a block of HTML, in parts.
+-- The rule for what starts a block of HTML, in parts: CommonMark 0.31.2, section 4.6.
 use Rattle.std.specs.Prelude.{List, codes, drop, if◌then◌else◌, not, ℕ, ◌&&◌}
 use Rattle.markdown_grammar.specs.Bytes.{is_letter}
 use Rattle.markdown_grammar.specs.Fronts.{begins_with, first_byte, has}

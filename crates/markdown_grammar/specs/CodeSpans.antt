@@ -14,7 +14,7 @@ Taken = Piece × ℕ
 abbrev pub as_textual : List ℕ → ℕ → Taken
 as_textual b n = (finished (textual b no_inlines), n)
 
--- the length of what stands before a run of just n backticks
+-- how many bytes stand up to and with the next run of just n backticks, where so many of them stand right before; none where there is no such run
 abbrev pub before_run : ℕ → ℕ → Reader
 before_run n current [] = if n == current then Some 0 else None
 before_run n current (c ∷ cs) = elim (c == backtick) [

@@ -1,4 +1,4 @@
--- What a lazy line does to the open end.
+-- What a lazy line does to the open end: CommonMark 0.31.2, section 5.1.
 use Rattle.std.specs.Prelude.{List, [], ℕ, ◌++◌, ◌∷◌}
 use Rattle.markdown_grammar.specs.Blocks.{rules}
 use Rattle.markdown_grammar.specs.Leaves.{paragraph}

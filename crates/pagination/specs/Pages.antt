@@ -1,4 +1,4 @@
--- The pages over which posts are spread, and the paths of these pages.
+-- The pages over which posts are spread, and the paths of these pages, after Jekyll 4's manual, "Pagination".
 use Rattle.std.specs.Prelude.{ℕ, ◌+◌, ◌-◌, ◌/◌, ◌==◌, nat_eq, Bool, List, [], ◌∷◌, ◌++◌, drop, flat_map, codes, if◌then◌else◌}
 use Rattle.std.specs.List.{slice_split, starts_with}
 use Rattle.std.specs.Fmt.{decimal}

@@ -1,4 +1,4 @@
--- Where the output of a URL stands.
+-- Where the output of a URL stands: Jekyll 4's manual, "Permalinks".
 use Rattle.std.specs.Prelude.{◌≡◌, ◌⊎◌, ◌==◌, nat_eq, ℕ, List, [], ◌∷◌, ◌++◌, codes, IsSome, if◌then◌else◌}
 use Rattle.std.specs.List.{ends_with}
 use Rattle.site_base.specs.Path.{path_refusal}

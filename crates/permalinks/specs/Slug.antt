@@ -1,4 +1,4 @@
--- Slugs: the words of a text, joined by `-`.
+-- Slugs: the words of a text, joined by `-`, as the filter `slugify` of Jekyll 4's manual, "Liquid Filters".
 use Rattle.std.specs.Prelude.{ℕ, Bool, true, false, not, List, [], ◌∷◌, ◌++◌, flat_map, encode_utf8}
 use Rattle.std.specs.List.{slice_split}
 use Rattle.std.specs.Char.{to_ascii_lowercase}

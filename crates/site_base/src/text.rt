@@ -30,7 +30,7 @@ enum Place {
 #[derive(Drop)]
 struct Letters {
     len: u8,
-    bytes: [u8; 14],
+    bytes: [u8; MOST_LETTERS],
 }
 
 impl Model for Text {

@@ -1,4 +1,4 @@
--- What a configuration says, key by key, with the default of each.
+-- What a configuration says, key by key, with the default of each, after Jekyll 4's manual, "Configuration Options" and "Front Matter Defaults".
 use Rattle.std.specs.Prelude.{ℕ, ℤ, pos, nat_le, Bool, true, false, List, [], ◌∷◌, ◌++◌, codes, map, Option, Some, None, if◌then◌else◌, unwrap_or, fold, filter_map}
 use Rattle.std.specs.List.{list_any}
 use Rattle.std.specs.Option.{option_and_then}

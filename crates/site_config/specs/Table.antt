@@ -1,4 +1,4 @@
--- The table of the keys that have a meaning, in its order.
+-- The table of the keys that have a meaning, in its order; the keys are those of Jekyll 4's manual, "Configuration Options".
 use Rattle.std.specs.Prelude.{ℕ, not, List, [], ◌∷◌, codes, Option}
 use Rattle.std.specs.List.{find}
 use Rattle.std.specs.Option.{option_map}

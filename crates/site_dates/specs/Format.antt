@@ -1,4 +1,4 @@
--- Moments as text: patterns of directives, as those of strftime.
+-- Moments as text: patterns of directives, as those of strftime in POSIX.
 use Rattle.std.specs.Prelude.{◌≡◌, ◌≤◌, length, ◌⊎◌, ℕ, ◌+◌, ◌-◌, ◌/◌, ◌%◌, ◌==◌, nat_lt, Bool, true, false, List, [], ◌∷◌, ◌++◌, take, drop, codes, slice_index_or, ℤ, pos, negsuc, ◌+ℤ◌, unsigned_abs, Option, Some, None, if◌then◌else◌}
 use Rattle.std.specs.Option.{option_map}
 use Rattle.std.specs.List.{slice_split}

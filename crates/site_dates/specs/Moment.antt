@@ -1,4 +1,4 @@
--- Moments, in seconds from the beginning of 1970 in UTC, and the texts that name them.
+-- Moments, in seconds from the beginning of 1970 in UTC, and the texts that name them, dates and clocks as in ISO 8601.
 use Rattle.std.specs.Prelude.{◌≤ℤ◌, ℕ, ◌+◌, ◌*◌, ◌==◌, nat_lt, nat_le, Bool, ◌&&◌, ◌||◌, List, [], ◌∷◌, drop, codes, ℤ, pos, negsuc, neg_ℤ, ◌-ℤ◌, Option, Some, None, option_and_then, if◌then◌else◌}
 use Rattle.site_dates.specs.declared.calendar.Date.{Date}
 use Rattle.site_dates.specs.declared.moment.Clock.{Clock}

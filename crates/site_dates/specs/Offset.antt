@@ -1,4 +1,4 @@
--- Offsets from UTC, in seconds.
+-- Offsets from UTC, in seconds, and their texts as in ISO 8601.
 use Rattle.std.specs.Prelude.{◌≡◌, ◌≤◌, ℕ, ◌+◌, ◌*◌, ◌%◌, ◌==◌, nat_lt, Bool, ◌&&◌, ◌||◌, List, [], ◌∷◌, codes, ℤ, pos, neg_ℤ, unsigned_abs, Option, Some, None, if◌then◌else◌}
 use Rattle.std.specs.Option.{option_map}
 use Rattle.std.specs.Str.{bytes_eq}

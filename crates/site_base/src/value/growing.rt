@@ -16,7 +16,8 @@ use std::marker::Model;
 /// How many pairs are looked through one by one.
 const FEW: usize = 16;
 
-/// A hash that grows by many pairs: `set` takes hardly longer where there are more, whatever the keys are.
+/// A hash that grows by many pairs: `set` takes hardly longer where there are more, as long as few keys share a
+/// fingerprint; one that does is looked for among all pairs.
 #[derive(Drop)]
 pub struct GrowingHash {
     pairs: Vec<Pair>,

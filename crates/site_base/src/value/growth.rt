@@ -50,7 +50,7 @@ impl Hash {
     }
 
     /// Leaves room for so many more pairs and for no others, where what holds them can give room back: for hashes that are
-    /// kept, since one that grows has room for up to twice its pairs.
+    /// kept, since one that grows has room for up to twice its pairs. No clause tells of room; `bench/reader` measures it.
     pub fn fit(&mut self, more: usize) -> Result<(), Memory>
         ensures { self.new ≡ self.old }
     {

@@ -3,7 +3,7 @@ ghost use Rattle.std.specs.Prelude.{◌≡◌, ◌++◌, ◌∷◌, [], OnOk, On
 
 use crate::Memory;
 
-/// From how many on a `Vec` may have its own way to grow, which gives the first four room at once.
+/// From how many on a `Vec` grows in its own way; it gives its first item room for four.
 const MANY: usize = 4;
 
 /// Adds an item at the end, with room for twice as many where there is none: most lists and hashes are short.

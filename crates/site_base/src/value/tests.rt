@@ -25,6 +25,7 @@ fn sets_and_gets_by_key(rt: HostRuntime) -> Result<(), Fail> {
     let mut hash = Hash::new(alloc);
     hash.set(Text::copy(alloc, "a")?, text(alloc, "x\n")?)?;
     hash.set(Text::copy(alloc, "b")?, text(alloc, "y z")?)?;
+    hash.fit(1)?;
     assert_eq!(rt; shown(hash.get("b")), Some("y z"));
     assert!(rt; hash.get("c").is_none());
     hash.set(Text::copy(alloc, "a")?, Value::Int(1))?;
