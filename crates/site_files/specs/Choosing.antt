@@ -1,4 +1,4 @@
--- Which files a site takes: hidden names, and the entries of `include` and `exclude`.
+-- Which files a site takes: hidden names, and the entries of `include` and `exclude`, after Jekyll 4's manual, "Configuration Options". Entries are paths, not globs, which is this project's own.
 use Rattle.std.specs.Prelude.{ℕ, ◌-◌, ◌==◌, nat_eq, Bool, false, not, ◌&&◌, ◌||◌, List, [], ◌∷◌, length, take, codes, if◌then◌else◌}
 use Rattle.std.specs.List.{list_any, ends_with}
 use Rattle.std.specs.Str.{bytes_eq}

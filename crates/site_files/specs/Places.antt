@@ -1,4 +1,4 @@
--- What a file of a site is, as far as its path tells: the first of these places that fits.
+-- What a file of a site is, as far as its path tells: the first of these places that fits, after Jekyll 4's manual, "Directory Structure" and "Collections".
 use Rattle.std.specs.Prelude.{ℕ, ℤ, ◌+◌, ◌==◌, Bool, false, not, ◌&&◌, ◌||◌, List, [], ◌∷◌, length, drop, codes, Option, Some, None, count_by, position, if◌then◌else◌}
 use Rattle.std.specs.List.{list_any}
 use Rattle.std.specs.Str.{bytes_eq}

@@ -1,4 +1,4 @@
--- The names of posts: `YYYY-MM-DD-title.EXT`.
+-- The names of posts: `YYYY-MM-DD-title.EXT`, after Jekyll 4's manual, "Posts".
 use Rattle.std.specs.Prelude.{ℕ, ℤ, ◌==◌, nat_lt, Bool, false, ◌&&◌, List, [], ◌∷◌, length, take, drop, Option, Some, None, option_and_then, if◌then◌else◌}
 use Rattle.std.specs.Option.{option_map}
 use Rattle.site_dates.specs.Moment.{read_moment}
