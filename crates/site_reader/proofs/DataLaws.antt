@@ -1,8 +1,6 @@
 -- Values of data files, and where they are put.
-use Rattle.std.proofs.Common.{◌≡◌, ℕ, ◌+◌, Bool, true, false, List, [], ◌∷◌, ◌==◌, length, Option, Some, None, Ok, Err, refl, sym, ap, ◌∙◌, arith}
-use Rattle.std.specs.List.{slice_split}
+use Rattle.std.proofs.Common.{◌≡◌, ℕ, ◌+◌, Bool, true, false, List, [], ◌∷◌, ◌==◌, length, Option, Some, None, Ok, refl, arith}
 use Rattle.std.specs.Option.{option_map}
-use Rattle.std.specs.Prelude.{count_by}
 use Rattle.std.specs.Str.{IsUtf8, is_utf8}
 use Rattle.std.proofs.lemmas.List.Splits.{length-slice_split}
 use Rattle.std.proofs.lemmas.Str.{IsUtf8-from_is_utf8}
@@ -13,7 +11,7 @@ use Rattle.site_base.specs.declared.value.Value.{Value}
 use Rattle.data_files.specs.Formats.{ReadsFile}
 use Rattle.data_files.specs.declared.format.Format.{Format}
 use Rattle.data_files.specs.declared.format.Format.TheVariants as form
-use Rattle.site_reader.specs.Data.{found_text, pairs_or_none, of_data, of_yaml, with_value}
+use Rattle.site_reader.specs.Data.{found_text, pairs_or_none, with_value}
 
 pub not_utf8 : (s : List ℕ) → (IsUtf8 s → ⊥) → is_utf8 s ≡ false
 not_utf8 s none = at (is_utf8 s) (IsUtf8-from_is_utf8 s)

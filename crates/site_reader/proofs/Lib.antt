@@ -1,4 +1,6 @@
 mod DataLaws
 mod EachLaws
+mod LawfulSites
 mod NeighbourLaws
 mod RisingLaws
+mod Weights

@@ -1,5 +1,5 @@
 -- Items that are put one behind another.
-use Rattle.std.proofs.Common.{◌≡◌, ℕ, List, [], ◌∷◌, ◌++◌, Option, Some, None, refl, sym, ap, ◌∙◌}
+use Rattle.std.proofs.Common.{◌≡◌, ℕ, List, [], ◌∷◌, ◌++◌, Option, Some, None, sym, ap, ◌∙◌}
 use Rattle.site_items.specs.declared.item.Item.{Item}
 use Rattle.site_reader.specs.Neighbours.{site_item_of, site_items, with_last}
 use Rattle.site_reader.specs.Ranks.{Ranked}

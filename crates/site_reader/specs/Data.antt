@@ -1,5 +1,5 @@
 -- The data tree: the values of data files under their folders and names. After Jekyll 4's manual, "Data Files".
-use Rattle.std.specs.Prelude.{ℕ, List, [], ◌∷◌, codes, Option, Some, None, is_some, Result, Ok, Err, if◌then◌else◌}
+use Rattle.std.specs.Prelude.{ℕ, List, [], ◌∷◌, codes, Option, Some, None, is_some, Ok, Err, if◌then◌else◌}
 use Rattle.std.specs.Str.{is_utf8}
 use Rattle.site_base.specs.Path.{segments}
 use Rattle.site_base.specs.Plain.{Plain, hash, Pairs, no_pairs, get, set}

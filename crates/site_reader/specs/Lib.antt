@@ -6,3 +6,4 @@ pub mod Ruled
 pub mod Neighbours
 pub mod Outputs
 pub mod Sites
+pub mod Lawful

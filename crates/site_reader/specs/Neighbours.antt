@@ -1,5 +1,5 @@
 -- Items with their neighbours: the document before and the one behind in the same collection, as `next` and `previous` of Jekyll 4's manual, "Variables".
-use Rattle.std.specs.Prelude.{ℕ, ◌==◌, nat_lt, ◌&&◌, List, [], ◌∷◌, ◌++◌, codes, length, Option, Some, None, if◌then◌else◌}
+use Rattle.std.specs.Prelude.{ℕ, ◌==◌, nat_lt, List, [], ◌∷◌, ◌++◌, codes, Option, Some, None, if◌then◌else◌}
 use Rattle.site_base.specs.Plain.{Plain, nil, site_item, Pairs, set}
 use Rattle.site_base.specs.declared.value.Value.TheVariants as value
 use Rattle.site_items.specs.declared.item.Item.{Item}

@@ -1,5 +1,5 @@
 -- What the files of a site are: each file with its place, and what it is there. After Jekyll 4's manual, "Directory Structure".
-use Rattle.std.specs.Prelude.{ℕ, ◌||◌, Bool, true, false, List, map, Option, Some, None, if◌then◌else◌}
+use Rattle.std.specs.Prelude.{ℕ, ◌||◌, Bool, true, false, List, Option, Some, None, if◌then◌else◌}
 use Rattle.site_base.specs.declared.settings.Settings.{Settings}
 use Rattle.front_yaml.specs.Front.{front}
 use Rattle.front_yaml.specs.declared.front_matter.Front.{Front}

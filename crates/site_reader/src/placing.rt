@@ -4,6 +4,7 @@ ghost use Rattle.std.specs.FinMap as finite;
 ghost use Rattle.front_yaml.specs.Front.{front};
 ghost use Rattle.site_dates.specs.Offset.{IsOffset};
 ghost use Rattle.site_reader.specs.Placing.{as_copy, as_item, builds_drafts, builds_future, copied_kind, has_matter, item_kind, placed, seen};
+ghost use Rattle.source_tree.specs.Limits.{CanBeHeld};
 
 use front_yaml::{Front, split_front};
 use site_base::{Memory, Settings, SitePath};
@@ -29,7 +30,9 @@ pub(crate) fn placed_files<'a>(
     drafts: bool,
 ) -> Result<Vec<PlacedFile<'a>>, Memory>
     requires { IsOffset config.now.timezone }
-    ensures { IfOk result (λ files. map seen files.items ≡ map (placed config.now drafts) (finite.entries held.entry.now)) }
+    ensures files { IfOk result (λ files. map seen files.items ≡ map (placed config.now drafts) (finite.entries held.entry.now)) }
+    // What is held passes no limit.
+    ensures within { CanBeHeld held.entry.now }
 {
     let mut files = Vec::new(alloc);
     for number in 0..held.len() {

@@ -1,11 +1,13 @@
 // The reading of a site.
-ghost use Rattle.std.specs.Prelude.{◌≡◌, IfOk, MatchResult, Ok, map};
+ghost use Rattle.std.specs.Prelude.{◌≡◌, ◌≤◌, IfOk, MatchResult, Ok, length, map};
 ghost use Rattle.std.specs.FinMap as finite;
 ghost use Rattle.site_dates.specs.Moment.{IsMoment};
 ghost use Rattle.site_dates.specs.Offset.{IsOffset};
 ghost use Rattle.site_reader.specs.Found.{IsFirst};
+ghost use Rattle.site_reader.specs.Lawful.{IsLawful};
 ghost use Rattle.site_reader.specs.Placing.{seen};
 ghost use Rattle.site_reader.specs.Sites.{clash_free, config, items, items_by, placed_site, site, site_with};
+ghost use Rattle.source_tree.specs.Limits.{CanBeHeld, most_files};
 
 use crate::configuration::config;
 use crate::copies::copies;
@@ -36,8 +38,10 @@ pub fn read_site(
     settings: &Settings,
 ) -> Result<Site, SiteError>
     requires { IsMoment moment }
-    ensures { let found = site held.now moment settings.now in
+    ensures read { let found = site held.now moment settings.now in
         MatchResult result (λ made. found ≡ Ok made) (IsFirst found) }
+    ensures lawful { IfOk result (IsLawful held.now) }
+    ensures few { IfOk result (λ made. length made.items ≤ most_files) }
 {
     match config(alloc, held) {
         Ok(config) => site_with(alloc, held, moment, settings, config),
@@ -55,8 +59,10 @@ fn site_with(
 ) -> Result<Site, SiteError>
     requires offset { IsOffset config.timezone }
     requires moment { IsMoment moment }
-    ensures { let found = site_with held.now moment settings.now config in
+    ensures read { let found = site_with held.now moment settings.now config in
         MatchResult result (λ made. found ≡ Ok made) (IsFirst found) }
+    // What is held passes no limit.
+    ensures within { CanBeHeld held.now }
 {
     let files = placed_files(alloc, held, &config, builds_drafts(&config, settings))?;
     let future = builds_future(&config, settings);

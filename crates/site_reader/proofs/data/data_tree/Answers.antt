@@ -1,6 +1,5 @@
 use Rattle.std.proofs.Common.{◌∙◌, arith, sym, rules}
 use Rattle.std.proofs.lemmas.Result.{err_from_is_err_and}
-use Rattle.site_base.specs.Plain.{no_pairs}
 use Rattle.site_reader.specs.Data.{add_data}
 use Rattle.site_reader.specs.Placing.{seen}
 use Rattle.site_reader.proofs.EachLaws.{each_done, each_first, each_next}

@@ -1,4 +1,4 @@
-use Rattle.std.proofs.Common.{◌≡◌, drop, map, []}
+use Rattle.std.proofs.Common.{◌≡◌, drop, map}
 use Rattle.site_base.specs.Plain.{no_pairs}
 use Rattle.site_reader.specs.Data.{add_data}
 use Rattle.site_reader.specs.Found.{each}

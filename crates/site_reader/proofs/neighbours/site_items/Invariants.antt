@@ -1,4 +1,4 @@
-use Rattle.std.proofs.Common.{◌≡◌, None, length}
+use Rattle.std.proofs.Common.{◌≡◌, None}
 use Rattle.site_reader.specs.Neighbours.{row_items, site_items}
 use Rattle.site_reader.proofs.neighbours.site_items.Given as goal
 

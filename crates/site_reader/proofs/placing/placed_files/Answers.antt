@@ -10,6 +10,6 @@ loop-number-preserved c =
     one_placed seen (placed c.args.config.now c.args.drafts) (finite.entries c.args.held.now) c.loop-number.files.items _ c.loop-number.number c.placed_file.result (seen c.placed_file.result).1 (omega (arith, finite.len-entries c.args.held.now, lt))
     c.placed_file.ensures.file c.placed_file.ensures.place c.in_ok-push.ensures.items c.loop-number.invariant
 
-pub returns : goal.returns
-returns c =
+pub returns-clause-files : goal.returns-clause-files
+returns-clause-files c =
     all_placed seen (placed c.args.config.now c.args.drafts) (finite.entries c.args.held.now) c.loop-number.files.items c.loop-number.number (omega (arith, finite.len-entries c.args.held.now, c.len-number-end.ensures.number, c.loop-number-test.false)) c.loop-number.invariant

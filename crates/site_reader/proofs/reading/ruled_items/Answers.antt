@@ -1,4 +1,4 @@
-use Rattle.std.proofs.Common.{◌≡◌, ◌∙◌, List, Ok, ap, map, sym, w64}
+use Rattle.std.proofs.Common.{◌≡◌, ◌∙◌, List, ap, map, sym}
 use Rattle.std.proofs.lemmas.Int.{to_z-of_z}
 use Rattle.site_config.specs.declared.scope.Scope.{Scope}
 use Rattle.site_items.specs.Defaults.{by_strength}

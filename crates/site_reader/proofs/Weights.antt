@@ -1,0 +1,58 @@
+-- What lists weigh, by a number for each element.
+use Rattle.std.proofs.Common.{◌≡◌, ℕ, ◌+◌, ◌≤◌, List, [], ◌∷◌, ◌++◌, length, map, Ok, Err, Less, Equal, Greater, Ordering, arith, refl, ap}
+use Rattle.std.specs.BTreeMap.{insert_entry}
+use Rattle.std.specs.Ordering.{match_ordering}
+use Rattle.std.specs.Result.{result_unwrap_or}
+use Rattle.site_reader.specs.Found.{Found, each, ◌>>◌}
+
+abbrev pub weight : {A : Type 0} → (A → ℕ) → List A → ℕ
+weight w [] = 0
+weight w (x ∷ xs) = w x + weight w xs
+
+-- where each weighs 1
+pub weight_length : {A : Type 0} (xs : List A) → weight (λ x. 1) xs ≡ length xs
+weight_length [] = refl
+weight_length (x ∷ xs) = omega (arith, weight_length xs)
+
+pub weight-append : {A : Type 0} (w : A → ℕ) (xs ys : List A) → weight w (xs ++ ys) ≡ weight w xs + weight w ys
+weight-append w [] ys = omega arith
+weight-append w (x ∷ xs) ys = omega (arith, weight-append w xs ys)
+
+pub weight-map : {A B : Type 0} (w : B → ℕ) (f : A → B) (xs : List A) → weight w (map f xs) ≡ weight (λ x. w (f x)) xs
+weight-map w f [] = refl
+weight-map w f (x ∷ xs) = ap (λ n. w (f x) + n) (weight-map w f xs)
+
+pub weight_le : {A : Type 0} (v w : A → ℕ) (xs : List A) → ((x : A) → v x ≤ w x) → weight v xs ≤ weight w xs
+weight_le v w [] less = omega arith
+weight_le v w (x ∷ xs) less = omega (arith, less x, weight_le v w xs less)
+
+-- an entry that is put among others adds no more than it weighs
+module _ {K V : Type 0} (cmp : K → K → Ordering) (w : K → ℕ) (k : K) (v : V) where
+  pub weight-insert_entry : (es : List (K × V)) → weight (λ e. w e.0) (insert_entry cmp es k v) ≤ weight (λ e. w e.0) es + w k
+  weight-insert_entry [] = omega arith
+  weight-insert_entry (e ∷ es) = by (cmp k e.0) (weight-insert_entry es)
+    where
+      by : (r : Ordering) → weight (λ d. w d.0) (insert_entry cmp es k v) ≤ weight (λ d. w d.0) es + w k
+          → weight (λ d. w d.0) (match_ordering r ((k, v) ∷ e ∷ es) ((e.0, v) ∷ es) (e ∷ insert_entry cmp es k v)) ≤ w e.0 + weight (λ d. w d.0) es + w k
+      by Less rest = omega arith
+      by Equal rest = omega arith
+      by Greater rest = omega (arith, rest)
+
+-- ---- what is found
+
+pub found_value : {A : Type 0} (x y : A) → ◌≡◌ {A = Found A} (Ok x) (Ok y) → x ≡ y
+found_value {A} x y e = ap (λ (r : Found A). result_unwrap_or r x) e
+
+-- what is found at last was found of something found before
+pub found_before : {A B : Type 0} (found : Found A) (then : A → Found B) (last : B) → found >> then ≡ Ok last → (x : A) × (found ≡ Ok x) × (then x ≡ Ok last)
+found_before (Ok x) then last e = (x, refl, e)
+found_before (Err fault) then last e = absurd (cc (e))
+
+-- where a file adds no more than it weighs, all of them do not
+module _ {F S : Type 0} (step : F → S → Found S) (size : S → ℕ) (w : F → ℕ) where
+  pub each_adds : ((f : F) (made more : S) → step f made ≡ Ok more → size more ≤ size made + w f) → (fs : List F) (made all : S) → each step fs made ≡ Ok all → size all ≤ size made + weight w fs
+  unfolding each
+  each_adds adds [] made all e = omega (arith, ap size (found_value made all e))
+  each_adds adds (f ∷ fs) made all e =
+      let first = found_before (step f made) (each step fs) all e in
+      omega (arith, adds f made first.0 first.1, each_adds adds fs first.0 all first.2)
