@@ -2,17 +2,19 @@
 use Rattle.std.proofs.Common.{◌≡◌, ℕ, Bool, true, false, List, [], ◌∷◌, length, refl, sym, ◌∙◌, ap, subst, Option, Some, None, Result, Ok, Err, arith}
 use Rattle.std.specs.Option.{IsSome}
 use Rattle.site_base.specs.Places.{Files, is_listed}
-use Rattle.out_tree.specs.Belief.{Belief, believed, all_marked, IsTrueOf, HoldsOf}
+use Rattle.out_tree.specs.Belief.{Belief, after, believed, all_marked, IsTrueOf, HoldsOf}
 use Rattle.out_tree.specs.Exact.{IsExactlyBut, MadeBut, MarksThose}
 use Rattle.out_tree.specs.Keep.{is_kept}
 use Rattle.out_tree.specs.declared.state.State.TheVariants as state
 use Rattle.std.specs.FinMap.{get}
-use Rattle.out_tree.specs.Tries.{DoneBut, StaysTrue}
+use Rattle.out_tree.specs.Plan.{planned}
+use Rattle.out_tree.specs.Tries.{DoneBut, InOrder, StaysTrue}
 use Rattle.out_tree.specs.declared.step.Step.{Step}
 use Rattle.site_session.specs.Standing.{Standing, TrueTo, Holds, MakesBut, MarksExactly}
-use Rattle.site_session.specs.Session.{Given, Reply, Event, Built, Marked, Unlisted, Nothing, TheScan, TheList, TheSteps, event_of, failed_of, build_listed, build_tree}
+use Rattle.site_session.specs.Session.{Given, Reply, Event, Built, Marked, Unlisted, Nothing, TheScan, TheList, TheSteps, event_of, failed_in, failed_of, build_listed, build_reply, build_tree, report}
 use Rattle.site_session.specs.Replies.{built_reply}
 use Rattle.site_session.specs.declared.output.Output.{Output}
+use Rattle.site_session.specs.declared.build.Report.{Report}
 use Rattle.site_session.specs.declared.build.Rebuilt.{Rebuilt}
 use Rattle.site_session.specs.declared.build.Rebuilt.TheVariants as rebuilt
 use Rattle.site_base.specs.declared.errors.Memory.{Memory}
@@ -48,6 +50,32 @@ make_answers given now output reply None mid new told l h other is =
 pub nothing : {A : Type 0} (xs : List A) → length xs ≡ 0 → xs ≡ []
 nothing [] e = refl
 nothing (x ∷ xs) e = absurd (omega arith)
+
+-- the reply of a build that did all that it planned
+pub all_done : (now : Standing) (output : Output) (belief : Belief) (new : Option Belief) (failed : List (List ℕ)) (made : Report) (reply : Reply)
+    → failed ≡ [] → InOrder (planned belief output.tree output.keep) failed → new ≡ Some (after belief (planned belief output.tree output.keep) failed)
+    → made ≡ report belief output → Some (Built made) ≡ Some reply
+    → build_listed now output belief (failed_of (event_of reply)) ≡ (record now { belief = new }, reply)
+all_done now output belief new failed made reply none order new_is made_is is =
+    let steps = planned belief output.tree output.keep in
+    let reply_is : Built made ≡ reply = cc in
+    let order : [] ≡ failed_in steps [] = subst (λ (f : List (List ℕ)). f ≡ failed_in steps f) none order in
+    let belief_is : Some (after belief steps []) ≡ new = ap (λ (f : List (List ℕ)). Some (after belief steps f)) (sym none) ∙ sym new_is in
+    let told : build_reply belief output (failed_in steps []) ≡ Built made = ap (build_reply belief output) (sym order) ∙ ap Built (sym made_is) in
+    subst (λ (r : Reply). build_listed now output belief (failed_of (event_of r)) ≡ (record now { belief = new }, r)) reply_is
+    (λ i. (record now { belief = belief_is i }, told i))
+
+-- the reply of a build of which something failed
+pub some_failed : (now : Standing) (output : Output) (belief : Belief) (new : Option Belief) (failed : List (List ℕ)) (reply : Reply)
+    → (failed ≡ [] → ⊥) → InOrder (planned belief output.tree output.keep) failed → new ≡ Some (after belief (planned belief output.tree output.keep) failed)
+    → Some (Marked failed) ≡ Some reply
+    → build_listed now output belief (failed_of (event_of reply)) ≡ (record now { belief = new }, reply)
+some_failed now output belief new [] reply some order new_is is = absurd (some refl)
+some_failed now output belief new (path ∷ paths) reply some order new_is is =
+    let reply_is : Marked (path ∷ paths) ≡ reply = cc in
+    let told = ap (build_reply belief output) (sym order) in
+    subst (λ (r : Reply). build_listed now output belief (failed_of (event_of r)) ≡ (record now { belief = new }, r)) reply_is
+    (λ i. (record now { belief = sym new_is i }, told i))
 
 -- after all steps were tried the belief holds
 pub holds_after : (was now : Option Belief) (told tells : Option Files) (steps : List Step) (failed : List (List ℕ)) (old first : Files)

@@ -91,8 +91,8 @@ site_output held site = rendered site >> λ items. Ok (output_of held site items
 unfoldable pub full : Files → ℤ → Settings → Found Output
 full files moment settings = site files moment settings >> site_output files
 
-abbrev pub fault_of : Found Output → Option SiteFault
-fault_of (Ok output) = None
+abbrev pub fault_of : {A : Type 0} → Found A → Option SiteFault
+fault_of (Ok found) = None
 fault_of (Err fault) = Some fault
 
 -- the same of the code's own item

@@ -1,8 +1,8 @@
 -- A session: what each line of a script does, and its reply. It is a fold over the lines, and knows neither how the
 -- output is compared nor what is kept from one build to the next.
-use Rattle.std.specs.Prelude.{◌≡◌, ℕ, ℤ, ◌+◌, Bool, true, false, List, [], ◌∷◌, length, max, Option, Some, None, Ok, Err, if◌then◌else◌}
+use Rattle.std.specs.Prelude.{◌≡◌, ℕ, ℤ, ◌+◌, Bool, true, false, List, [], ◌∷◌, filter, length, max, Option, Some, None, Ok, Err, if◌then◌else◌}
 use Rattle.std.specs.FinMap.{entries, empty, insert, remove, contains_key, len}
-use Rattle.site_base.specs.Places.{Files}
+use Rattle.site_base.specs.Places.{Files, is_listed}
 use Rattle.site_base.specs.declared.faults.SiteFault.{SiteFault}
 use Rattle.site_base.specs.declared.settings.Settings.{Settings}
 use Rattle.site_script.specs.Line.{line_number}
@@ -17,6 +17,8 @@ use Rattle.source_tree.specs.declared.put_error.PutError.{PutError}
 use Rattle.source_tree.specs.declared.put_error.PutError.TheVariants as refusal
 use Rattle.out_tree.specs.Plan.{planned, removals, writes}
 use Rattle.out_tree.specs.Belief.{Belief, after, all_marked}
+use Rattle.out_tree.specs.Device.{step_paths}
+use Rattle.out_tree.specs.declared.step.Step.{Step}
 use Rattle.site_session.specs.Standing.{Standing}
 use Rattle.site_reader.specs.Found.{Found}
 use Rattle.site_session.specs.Full.{full}
@@ -93,10 +95,14 @@ abbrev pub build_reply : Belief → Output → List (List ℕ) → Reply
 build_reply belief output [] = Built (report belief output)
 build_reply belief output (path ∷ paths) = Marked (path ∷ paths)
 
+-- the paths of these that failed, in the order in which the steps are tried
+abbrev pub failed_in : List Step → List (List ℕ) → List (List ℕ)
+failed_in steps failed = filter (λ path. is_listed path failed) (step_paths steps)
+
 -- an output that has been listed is made equal to the tree, but for what failed
 abbrev pub build_listed : Standing → Output → Belief → List (List ℕ) → Standing × Reply
 build_listed now output belief failed =
-    (record now { belief = Some (after belief (planned belief output.tree output.keep) failed) }, build_reply belief output failed)
+    (record now { belief = Some (after belief (planned belief output.tree output.keep) failed) }, build_reply belief output (failed_in (planned belief output.tree output.keep) failed))
 
 -- the first build whose list of the output succeeds marks every path that is there
 abbrev pub build_tree : Given → Standing → Output → Option Belief → Event → Standing × Reply

@@ -2,13 +2,13 @@
 ghost use Rattle.std.specs.Prelude.{◌≡◌, IfOk, MatchResult, Ok, map, true};
 ghost use Rattle.site_script.specs.Line.{is_moment};
 ghost use Rattle.site_reader.specs.Found.{IsFirst};
-ghost use Rattle.site_session.specs.Full.{full, output_of, reason, seen, site_output};
+ghost use Rattle.site_session.specs.Full.{fault_of, full, output_of, reason, seen, site_output};
 
-use crate::rendered::{Rendered, count, render_items};
+use crate::rendered::{Rendered, count, first_item_fault, render_items};
 use crate::tree::tree_of;
 use crate::why::{Why, Whys};
 use out_tree::{KeepList, Tree};
-use site_base::{Memory, Settings, Text};
+use site_base::{Memory, Settings, SiteFault, Text};
 use site_config::Names;
 use site_reader::{Sequence, Site, SiteError, SiteItem, read_site};
 use source_tree::Held;
@@ -42,6 +42,23 @@ pub(crate) fn full(
     match read_site(alloc, held, moment, settings) {
         Ok(site) => site_output(alloc, held, &site),
         Err(error) => Err(error),
+    }
+}
+
+/// The first fault of what the held files stand for. No more than one output is held.
+pub(crate) fn first_fault(
+    alloc: Global,
+    held: &Held,
+    moment: i64,
+    settings: &Settings,
+) -> Result<Option<SiteFault>, Memory>
+    requires { is_moment moment ≡ true }
+    ensures { IfOk result (λ fault. fault ≡ fault_of (full held.now moment settings.now)) }
+{
+    match read_site(alloc, held, moment, settings) {
+        Ok(site) => first_item_fault(alloc, &site),
+        Err(SiteError::Fault(fault)) => Ok(Some(fault)),
+        Err(SiteError::Memory) => Err(Memory),
     }
 }
 

@@ -1,10 +1,10 @@
 // The items of a site, rendered one after another.
 ghost use Rattle.std.specs.Prelude.{◌≡◌, ◌<◌, IfOk, IfSome, MatchResult, Ok, length, map, slice_get};
 ghost use Rattle.site_reader.specs.Found.{IsFirst};
-ghost use Rattle.site_session.specs.Full.{made, made_by, rendered, seen};
+ghost use Rattle.site_session.specs.Full.{fault_of, made, made_by, rendered, seen};
 
 use page_render::{Outcome, render_thin};
-use site_base::{Memory, SharedBytes};
+use site_base::{Memory, SharedBytes, SiteFault};
 use site_reader::{Site, SiteError, SiteItem};
 use std::alloc::Global;
 
@@ -28,6 +28,29 @@ pub(crate) fn render_items<'a>(
         items.push(rendered_at(alloc, site, place)?)?;
     }
     Ok(items)
+}
+
+/// The first fault of the items, rendered one after another in their order. No more than one output is held.
+pub(crate) fn first_item_fault(alloc: Global, site: &Site) -> Result<Option<SiteFault>, Memory>
+    ensures { IfOk result (λ fault. fault ≡ fault_of (rendered site.entry.now)) }
+{
+    let count = count(site)?;
+    for place in 0..count {
+        if let Some(fault) = fault_at(alloc, site, place)? {
+            return Ok(Some(fault));
+        }
+    }
+    Ok(None)
+}
+
+fn fault_at(alloc: Global, site: &Site, place: u32) -> Result<Option<SiteFault>, Memory>
+    requires { place < length site.now.items }
+    ensures { IfOk result (λ fault. IfSome (slice_get site.entry.now.items place) (λ item. fault ≡ fault_of (made site.entry.now item))) }
+{
+    match render_thin(alloc, site, place)? {
+        Outcome::Done { .. } => Ok(None),
+        Outcome::Fault(fault) => Ok(Some(fault)),
+    }
 }
 
 /// How many items there are. Each is of a held file, so their number fits.

@@ -13,7 +13,7 @@ ghost use Rattle.site_session.specs.Replies.{scan_reply, built_reply, FailedAt, 
 ghost use Rattle.site_script.specs.declared.line.Line.TheVariants as line;
 
 use crate::build::{Rebuilt, make};
-use crate::output::full;
+use crate::output::{first_fault, full};
 use crate::reply::Reply;
 use out_tree::{OutKeeper, OutTree};
 use site_base::{FileBytes, Memory, Settings, SiteFault, SitePath};
@@ -102,11 +102,7 @@ impl Session {
     pub fn first_fault(&self, alloc: Global) -> Result<Option<SiteFault>, Memory>
         ensures { IfOk result (λ fault. fault ≡ fault_of (full self.now.files self.now.moment self.now.settings)) }
     {
-        match full(alloc, &self.held, self.moment, &self.settings) {
-            Ok(_) => Ok(None),
-            Err(SiteError::Fault(fault)) => Ok(Some(fault)),
-            Err(SiteError::Memory) => Err(Memory),
-        }
+        first_fault(alloc, &self.held, self.moment, &self.settings)
     }
 
     /// Makes the output equal to what the held files stand for, rendered one after another from nothing.
@@ -149,7 +145,9 @@ impl Session {
         ensures answers { (given : Given) → S.files source.old ≡ Some given.source → Holds (O.contents out.old) self.old.belief given.output →
             IfOk result (λ reply. Answers given self.old number line reply self.new) }
         ensures belief { (first : Files) → Holds (O.contents out.old) self.old.belief first → Holds (O.contents out.new) self.new.belief first }
+        // Where memory is wanting, the output and all but what is believed of it are as before.
         ensures err { OnErr result (O.contents out.new ≡ O.contents out.old) }
+        ensures kept { OnErr result ((self.new.files ≡ self.old.files) × (self.new.moment ≡ self.old.moment) × (self.new.settings ≡ self.old.settings)) }
         ensures leaves { (first : Files) → Holds (O.contents out.old) self.old.belief first →
             IfOk result (λ reply. LeavesBy self.old reply (O.contents out.old) (O.contents out.new) self.new.belief) }
         // Where no build was tried, the output is the same value as before.
@@ -186,6 +184,7 @@ impl Session {
         ensures same { S.files source.new ≡ S.files source.old }
         ensures later { S.faults source.old ≤ S.faults source.new }
         ensures cause { IfOk result (λ reply. min (S.faults source.old + source_faults reply) (2 ^ 64 - 1) ≤ S.faults source.new) }
+        ensures err { OnErr result (self.new ≡ self.old) }
         ensures quiet { IfOk result (λ reply. IsQuiet reply) }
     {
         match self.scan(alloc, source) {
@@ -199,6 +198,7 @@ impl Session {
     fn put_line(&mut self, number: u64, path: SitePath, bytes: FileBytes) -> Result<Reply, Memory>
         ensures answers { (given : Given) → IfOk result (λ reply. Answers given self.old number (line.Put path bytes) reply self.new) }
         ensures belief { self.new.belief ≡ self.old.belief }
+        ensures err { OnErr result (self.new ≡ self.old) }
         ensures quiet { IfOk result (λ reply. IsQuiet reply × (source_faults reply ≡ 0)) }
     {
         match self.put(path, bytes.into_vec()) {
@@ -234,6 +234,7 @@ impl Session {
             IfOk result (λ reply. LeavesBy self.old reply (O.contents out.old) (O.contents out.new) self.new.belief) }
         ensures untouched { IfOk result (λ reply. has_called_output reply ≡ false → out.new ≡ out.old) }
         ensures err { OnErr result (O.contents out.new ≡ O.contents out.old) }
+        ensures kept { OnErr result ((self.new.files ≡ self.old.files) × (self.new.moment ≡ self.old.moment) × (self.new.settings ≡ self.old.settings)) }
         ensures later { O.faults out.old ≤ O.faults out.new }
         ensures cause { IfOk result (λ reply. min (O.faults out.old + output_faults reply) (2 ^ 64 - 1) ≤ O.faults out.new) }
         ensures quiet { IfOk result (λ reply. source_faults reply ≡ 0) }

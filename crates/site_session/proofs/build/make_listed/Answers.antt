@@ -1,13 +1,24 @@
 use Rattle.std.proofs.Common.{◌≡◌, ◌∙◌, sym, ap, subst, List, ℕ, [], Some, length, rules}
 use Rattle.std.specs.Option.{IsSome}
 use Rattle.out_tree.specs.Belief.{IsTrueOf, believed}
-use Rattle.site_session.proofs.Builds.{holds_listed, holds_after, makes_but, nothing}
+use Rattle.site_session.proofs.Builds.{all_done, holds_listed, holds_after, makes_but, nothing, some_failed}
 use Rattle.site_session.proofs.build.make_listed.Goals as goal
 
 pub returns-in-Err-clause-belief : goal.returns-in-Err-clause-belief
 returns-in-Err-clause-belief g c = λ old told truth.
     let same = c.in-Err.ensures.err in
     holds_listed _ _ old old (subst (λ b. IsSome b) (sym same.0) c.requires.some) (ap g.O.OutTree.contents same.1 ∙ told) (subst (λ b. IsTrueOf (believed b) old) (sym same.0) truth)
+
+pub returns-then-is_empty-clause-answers : goal.returns-then-is_empty-clause-answers
+returns-then-is_empty-clause-answers g c = λ now reply is.
+    let none : c.in-Ok.applied.failed ≡ [] = nothing _ (let len : length c.in-Ok.applied.failed ≡ 0 = search rules in len) in
+    all_done now c.args.output _ _ c.in-Ok.applied.failed _ reply none c.in-Ok.ensures.in_order c.in-Ok.ensures.belief
+    (λ i. record { rendered = c.args.output.rendered; reused = 0; written = c.in-Ok.ensures.written i; removed = c.in-Ok.ensures.removed i; why = c.args.output.why })
+    is
+
+pub returns-clause-answers : goal.returns-clause-answers
+returns-clause-answers g c = λ now reply is.
+    some_failed now c.args.output _ _ c.in-Ok.applied.failed reply (λ none. let len : length c.in-Ok.applied.failed ≡ 0 = ap length none in search rules) c.in-Ok.ensures.in_order c.in-Ok.ensures.belief is
 
 pub returns-then-is_empty-clause-belief : goal.returns-then-is_empty-clause-belief
 returns-then-is_empty-clause-belief g c = λ old told truth.
