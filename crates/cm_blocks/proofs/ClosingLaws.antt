@@ -11,7 +11,7 @@ closes_last [] k = refl
 closes_last (j ∷ ks) k = ap (λ (ts : List Token). ts ++ Closes j ∷ []) (closes_last ks k)
 
 -- one more at the end of the inner ones
-inner_more : (n i : ℕ) (ks : List Container) (d : Container) → n ≤ i → i < length ks → drop n (take (suc i) ks) ≡ drop n (take i ks) ++ get_or ks i d ∷ []
+pub inner_more : (n i : ℕ) (ks : List Container) (d : Container) → n ≤ i → i < length ks → drop n (take (suc i) ks) ≡ drop n (take i ks) ++ get_or ks i d ∷ []
 inner_more n i [] d le lt = absurd (omega (arith, lt))
 inner_more zero zero (k ∷ ks) d le lt = refl
 inner_more zero (suc i) (k ∷ ks) d le lt = ap (λ (ts : List Container). k ∷ ts) (inner_more zero i ks d (omega arith) (omega (arith, lt)))
@@ -26,7 +26,7 @@ closes_one n i ks d ts us whole lt le e w =
     ∙ ap (λ (xs : List Token). ts ++ xs) (sym (closes_last (drop n (take (i - 1) ks)) (get_or ks (i - 1) d)))
     ∙ ap (λ (xs : List Container). ts ++ closes xs) (sym (inner_more n (i - 1) ks d (omega (arith, lt)) (omega (arith, lt, le)))) ∙ ap (λ (j : ℕ). ts ++ closes (drop n (take j ks))) next ∙ w
 
-take_all : (ks : List Container) → take (length ks) ks ≡ ks
+pub take_all : (ks : List Container) → take (length ks) ks ≡ ks
 take_all [] = refl
 take_all (k ∷ ks) = ap (λ (ts : List Container). k ∷ ts) (take_all ks)
 

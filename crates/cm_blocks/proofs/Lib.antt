@@ -8,6 +8,7 @@ mod OpeningLaws
 mod BeginLaws
 mod BreakLaws
 mod ClosingLaws
+mod QuoteLaws
 mod LineLaws
 mod WalkedText
 mod MadeLaws

@@ -17,8 +17,10 @@ use Rattle.cm_blocks.specs.declared.kinds.Container.{Container}
 use Rattle.cm_blocks.specs.declared.kinds.Container.TheVariants.{Item, Quote}
 use Rattle.cm_blocks.specs.declared.reaching.Reach.{Reach}
 use Rattle.cm_blocks.specs.Flat.{enters, line_when, reached}
+use Rattle.cm_blocks.specs.Quoted.{up_to_quote, with_outer}
 use Rattle.cm_blocks.specs.Reaching.{is_text, kept_by, reach_of}
 use Rattle.cm_blocks.specs.Tokens.{as_container}
+use Rattle.cm_blocks.proofs.QuoteLaws.{none_behind}
 
 -- ---- by the container's own rule
 
@@ -191,3 +193,43 @@ stops_behind p f ks i line s whole r le a w =
 
 pub all_ahead : (p f : Bool) (ks : List Container) (line : List ℕ) → more_kept 0 (reached p f (drop 0 ks) (rest_at line (record { at = 0; start = 0; column = 0 }))) ≡ reached p f ks (own_line 0 line)
 all_ahead p f ks line = counted (0 + (reached p f ks (own_line 0 line)).kept) (reached p f ks (own_line 0 line)).kept (reached p f ks (own_line 0 line)).rest (omega arith)
+
+-- behind an item
+no_quote : (content mark number n : ℕ) → with_outer (Item content mark number) n ≡ 0 → n ≡ 0
+no_quote content mark number zero h = refl
+no_quote content mark number (suc n) h = absurd (omega (arith, h))
+
+-- ---- the end of a line, where no quote is left
+
+nothing_shifted : (n col : ℕ) → shifted n col [] ≡ own_line col []
+nothing_shifted zero col = refl
+nothing_shifted (suc n) col = refl
+
+-- it goes on with all items, but for the innermost where this is not filled
+items_alone : (p f : Bool) (ks : List Container) (col : ℕ) → up_to_quote ks ≡ 0 → reached p f ks (own_line col []) ≡ record { kept = cond f (length ks) (length ks - 1); rest = own_line col [] }
+items_alone p true [] col h = refl
+items_alone p false [] col h = refl
+items_alone p f (Quote ∷ ks) col h = absurd (omega (arith, h))
+items_alone p true (Item content mark number ∷ []) col h = ap (λ (l : Line). one_more_kept (record { kept = 0; rest = l })) (nothing_shifted content col)
+items_alone p false (Item content mark number ∷ []) col h = refl
+items_alone p true (Item content mark number ∷ j ∷ ks) col h =
+    ap (λ (l : Line). one_more_kept (reached p true (j ∷ ks) l)) (nothing_shifted content col)
+    ∙ ap one_more_kept (items_alone p true (j ∷ ks) col (no_quote content mark number (up_to_quote (j ∷ ks)) h))
+items_alone p false (Item content mark number ∷ j ∷ ks) col h =
+    ap (λ (l : Line). one_more_kept (reached p false (j ∷ ks) l)) (nothing_shifted content col)
+    ∙ ap one_more_kept (items_alone p false (j ∷ ks) col (no_quote content mark number (up_to_quote (j ∷ ks)) h))
+    ∙ counted (suc (suc (length ks) - 1)) (suc (suc (length ks)) - 1) (own_line col []) (omega arith)
+
+pub stops_at_end : (p f : Bool) (ks : List Container) (q i : ℕ) (line : List ℕ) (s : Spot) (whole : Matched) (n : ℕ) (r : Reach) → up_to_quote ks ≤ q → q ≤ i → i < length ks → text_at line s ≡ []
+    → n ≡ cond f (length ks) (length ks - 1)
+    → r ≡ record { kept = n; spot = s; is_lazy = false }
+    → more_kept i (reached p f (drop i ks) (rest_at line s)) ≡ whole → reach_of line r ≡ whole
+stops_at_end p f ks q i line s whole n r hq hi lt t hn a w =
+    ap (reach_of line) a ∙ counted n (i + cond f (length (drop i ks)) (length (drop i ks) - 1)) (rest_at line s) (hn ∙ go f) ∙ ap (λ (l : Line). more_kept i (record { kept = cond f (length (drop i ks)) (length (drop i ks) - 1); rest = l })) blank
+    ∙ sym (ap (λ (l : Line). more_kept i (reached p f (drop i ks) l)) blank ∙ ap (more_kept i) (items_alone p f (drop i ks) s.column (none_behind i ks (omega (arith, hq, hi))))) ∙ w where
+      blank : rest_at line s ≡ own_line s.column []
+      blank = ap (own_line s.column) t
+
+      go : (f : Bool) → cond f (length ks) (length ks - 1) ≡ i + cond f (length (drop i ks)) (length (drop i ks) - 1)
+      go true = omega (arith, lt, drop_length i ks)
+      go false = omega (arith, lt, drop_length i ks)

@@ -15,3 +15,4 @@ pub mod Making
 pub mod MadeViews
 pub mod Reads
 pub mod DocumentHtml
+pub mod Quoted

@@ -6,7 +6,7 @@ use Rattle.cm_blocks.specs.declared.kinds.Leaf.{Leaf}
 use Rattle.cm_blocks.specs.Flat.{Flat, gap_put, leaf_more, leaf_on, leaf_put}
 
 abbrev pub shown : Walk → Flat
-shown w = record { tokens = w.tokens.items; stack = w.stack.items; leaf = w.leaf; filled = w.is_filled }
+shown w = record { tokens = w.tokens.items; stack = w.stack; leaf = w.leaf; filled = w.is_filled }
 
 -- a leaf, or a blank line
 abbrev pub put_in : Option Leaf → Flat → Flat

@@ -11,6 +11,7 @@ mod level;
 mod lines;
 mod making;
 mod node;
+mod open_containers;
 mod open_walk;
 mod opening;
 mod reaching;

@@ -1,5 +1,5 @@
 // How far into the open containers a line goes.
-ghost use Rattle.std.specs.Prelude.{◌≡◌, ◌&&◌, ◌||◌, ◌≤◌, nat_lt, if◌then◌else◌, IfSome, IsTrue, option_map, length};
+ghost use Rattle.std.specs.Prelude.{◌≡◌, ◌&&◌, ◌||◌, ◌<◌, ◌≤◌, ◌-◌, [], nat_lt, if◌then◌else◌, IfSome, IsTrue, option_map, length};
 ghost use Rattle.markdown_grammar.specs.Columns.{own_line};
 ghost use Rattle.markdown_grammar.specs.Containers as grammar;
 ghost use Rattle.markdown_grammar.specs.LineStarts.{start_of};
@@ -7,6 +7,7 @@ ghost use Rattle.markdown_grammar.specs.Lines as lines;
 ghost use Rattle.markdown_grammar.specs.Places.{beside_paragraph};
 ghost use Rattle.cm_containers.specs.Spots.{IsSpot, rest_at, text_at};
 ghost use Rattle.cm_blocks.specs.Flat.{reached};
+ghost use Rattle.cm_blocks.specs.Quoted.{up_to_quote};
 ghost use Rattle.cm_blocks.specs.Reaching.{is_text, kept_by, reach_of};
 ghost use Rattle.cm_blocks.specs.Tokens.{as_container};
 
@@ -25,8 +26,16 @@ pub(crate) struct Reach {
 
 /// How far a line goes: into each container by its own rule, and, where a paragraph is open, lazily into
 /// all others, if it starts nothing where it stands. A blank line goes on with an item only where this is
-/// filled; all but the innermost are.
-pub(crate) fn go_into(stack: &[Container], is_prose: bool, is_filled: bool, line: &str) -> Reach
+/// filled; all but the innermost are. So at the end of a line, where no quote is left, all items are kept
+/// without a look at each: else as many blank lines as items would take the square of their number.
+pub(crate) fn go_into(
+    stack: &[Container],
+    quoted: usize,
+    is_prose: bool,
+    is_filled: bool,
+    line: &str,
+) -> Reach
+    requires { up_to_quote stack.now ≤ quoted }
     ensures value { reach_of line.now result ≡ reached is_prose is_filled stack.now (own_line 0 line.now) }
     ensures spot { IsSpot line.now result.spot }
     ensures kept { result.kept ≤ length stack.now }
@@ -39,6 +48,9 @@ pub(crate) fn go_into(stack: &[Container], is_prose: bool, is_filled: bool, line
     };
     let mut kept = 0;
     while kept < stack.len() {
+        if kept >= quoted && is_at_end(line, spot) {
+            return stop(items_kept(is_filled, stack.len()), spot, false);
+        }
         let has_block = is_filled_at(is_filled, kept + 1, stack.len());
         match enter(line, spot, stack[kept], has_block) {
             Some(inside) => {
@@ -52,6 +64,22 @@ pub(crate) fn go_into(stack: &[Container], is_prose: bool, is_filled: bool, line
         }
     }
     stop(kept, spot, false)
+}
+
+// Whether nothing is left of a line.
+fn is_at_end(line: &str, spot: Spot) -> bool
+    requires { IsSpot line.now spot }
+    ensures { IsTrue result → text_at line.now spot ≡ [] }
+{
+    spot.at == line.len()
+}
+
+// How many items the end of a line goes on with: the innermost only where it is filled.
+fn items_kept(is_filled: bool, count: usize) -> usize
+    requires { 0 < count }
+    ensures { result ≡ if is_filled then count else count - 1 }
+{
+    if is_filled { count } else { count - 1 }
 }
 
 /// Whether a container has a block, by whether the innermost has one.

@@ -42,6 +42,13 @@ fn blocks_stand_in_their_containers(rt: HostRuntime) -> Result<(), Fail> {
         ("[a]: b\n===\n", "p"),
         ("a\n<b>\n", "p"),
         ("<b>\n\na\r\n# b\rc\0", "x_php"),
+        ("- - a\n\n \n  b\n", "--p__/p/"),
+        ("- - a\n\n\n    b\n", "--p__p//"),
+        ("- -\n\n\n  a\n", "--_/__p/"),
+        ("> - - a\n\nb\n", ">--p///_p"),
+        ("- > - a\n\n\n  b\n", "->-p//__p/"),
+        ("- > a\n  - b\n\n\n    c\n", "->p/-p__p//"),
+        ("- > - > a\n  > - b\n\n  c\n", "->->p//-p//_p/"),
     ];
     for (text, wanted) in rows {
         assert_eq!(rt; signs(rt.alloc(), text)?.as_str(), wanted, "{text}");
@@ -79,13 +86,26 @@ fn is_paragraph(node: &Node, wanted: &str) -> bool {
     }
 }
 
+fn push_times(text: &mut String, piece: &str, times: usize) -> Result<(), Fail> {
+    for _ in 0..times {
+        text.push_str(piece)?;
+    }
+    Ok(())
+}
+
 fn count(alloc: Global, front: &str, times: usize, behind: &str) -> Result<usize, Fail> {
     let mut text = String::new(alloc);
-    for _ in 0..times {
-        text.push_str(front)?;
-    }
+    push_times(&mut text, front, times)?;
     text.push_str(behind)?;
     Ok(read_blocks(alloc, text.as_str())?.nodes.len())
+}
+
+// Items in one another, and as many blank lines.
+fn count_behind_items(alloc: Global, times: usize) -> Result<usize, Fail> {
+    let mut blank_lines = String::new(alloc);
+    push_times(&mut blank_lines, "\n", times)?;
+    let behind = format!(in alloc; "a{}b", blank_lines.as_str())?;
+    count(alloc, "- ", times, behind.as_str())
 }
 
 #[test]
@@ -99,5 +119,6 @@ fn large_texts_are_read_in_seconds(rt: HostRuntime) -> Result<(), Fail> {
     assert_eq!(rt; count(alloc, "a\n", 100_000, "")?, 1);
     assert_eq!(rt; count(alloc, "- a\n", 100_000, "")?, 200_001);
     assert_eq!(rt; count(alloc, "[a]: b\n", 10_000, "")?, 0);
+    assert_eq!(rt; count_behind_items(alloc, 50_000)?, 100_002);
     Ok(())
 }

@@ -8,6 +8,7 @@ ghost use Rattle.cm_blocks.specs.Walks.{lazily_on, put_in, shown};
 
 use crate::kinds::{Container, Leaf, Token};
 use crate::leaf_more::{Taken, take_rest};
+use crate::open_containers::OpenContainers;
 use crate::opening::{Opens, leaf_of, what_opens};
 use crate::reaching::{go_into, is_filled_at};
 use cm_containers::{Spot, behind_white};
@@ -20,7 +21,7 @@ use std::mem;
 #[derive(Drop)]
 pub(crate) struct Walk {
     pub tokens: Vec<Token>,
-    pub stack: Vec<Container>,
+    pub stack: OpenContainers,
     pub leaf: Option<Leaf>,
     pub is_filled: bool,
 }
@@ -31,7 +32,7 @@ impl Walk {
     {
         Walk {
             tokens: Vec::new(alloc),
-            stack: Vec::new(alloc),
+            stack: OpenContainers::new(alloc),
             leaf: None,
             is_filled: false,
         }
@@ -41,7 +42,13 @@ impl Walk {
     pub fn take_line(&mut self, alloc: Global, line: &str) -> Result<(), Memory>
         ensures { OnOk result (shown self.new ≡ flat.step (shown self.old) (own_line 0 line.now)) }
     {
-        let reach = go_into(&self.stack, is_paragraph(&self.leaf), self.is_filled, line);
+        let reach = go_into(
+            self.stack.as_slice(),
+            self.stack.quoted(),
+            is_paragraph(&self.leaf),
+            self.is_filled,
+            line,
+        );
         if reach.is_lazy {
             return self.go_lazily(line, reach.spot);
         }
@@ -136,7 +143,7 @@ impl Walk {
     {
         self.close_leaf()?;
         self.is_filled = is_filled_at(self.is_filled, kept, self.stack.len());
-        push_ends(&mut self.tokens, &self.stack, kept)?;
+        push_ends(&mut self.tokens, self.stack.as_slice(), kept)?;
         self.stack.truncate(kept);
         Ok(())
     }

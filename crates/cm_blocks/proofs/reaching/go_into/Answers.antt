@@ -1,7 +1,7 @@
 use Rattle.std.proofs.Common.{arith}
 use Rattle.cm_containers.proofs.Walking.{spot_front}
 use Rattle.cm_blocks.specs.declared.kinds.Container.TheVariants.{Quote}
-use Rattle.cm_blocks.proofs.Reaches.{all_ahead, goes_on, stops_at, stops_behind}
+use Rattle.cm_blocks.proofs.Reaches.{all_ahead, goes_on, stops_at, stops_at_end, stops_behind}
 use Rattle.cm_blocks.proofs.reaching.go_into.Goals as goal
 
 pub loop-kept-init : goal.loop-kept-init
@@ -22,4 +22,8 @@ returns-in-None-clause-value c =
     stops_at c.args.is_prose c.args.is_filled c.args.stack.now c.loop-kept.kept Quote c.args.line.now c.loop-kept.spot _ c.is_filled_at-has_block.result c.is_lazy_at-is_lazy.result c.left_at.result c.loop-kept-test.true c.is_filled_at-has_block.ensures c.in-None.ensures.rest c.is_lazy_at-is_lazy.ensures c.left_at.ensures c.loop-kept.invariant.so_far
 
 pub returns-clause-value : goal.returns-clause-value
-returns-clause-value c = stops_behind c.args.is_prose c.args.is_filled c.args.stack.now c.loop-kept.kept c.args.line.now c.loop-kept.spot _ c.stop.result c.loop-kept-test.false c.stop.ensures c.loop-kept.invariant.so_far
+returns-clause-value c = stops_behind c.args.is_prose c.args.is_filled c.args.stack.now c.loop-kept.kept c.args.line.now c.loop-kept.spot _ c.stop-2.result c.loop-kept-test.false c.stop-2.ensures c.loop-kept.invariant.so_far
+
+pub returns-then-is_at_end-clause-value : goal.returns-then-is_at_end-clause-value
+returns-then-is_at_end-clause-value c =
+    stops_at_end c.args.is_prose c.args.is_filled c.args.stack.now c.args.quoted c.loop-kept.kept c.args.line.now c.loop-kept.spot _ c.items_kept.result c.stop.result c.requires c.if-kept-quoted.true c.loop-kept-test.true (c.is_at_end.ensures c.if-is_at_end.true) c.items_kept.ensures c.stop.ensures c.loop-kept.invariant.so_far
