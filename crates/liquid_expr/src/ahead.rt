@@ -9,8 +9,8 @@ ghost use Rattle.liquid_expr.specs.Tokens.{tokens_of, count};
 
 use crate::token::Token;
 use crate::tokens::{Tokens, first, rest};
-use liquid_grammar::{Comparison, Joint, Literal, Mark, ShortText};
-use site_base::{Boxed, Memory};
+use liquid_grammar::{Comparison, Joint, Literal, Mark};
+use site_base::{Boxed, Memory, Text};
 use std::alloc::Global;
 
 /// What starts an operand.
@@ -51,7 +51,7 @@ pub(crate) fn start_of<'a>(alloc: Global, tokens: Tokens<'a>) -> Result<Start<'a
 fn text_literal(alloc: Global, text: &str) -> Result<Literal, Memory>
     ensures { IfOk result (λ literal. literal ≡ literals.Text text.now) }
 {
-    let text = ShortText::copy(alloc, text)?;
+    let text = Text::copy(alloc, text)?;
     Ok(Literal::Text(Boxed::new(alloc, text)?))
 }
 

@@ -9,10 +9,8 @@ use crate::ahead::{behind, comparison, is_assign, joint, word_at};
 use crate::reading::{FromTokens, Repeats, many};
 use crate::stop::Stop;
 use crate::tokens::Tokens;
-use liquid_grammar::{
-    Condition, Expr, Extras, Joined, Operand, Parameter, Params, ShortText, Test,
-};
-use site_base::Boxed;
+use liquid_grammar::{Condition, Expr, Extras, Joined, Operand, Parameter, Params, Test};
+use site_base::{Boxed, Text};
 use std::alloc::Global;
 
 // What follows the first operand of a test.
@@ -94,7 +92,7 @@ impl Repeats for Parameters {
         if !is_assign(behind(tokens, 1)) {
             return Ok(None);
         }
-        let name = ShortText::copy(alloc, name)?;
+        let name = Text::copy(alloc, name)?;
         let (value, len) = Expr::read(alloc, behind(tokens, 2))?;
         Ok(Some((Parameter { name, value }, 2 + len)))
     }

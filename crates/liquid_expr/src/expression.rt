@@ -10,7 +10,8 @@ use crate::reading::{FromTokens, Repeats, many};
 use crate::stop::Stop;
 use crate::token::mark_at;
 use crate::tokens::Tokens;
-use liquid_grammar::{Expr, Extras, Filter, Mark, Operand, Several, ShortText};
+use liquid_grammar::{Expr, Extras, Filter, Mark, Operand, Several};
+use site_base::Text;
 use std::alloc::Global;
 
 /// No more brackets than these may be open.
@@ -117,7 +118,7 @@ pub(crate) fn operands(alloc: Global, tokens: Tokens) -> Result<(Several<Operand
 }
 
 // A filter without its bar and its name.
-fn filter_end(alloc: Global, name: ShortText, tokens: Tokens) -> Result<(Filter, usize), Stop>
+fn filter_end(alloc: Global, name: Text, tokens: Tokens) -> Result<(Filter, usize), Stop>
     ensures value { IsRead result (filter_end name (tokens_of tokens.entry)) }
     ensures within { IfOk result (λ found. found.1 ≤ count tokens.entry) }
 {
@@ -143,7 +144,7 @@ impl Repeats for Filters {
             return Ok(None);
         }
         let name = match word_at(behind(tokens, 1)) {
-            Some(name) => ShortText::copy(alloc, name)?,
+            Some(name) => Text::copy(alloc, name)?,
             None => return Err(Stop::NoReading),
         };
         let (filter, len) = filter_end(alloc, name, behind(tokens, 2))?;

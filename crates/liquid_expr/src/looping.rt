@@ -10,7 +10,8 @@ use crate::ahead::{behind, is_colon, is_in, name_at, word_at};
 use crate::reading::{FromTokens, Repeats, many};
 use crate::stop::Stop;
 use crate::tokens::Tokens;
-use liquid_grammar::{Expr, Loop, LoopKey, LoopKind, LoopPart, ShortText};
+use liquid_grammar::{Expr, Loop, LoopKey, LoopKind, LoopPart};
+use site_base::Text;
 use std::alloc::Global;
 
 fn loop_key(name: &str) -> Option<LoopKey>
@@ -128,7 +129,7 @@ fn fits(kind: LoopKind, parts: &[LoopPart]) -> bool
 fn loop_over(
     alloc: Global,
     kind: LoopKind,
-    name: ShortText,
+    name: Text,
     tokens: Tokens,
 ) -> Result<(Loop, usize), Stop>
     ensures value { IsRead result (loop_over kind name (tokens_of tokens.entry)) }
@@ -155,7 +156,7 @@ fn loop_at(alloc: Global, kind: LoopKind, tokens: Tokens) -> Result<(Loop, usize
     if !is_in(behind(tokens, 1)) {
         return Err(Stop::NoReading);
     }
-    let name = ShortText::copy(alloc, name)?;
+    let name = Text::copy(alloc, name)?;
     let (found, len) = loop_over(alloc, kind, name, behind(tokens, 2))?;
     Ok((found, 2 + len))
 }

@@ -11,7 +11,8 @@ use crate::expression::{Arguments, in_front, operands};
 use crate::reading::{FromTokens, Repeats, many};
 use crate::stop::Stop;
 use crate::tokens::Tokens;
-use liquid_grammar::{Assign, Cycle, Expr, Operand, Several, ShortText};
+use liquid_grammar::{Assign, Cycle, Expr, Operand, Several};
+use site_base::Text;
 use std::alloc::Global;
 
 /// What stands in a tag that is its name alone.
@@ -31,13 +32,13 @@ impl FromTokens for Nothing {
 pub(crate) enum Name {}
 
 impl FromTokens for Name {
-    type Value = ShortText;
+    type Value = Text;
 
     ghost reading = { variable_name };
 
-    fn read(alloc: Global, tokens: Tokens) -> Result<(ShortText, usize), Stop> {
+    fn read(alloc: Global, tokens: Tokens) -> Result<(Text, usize), Stop> {
         match name_at(tokens) {
-            Some(name) => Ok((ShortText::copy(alloc, name)?, 1)),
+            Some(name) => Ok((Text::copy(alloc, name)?, 1)),
             None => Err(Stop::NoReading),
         }
     }
@@ -57,7 +58,7 @@ impl FromTokens for Assign {
         if !is_assign(behind(tokens, 1)) {
             return Err(Stop::NoReading);
         }
-        let name = ShortText::copy(alloc, name)?;
+        let name = Text::copy(alloc, name)?;
         let (value, len) = Expr::read(alloc, behind(tokens, 2))?;
         Ok((Assign { name, value }, 2 + len))
     }
