@@ -1,16 +1,16 @@
 // What the next tokens are.
-ghost use Rattle.std.specs.Prelude.{◌≡◌, ◌+◌, ◌≤◌, drop, codes, IfOk};
+ghost use Rattle.std.specs.Prelude.{◌≡◌, codes, IfOk};
 ghost use Rattle.liquid_grammar.specs.declared.literal.Literal.TheVariants as literals;
 ghost use Rattle.liquid_grammar.specs.Expressions.{word_literal, is_joining, word_start, start_of, follow_of, closes_bracket, closes_range, goes_to, is_comma, is_bar, is_colon, word_at};
 ghost use Rattle.liquid_grammar.specs.Conditions.{is_assign, comparison, joint_of, joint};
 ghost use Rattle.liquid_grammar.specs.Tags.{is_reserved, name_at, is_word};
 ghost use Rattle.liquid_expr.specs.Ahead.{text_of, start_is, follow_is};
-ghost use Rattle.liquid_expr.specs.Tokens.{tokens_of, count};
+ghost use Rattle.liquid_expr.specs.Tokens.{tokens_of};
 
 use crate::token::Token;
 use crate::tokens::{Tokens, first, rest};
-use liquid_grammar::{Comparison, Joint, Literal, Mark, ShortText};
-use site_base::{Boxed, Memory};
+use liquid_grammar::{Comparison, Joint, Literal, Mark};
+use site_base::{Boxed, Memory, Text};
 use std::alloc::Global;
 
 /// What starts an operand.
@@ -51,7 +51,7 @@ pub(crate) fn start_of<'a>(alloc: Global, tokens: Tokens<'a>) -> Result<Start<'a
 fn text_literal(alloc: Global, text: &str) -> Result<Literal, Memory>
     ensures { IfOk result (λ literal. literal ≡ literals.Text text.now) }
 {
-    let text = ShortText::copy(alloc, text)?;
+    let text = Text::copy(alloc, text)?;
     Ok(Literal::Text(Boxed::new(alloc, text)?))
 }
 
@@ -125,15 +125,6 @@ pub(crate) fn goes_to(tokens: Tokens) -> bool
     ensures { result ≡ goes_to (tokens_of tokens.entry) }
 {
     matches!(first(tokens), Some(Token::Mark(Mark::To)))
-}
-
-/// What follows the first tokens, of which there are so many.
-pub(crate) fn behind<'a>(tokens: Tokens<'a>, len: usize) -> Tokens<'a>
-    requires { len ≤ count tokens }
-    ensures seen { tokens_of result ≡ drop len (tokens_of tokens.entry) }
-    ensures len { count result + len ≡ count tokens.entry }
-{
-    rest(tokens, len)
 }
 
 pub(crate) fn is_comma(tokens: Tokens) -> bool

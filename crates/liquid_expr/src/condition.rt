@@ -5,14 +5,12 @@ ghost use Rattle.liquid_grammar.specs.Conditions.{comparison, compared, test_at,
 ghost use Rattle.liquid_expr.specs.Tokens.{tokens_of, count};
 ghost use Rattle.liquid_expr.specs.Readings.{IsRead};
 
-use crate::ahead::{behind, comparison, is_assign, joint, word_at};
+use crate::ahead::{comparison, is_assign, joint, word_at};
 use crate::reading::{FromTokens, Repeats, many};
 use crate::stop::Stop;
-use crate::tokens::Tokens;
-use liquid_grammar::{
-    Condition, Expr, Extras, Joined, Operand, Parameter, Params, ShortText, Test,
-};
-use site_base::Boxed;
+use crate::tokens::{Tokens, rest};
+use liquid_grammar::{Condition, Expr, Extras, Joined, Operand, Parameter, Params, Test};
+use site_base::{Boxed, Text};
 use std::alloc::Global;
 
 // What follows the first operand of a test.
@@ -22,7 +20,7 @@ fn compared(alloc: Global, first: Operand, tokens: Tokens) -> Result<(Test, usiz
 {
     match comparison(tokens) {
         Some(how) => {
-            let (second, len) = Operand::read(alloc, behind(tokens, 1))?;
+            let (second, len) = Operand::read(alloc, rest(tokens, 1))?;
             let first = Boxed::new(alloc, first)?;
             let second = Boxed::new(alloc, second)?;
             Ok((Test::Compares(first, how, second), 1 + len))
@@ -39,7 +37,7 @@ impl FromTokens for Test {
     #[tactic(auto, unfolding(liquid_grammar::specs::Conditions::test_at))]
     fn read(alloc: Global, tokens: Tokens) -> Result<(Test, usize), Stop> {
         let (first, len) = Operand::read(alloc, tokens)?;
-        let (test, more) = compared(alloc, first, behind(tokens, len))?;
+        let (test, more) = compared(alloc, first, rest(tokens, len))?;
         Ok((test, len + more))
     }
 }
@@ -57,7 +55,7 @@ impl Repeats for Tests {
             Some(joint) => joint,
             None => return Ok(None),
         };
-        let (test, len) = Test::read(alloc, behind(tokens, 1))?;
+        let (test, len) = Test::read(alloc, rest(tokens, 1))?;
         Ok(Some((Joined { joint, test }, 1 + len)))
     }
 
@@ -72,8 +70,8 @@ impl FromTokens for Condition {
     #[tactic(auto, unfolding(liquid_grammar::specs::Conditions::condition))]
     fn read(alloc: Global, tokens: Tokens) -> Result<(Condition, usize), Stop> {
         let (first, len) = Test::read(alloc, tokens)?;
-        let (rest, more) = many::<Tests>(alloc, behind(tokens, len))?;
-        let rest = Extras::from_several(alloc, rest)?;
+        let (others, more) = many::<Tests>(alloc, rest(tokens, len))?;
+        let rest = Extras::from_several(alloc, others)?;
         Ok((Condition { first, rest }, len + more))
     }
 }
@@ -91,11 +89,11 @@ impl Repeats for Parameters {
             Some(name) => name,
             None => return Ok(None),
         };
-        if !is_assign(behind(tokens, 1)) {
+        if !is_assign(rest(tokens, 1)) {
             return Ok(None);
         }
-        let name = ShortText::copy(alloc, name)?;
-        let (value, len) = Expr::read(alloc, behind(tokens, 2))?;
+        let name = Text::copy(alloc, name)?;
+        let (value, len) = Expr::read(alloc, rest(tokens, 2))?;
         Ok(Some((Parameter { name, value }, 2 + len)))
     }
 

@@ -4,13 +4,14 @@ ghost use Rattle.liquid_grammar.specs.Expressions.{operand, next_argument, argum
 ghost use Rattle.liquid_expr.specs.Tokens.{tokens_of, count};
 ghost use Rattle.liquid_expr.specs.Readings.{IsRead};
 
-use crate::ahead::{behind, is_bar, is_colon, is_comma, word_at};
+use crate::ahead::{is_bar, is_colon, is_comma, word_at};
 use crate::operand::operand;
 use crate::reading::{FromTokens, Repeats, many};
 use crate::stop::Stop;
 use crate::token::mark_at;
-use crate::tokens::Tokens;
-use liquid_grammar::{Expr, Extras, Filter, Mark, Operand, Several, ShortText};
+use crate::tokens::{Tokens, rest};
+use liquid_grammar::{Expr, Extras, Filter, Mark, Operand, Several};
+use site_base::Text;
 use std::alloc::Global;
 
 /// No more brackets than these may be open.
@@ -90,7 +91,7 @@ impl Repeats for Arguments {
         if !is_comma(tokens) {
             return Ok(None);
         }
-        let (value, len) = Operand::read(alloc, behind(tokens, 1))?;
+        let (value, len) = Operand::read(alloc, rest(tokens, 1))?;
         Ok(Some((value, 1 + len)))
     }
 
@@ -112,12 +113,12 @@ pub(crate) fn operands(alloc: Global, tokens: Tokens) -> Result<(Several<Operand
     ensures within { IfOk result (λ found. found.1 ≤ count tokens.entry) }
 {
     let (first, len) = Operand::read(alloc, tokens)?;
-    let (others, more) = many::<Arguments>(alloc, behind(tokens, len))?;
+    let (others, more) = many::<Arguments>(alloc, rest(tokens, len))?;
     Ok((in_front(first, others)?, len + more))
 }
 
 // A filter without its bar and its name.
-fn filter_end(alloc: Global, name: ShortText, tokens: Tokens) -> Result<(Filter, usize), Stop>
+fn filter_end(alloc: Global, name: Text, tokens: Tokens) -> Result<(Filter, usize), Stop>
     ensures value { IsRead result (filter_end name (tokens_of tokens.entry)) }
     ensures within { IfOk result (λ found. found.1 ≤ count tokens.entry) }
 {
@@ -125,7 +126,7 @@ fn filter_end(alloc: Global, name: ShortText, tokens: Tokens) -> Result<(Filter,
         let arguments = Extras::none();
         return Ok((Filter { name, arguments }, 0));
     }
-    let (arguments, len) = operands(alloc, behind(tokens, 1))?;
+    let (arguments, len) = operands(alloc, rest(tokens, 1))?;
     let arguments = Extras::from_several(alloc, arguments)?;
     Ok((Filter { name, arguments }, 1 + len))
 }
@@ -142,11 +143,11 @@ impl Repeats for Filters {
         if !is_bar(tokens) {
             return Ok(None);
         }
-        let name = match word_at(behind(tokens, 1)) {
-            Some(name) => ShortText::copy(alloc, name)?,
+        let name = match word_at(rest(tokens, 1)) {
+            Some(name) => Text::copy(alloc, name)?,
             None => return Err(Stop::NoReading),
         };
-        let (filter, len) = filter_end(alloc, name, behind(tokens, 2))?;
+        let (filter, len) = filter_end(alloc, name, rest(tokens, 2))?;
         Ok(Some((filter, 2 + len)))
     }
 
@@ -161,7 +162,7 @@ impl FromTokens for Expr {
     #[tactic(auto, unfolding(liquid_grammar::specs::Expressions::expression))]
     fn read(alloc: Global, tokens: Tokens) -> Result<(Expr, usize), Stop> {
         let (operand, len) = Operand::read(alloc, tokens)?;
-        let (filters, more) = many::<Filters>(alloc, behind(tokens, len))?;
+        let (filters, more) = many::<Filters>(alloc, rest(tokens, len))?;
         let filters = Extras::from_several(alloc, filters)?;
         Ok((Expr { operand, filters }, len + more))
     }

@@ -6,11 +6,12 @@ ghost use Rattle.liquid_expr.specs.Ahead.{text_of};
 ghost use Rattle.liquid_expr.specs.Tokens.{tokens_of, count};
 ghost use Rattle.liquid_expr.specs.Readings.{IsRead, IsMore};
 
-use crate::ahead::{behind, is_colon, is_in, name_at, word_at};
+use crate::ahead::{is_colon, is_in, name_at, word_at};
 use crate::reading::{FromTokens, Repeats, many};
 use crate::stop::Stop;
-use crate::tokens::Tokens;
-use liquid_grammar::{Expr, Loop, LoopKey, LoopKind, LoopPart, ShortText};
+use crate::tokens::{Tokens, rest};
+use liquid_grammar::{Expr, Loop, LoopKey, LoopKind, LoopPart};
+use site_base::Text;
 use std::alloc::Global;
 
 fn loop_key(name: &str) -> Option<LoopKey>
@@ -43,7 +44,7 @@ fn keyed_part(
     if !is_colon(tokens) {
         return Ok(None);
     }
-    let (value, len) = Expr::read(alloc, behind(tokens, 1))?;
+    let (value, len) = Expr::read(alloc, rest(tokens, 1))?;
     Ok(Some((LoopPart::Number(key, value), 2 + len)))
 }
 
@@ -61,7 +62,7 @@ impl Repeats for LoopParts {
                 if name == "reversed" {
                     return Ok(Some((LoopPart::Reversed, 1)));
                 }
-                keyed_part(alloc, loop_key(name), behind(tokens, 1))
+                keyed_part(alloc, loop_key(name), rest(tokens, 1))
             }
             None => Ok(None),
         }
@@ -128,14 +129,14 @@ fn fits(kind: LoopKind, parts: &[LoopPart]) -> bool
 fn loop_over(
     alloc: Global,
     kind: LoopKind,
-    name: ShortText,
+    name: Text,
     tokens: Tokens,
 ) -> Result<(Loop, usize), Stop>
     ensures value { IsRead result (loop_over kind name (tokens_of tokens.entry)) }
     ensures within { IfOk result (λ found. found.1 ≤ count tokens.entry) }
 {
     let (list, len) = Expr::read(alloc, tokens)?;
-    let (parts, more) = many::<LoopParts>(alloc, behind(tokens, len))?;
+    let (parts, more) = many::<LoopParts>(alloc, rest(tokens, len))?;
     if fits(kind, parts.as_slice()) {
         Ok((Loop { name, list, parts }, len + more))
     } else {
@@ -152,11 +153,11 @@ fn loop_at(alloc: Global, kind: LoopKind, tokens: Tokens) -> Result<(Loop, usize
         Some(name) => name,
         None => return Err(Stop::NoReading),
     };
-    if !is_in(behind(tokens, 1)) {
+    if !is_in(rest(tokens, 1)) {
         return Err(Stop::NoReading);
     }
-    let name = ShortText::copy(alloc, name)?;
-    let (found, len) = loop_over(alloc, kind, name, behind(tokens, 2))?;
+    let name = Text::copy(alloc, name)?;
+    let (found, len) = loop_over(alloc, kind, name, rest(tokens, 2))?;
     Ok((found, 2 + len))
 }
 

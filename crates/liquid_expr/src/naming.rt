@@ -13,7 +13,7 @@ use crate::places::{begins, is_white, tail, white_end_len, white_len};
 use crate::reads::{read_expr, read_params};
 use crate::stop::ReadExprError;
 use crate::token::{is_letter, name_len as token_name_len};
-use liquid_grammar::{Include, NamePart, NamePlace, PieceKind, Several, ShortText, Span};
+use liquid_grammar::{Include, NamePart, NamePlace, PieceKind, Several, Span};
 use site_base::Text;
 use std::alloc::Global;
 
@@ -154,14 +154,14 @@ pub fn read_include(alloc: Global, text: &str) -> Result<Include, ReadExprError>
 }
 
 /// The language that a `highlight` names, which is its first word; what follows it is passed over.
-pub fn read_language(alloc: Global, text: &str) -> Result<ShortText, ReadExprError>
+pub fn read_language(alloc: Global, text: &str) -> Result<Text, ReadExprError>
     ensures { GivesRead result (read_language text.now) }
 {
     let word = first_word(text);
     if word.is_empty() {
         return Err(ReadExprError::Syntax);
     }
-    Ok(ShortText::copy(alloc, word)?)
+    Ok(Text::copy(alloc, word)?)
 }
 
 /// What stands between the marks of a tag, cut behind its name.

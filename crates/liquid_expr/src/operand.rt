@@ -9,7 +9,8 @@ ghost use Rattle.liquid_grammar.specs.Operands.{steps_of};
 use crate::ahead::{Follow, Start, closes_bracket, closes_range, follow_of, goes_to, start_of};
 use crate::stop::Stop;
 use crate::tokens::{Tokens, rest};
-use liquid_grammar::{ShortText, Step};
+use liquid_grammar::Step;
+use site_base::Text;
 use std::alloc::Global;
 
 /// Reads an operand with at most this many open brackets, and adds its steps; says how many tokens it has.
@@ -25,7 +26,7 @@ pub(crate) fn operand(
 {
     match start_of(alloc, tokens)? {
         Start::Variable(name) => {
-            steps.push(Step::Variable(ShortText::copy(alloc, name)?))?;
+            steps.push(Step::Variable(Text::copy(alloc, name)?))?;
             let links = path(alloc, rest(tokens, 1), depth, steps)?;
             Ok(links + 1)
         }
@@ -67,7 +68,7 @@ fn next_link(
 {
     match follow_of(tokens) {
         Follow::Name(name) => {
-            steps.push(Step::Member(ShortText::copy(alloc, name)?))?;
+            steps.push(Step::Member(Text::copy(alloc, name)?))?;
             Ok(Some(2))
         }
         Follow::Bracket => {

@@ -8,9 +8,8 @@ use crate::looping::{ForLoop, RowLoop};
 use crate::reading::read_whole;
 use crate::stop::ReadExprError;
 use crate::tag::{Name, Nothing, Values};
-use liquid_grammar::{
-    Assign, Condition, Cycle, Expr, Loop, LoopKind, Operand, Params, Several, ShortText,
-};
+use liquid_grammar::{Assign, Condition, Cycle, Expr, Loop, LoopKind, Operand, Params, Several};
+use site_base::Text;
 use std::alloc::Global;
 
 /// The expression that a text is: an operand, and filters behind bars.
@@ -42,7 +41,7 @@ pub fn read_nothing(alloc: Global, text: &str) -> Result<(), ReadExprError>
 }
 
 /// The name of a variable that a text is; the words of literals, `and`, `or` and `contains` are none.
-pub fn read_name(alloc: Global, text: &str) -> Result<ShortText, ReadExprError>
+pub fn read_name(alloc: Global, text: &str) -> Result<Text, ReadExprError>
     ensures { GivesRead result (read_name text.now) }
 {
     read_whole::<Name>(alloc, text)

@@ -6,12 +6,13 @@ ghost use Rattle.liquid_grammar.specs.Tags.{nothing_more, variable_name, assignm
 ghost use Rattle.liquid_expr.specs.Tokens.{tokens_of, count};
 ghost use Rattle.liquid_expr.specs.Readings.{IsRead};
 
-use crate::ahead::{behind, is_assign, is_colon, is_comma, is_or, name_at};
+use crate::ahead::{is_assign, is_colon, is_comma, is_or, name_at};
 use crate::expression::{Arguments, in_front, operands};
 use crate::reading::{FromTokens, Repeats, many};
 use crate::stop::Stop;
-use crate::tokens::Tokens;
-use liquid_grammar::{Assign, Cycle, Expr, Operand, Several, ShortText};
+use crate::tokens::{Tokens, rest};
+use liquid_grammar::{Assign, Cycle, Expr, Operand, Several};
+use site_base::Text;
 use std::alloc::Global;
 
 /// What stands in a tag that is its name alone.
@@ -31,13 +32,13 @@ impl FromTokens for Nothing {
 pub(crate) enum Name {}
 
 impl FromTokens for Name {
-    type Value = ShortText;
+    type Value = Text;
 
     ghost reading = { variable_name };
 
-    fn read(alloc: Global, tokens: Tokens) -> Result<(ShortText, usize), Stop> {
+    fn read(alloc: Global, tokens: Tokens) -> Result<(Text, usize), Stop> {
         match name_at(tokens) {
-            Some(name) => Ok((ShortText::copy(alloc, name)?, 1)),
+            Some(name) => Ok((Text::copy(alloc, name)?, 1)),
             None => Err(Stop::NoReading),
         }
     }
@@ -54,11 +55,11 @@ impl FromTokens for Assign {
             Some(name) => name,
             None => return Err(Stop::NoReading),
         };
-        if !is_assign(behind(tokens, 1)) {
+        if !is_assign(rest(tokens, 1)) {
             return Err(Stop::NoReading);
         }
-        let name = ShortText::copy(alloc, name)?;
-        let (value, len) = Expr::read(alloc, behind(tokens, 2))?;
+        let name = Text::copy(alloc, name)?;
+        let (value, len) = Expr::read(alloc, rest(tokens, 2))?;
         Ok((Assign { name, value }, 2 + len))
     }
 }
@@ -75,7 +76,7 @@ impl Repeats for Choices {
         if !(is_comma(tokens) || is_or(tokens)) {
             return Ok(None);
         }
-        let (value, len) = Operand::read(alloc, behind(tokens, 1))?;
+        let (value, len) = Operand::read(alloc, rest(tokens, 1))?;
         Ok(Some((value, 1 + len)))
     }
 
@@ -92,7 +93,7 @@ impl FromTokens for Values {
 
     fn read(alloc: Global, tokens: Tokens) -> Result<(Several<Operand>, usize), Stop> {
         let (first, len) = Operand::read(alloc, tokens)?;
-        let (others, more) = many::<Choices>(alloc, behind(tokens, len))?;
+        let (others, more) = many::<Choices>(alloc, rest(tokens, len))?;
         Ok((in_front(first, others)?, len + more))
     }
 }
@@ -103,7 +104,7 @@ fn cycle_end(alloc: Global, first: Operand, tokens: Tokens) -> Result<(Cycle, us
     ensures within { IfOk result (λ found. found.1 ≤ count tokens.entry) }
 {
     if is_colon(tokens) {
-        let (values, len) = operands(alloc, behind(tokens, 1))?;
+        let (values, len) = operands(alloc, rest(tokens, 1))?;
         let group = Some(first);
         return Ok((Cycle { group, values }, 1 + len));
     }
@@ -126,7 +127,7 @@ impl FromTokens for Cycle {
     #[tactic(auto, unfolding(liquid_grammar::specs::Tags::cycle))]
     fn read(alloc: Global, tokens: Tokens) -> Result<(Cycle, usize), Stop> {
         let (first, len) = Operand::read(alloc, tokens)?;
-        let (cycle, more) = cycle_end(alloc, first, behind(tokens, len))?;
+        let (cycle, more) = cycle_end(alloc, first, rest(tokens, len))?;
         Ok((cycle, len + more))
     }
 }

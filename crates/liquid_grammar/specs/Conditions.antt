@@ -1,4 +1,4 @@
--- Conditions, and the parameters of tags.
+-- Conditions, after the reference of Liquid 4 (Shopify), "Operators"; and the parameters of tags, after Jekyll 4's manual, "Includes".
 use Rattle.std.specs.Prelude.{ℕ, ◌+◌, Bool, true, false, List, ◌∷◌, drop, codes, if◌then◌else◌, Option, Some, None, Result}
 use Rattle.std.specs.Str.{bytes_eq}
 use Rattle.liquid_grammar.specs.declared.mark.Comparison.{Comparison}

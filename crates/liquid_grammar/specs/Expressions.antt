@@ -1,4 +1,4 @@
--- Expressions: operands, and the filters that follow them.
+-- Expressions: operands, and the filters that follow them. After the reference of Liquid 4 (Shopify), "Introduction", "Types" and "Filters".
 use Rattle.std.specs.Prelude.{ℕ, zero, suc, ◌+◌, pos, Bool, true, false, List, [], ◌∷◌, drop, codes, if◌then◌else◌, Option, Some, None, Result}
 use Rattle.std.specs.Str.{bytes_eq}
 use Rattle.liquid_grammar.specs.declared.literal.Literal.{Literal}

@@ -1,4 +1,4 @@
--- What the pieces of a template say, one by one.
+-- What the pieces of a template say, one by one, by the tags' names. After the reference of Liquid 4 (Shopify), "Tags", and Jekyll 4's manual, "Includes" and "Liquid"; docs/PROFILE.md lists the tags that are read.
 use Rattle.std.specs.Prelude.{ℕ, List, [], ◌∷◌, length, drop, take, ◌==◌, codes, if◌then◌else◌, Option, Some, None, Result, Ok, Err}
 use Rattle.std.specs.Str.{bytes_eq}
 use Rattle.std.specs.List.{prefix_len}

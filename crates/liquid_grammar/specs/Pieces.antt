@@ -1,4 +1,4 @@
--- The pieces of a template's text, as in Liquid: text, outputs `{{ .. }}` and tags `{% .. %}`.
+-- The pieces of a template's text: text, outputs `{{ .. }}` and tags `{% .. %}`. After the reference of Liquid 4 (Shopify), "Introduction", "Whitespace control", and "Tags" for `raw` and `comment`.
 use Rattle.std.specs.Prelude.{ℕ, zero, suc, ◌+◌, ◌-◌, Bool, false, ◌&&◌, ◌||◌, List, [], ◌∷◌, ◌++◌, length, drop, take, count_by, if◌then◌else◌, ◌==◌, nat_lt, nat_eq, slice_index, max, codes, Option, Some, None, Result, Ok, Err}
 use Rattle.std.specs.List.{starts_with, prefix_len, suffix_len}
 use Rattle.site_base.specs.Recursion.{down}

@@ -1,4 +1,4 @@
--- What stands in tags behind their names.
+-- What stands in tags behind their names. After the reference of Liquid 4 (Shopify), "Tags"; `include`, `link`, `post_url` and `highlight` after Jekyll 4's manual, "Includes" and "Liquid".
 use Rattle.std.specs.Prelude.{ℕ, suc, ◌+◌, ◌-◌, Bool, true, false, ◌&&◌, ◌||◌, List, [], ◌∷◌, length, drop, take, count_by, nat_lt, ◌==◌, slice_range, codes, if◌then◌else◌, Option, Some, None, Result, Ok, Err, is_some}
 use Rattle.std.specs.Str.{bytes_eq}
 use Rattle.std.specs.List.{prefix_len, suffix_len}

@@ -1,4 +1,4 @@
--- The tokens of an expression or a tag, as in Liquid: words, texts, numbers and marks, between which white space may stand.
+-- The tokens of an expression or a tag: words, texts, numbers and marks, between which white space may stand. After the reference of Liquid 4 (Shopify), "Types" and "Operators", which name the literals and the marks.
 use Rattle.std.specs.Prelude.{ℕ, zero, suc, ◌+◌, ◌-◌, ℤ, pos, negsuc, ◌^◌, Bool, true, false, ◌&&◌, ◌||◌, not, List, [], ◌∷◌, length, drop, take, if◌then◌else◌, ◌==◌, nat_lt, Option, Some, None}
 use Rattle.std.specs.List.{prefix_len}
 use Rattle.std.specs.Str.Parse.{signed_digits_value}

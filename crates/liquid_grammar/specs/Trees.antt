@@ -1,4 +1,4 @@
--- The tree of a template, or its first fault.
+-- The tree of a template, or its first fault: which tags open blocks, which part them and which end them. After the reference of Liquid 4 (Shopify), "Tags"; docs/PROFILE.md says which fault is named.
 use Rattle.std.specs.Prelude.{ℕ, Bool, true, false, List, [], ◌∷◌, Option, Some, None, Result, Ok, Err}
 use Rattle.site_base.specs.declared.faults.FaultKind.{FaultKind}
 use Rattle.site_base.specs.declared.faults.FaultKind.TheVariants.{LiquidSyntax}

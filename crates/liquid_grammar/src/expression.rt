@@ -1,10 +1,11 @@
 // Expressions.
-use crate::{Extras, Operand, Several, ShortText};
+use crate::{Extras, Operand, Several};
+use site_base::Text;
 
 /// A filter with its arguments.
 #[derive(Drop)]
 pub struct Filter {
-    pub name: ShortText,
+    pub name: Text,
     pub arguments: Extras<Operand>,
 }
 
@@ -18,7 +19,7 @@ pub struct Expr {
 /// A parameter `name=value` of a tag.
 #[derive(Drop)]
 pub struct Parameter {
-    pub name: ShortText,
+    pub name: Text,
     pub value: Expr,
 }
 

@@ -1,6 +1,5 @@
 // What may follow something.
 ghost use Rattle.std.specs.Prelude.{◌≡◌, [], IfOk};
-ghost use Rattle.liquid_grammar.specs.ListPlaces.{list_or_none};
 
 use crate::Several;
 use site_base::{Boxed, Memory};
@@ -15,12 +14,11 @@ pub struct Extras<T> {
 }
 
 impl<T> Model for Extras<T> {
-    ghost use Rattle.std.specs.Prelude.{List};
-    ghost use Rattle.liquid_grammar.specs.ListPlaces.{list_or_none};
+    ghost use Rattle.std.specs.Prelude.{List, [], unwrap_or};
 
     ghost Value = { List T };
 
-    ghost view = { λ extras. list_or_none extras.list };
+    ghost view = { λ extras. unwrap_or extras.list [] };
 }
 
 impl<T: Drop> Extras<T> {

@@ -1,5 +1,5 @@
 // What the pieces of a template say.
-use crate::{Assign, Condition, Cycle, Expr, Include, Loop, NamePart, Operand, Several, ShortText};
+use crate::{Assign, Condition, Cycle, Expr, Include, Loop, NamePart, Operand, Several};
 use site_base::{Boxed, FaultKind, Text};
 
 /// What holds nothing else.
@@ -10,8 +10,8 @@ pub enum Leaf {
     Assign(Boxed<Assign>),
     /// The text of the tag, and what it says.
     Cycle(Boxed<Text>, Boxed<Cycle>),
-    Increment(ShortText),
-    Decrement(ShortText),
+    Increment(Text),
+    Decrement(Text),
     Break,
     Continue,
     Include(Boxed<Include>),
@@ -28,9 +28,9 @@ pub enum Block {
     Case(Boxed<Expr>),
     For(Boxed<Loop>),
     TableRow(Boxed<Loop>),
-    Capture(ShortText),
+    Capture(Text),
     /// The language that is named.
-    Highlight(ShortText),
+    Highlight(Text),
 }
 
 /// A block by its name.

@@ -12,7 +12,6 @@ mod mark;
 mod operand;
 mod piece;
 mod several;
-mod short_text;
 mod step;
 mod tag;
 
@@ -25,6 +24,5 @@ pub use mark::{Comparison, Joint, Mark};
 pub use operand::Operand;
 pub use piece::{Front, Piece, PieceKind, Span};
 pub use several::Several;
-pub use short_text::ShortText;
 pub use step::Step;
 pub use tag::{Assign, Cycle, Include, Loop, LoopKey, LoopKind, LoopPart, NamePart, NamePlace};

@@ -1,6 +1,5 @@
 // Literals.
-use crate::ShortText;
-use site_base::Boxed;
+use site_base::{Boxed, Text};
 
 /// A value that an expression writes out; ranges are made of two operands.
 #[derive(Drop)]
@@ -14,5 +13,5 @@ pub enum Literal {
     Empty,
     Int(i64),
     /// A text in quotes, or a decimal as it is written.
-    Text(Boxed<ShortText>),
+    Text(Boxed<Text>),
 }

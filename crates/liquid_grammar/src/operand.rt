@@ -35,8 +35,8 @@ impl Model for Operand {
     ghost invariant = { λ o. AreOfOperand (steps_at o.steps) };
 }
 
-// Keeps steps in as little room as they need.
-fn kept(mut steps: Vec<Step>) -> Steps
+// Where steps stand in as little room as they need.
+fn steps_place(mut steps: Vec<Step>) -> Steps
     ensures { steps_at result ≡ steps.items }
 {
     if steps.len() == 1 {
@@ -54,7 +54,9 @@ impl Operand {
         requires { AreOfOperand steps.items }
         ensures { result ≡ operand_of steps.items }
     {
-        Operand { steps: kept(steps) }
+        Operand {
+            steps: steps_place(steps),
+        }
     }
 
     /// The steps that leave the operand's value on a stack: first those of its parts, from left to right.

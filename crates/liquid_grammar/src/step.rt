@@ -1,5 +1,6 @@
 // The steps of an operand.
-use crate::{Literal, ShortText};
+use crate::Literal;
+use site_base::Text;
 
 /// A step of an operand, which works on a stack of values: the steps of an operand leave its value on the stack.
 #[derive(Drop)]
@@ -7,9 +8,9 @@ pub enum Step {
     /// Puts the literal on the stack.
     Literal(Literal),
     /// Puts the value of the variable on the stack.
-    Variable(ShortText),
+    Variable(Text),
     /// Replaces the value on top by its member of this name.
-    Member(ShortText),
+    Member(Text),
     /// Replaces the two values on top by the member of the lower that the upper names.
     Index,
     /// Replaces the two values on top by the range from the lower to the upper.

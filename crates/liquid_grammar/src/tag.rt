@@ -1,11 +1,11 @@
 // What the tags of a template say.
-use crate::{Expr, Operand, Params, Several, ShortText};
+use crate::{Expr, Operand, Params, Several};
 use site_base::Text;
 
 /// `assign name = value`
 #[derive(Drop)]
 pub struct Assign {
-    pub name: ShortText,
+    pub name: Text,
     pub value: Expr,
 }
 
@@ -42,7 +42,7 @@ pub enum LoopPart {
 /// `for name in list` or `tablerow name in list`, with what follows it.
 #[derive(Drop)]
 pub struct Loop {
-    pub name: ShortText,
+    pub name: Text,
     pub list: Expr,
     pub parts: Several<LoopPart>,
 }

@@ -9,3 +9,5 @@ pub enum Node {
     Block(u64, Block, usize),
     Part(u64, Part, usize),
 }
+
+const _: () = prove!(size_of::<Node>() == 48);
