@@ -29,19 +29,36 @@ use Rattle.site_program.specs.Sessions.{Counts, Counted, Gone, Going, SoFar, Ses
 use Rattle.site_program.specs.declared.status.Status.{Status}
 use Rattle.site_program.specs.declared.status.Status.TheVariants as status
 
+-- what a reply makes of its session
+data Outcome (reply : Reply) : Type 0 where
+  Goes : bad_status reply ≡ None → Outcome reply
+  Ends : (number : ℕ) (kind : ScriptKind) → reply ≡ BadLine number kind → Outcome reply
+
+outcome : (reply : Reply) → Outcome reply
+outcome (BadLine number kind) = Ends number kind refl
+outcome (Scanned count) = Goes refl
+outcome ScanFault = Goes refl
+outcome (Faulty fault) = Goes refl
+outcome Fine = Goes refl
+outcome Absent = Goes refl
+outcome (Built report) = Goes refl
+outcome (Marked paths) = Goes refl
+outcome Unlisted = Goes refl
+outcome Silent = Goes refl
+
 -- a line that does not end the script
 goes_on : (given : Given) (old new : Standing) (number : ℕ) (at : Line) (reply : Reply) → (at ≡ line.End → ⊥) → (at ≡ line.Eof → ⊥) → IsRead at
-    → Answers given old number at reply new → ((bad : ℕ) (kind : ScriptKind) → reply ≡ BadLine bad kind → ⊥) → ends at ≡ false
-goes_on given old new number line.Scan reply end eof read answers other = refl
-goes_on given old new number (line.Put path bytes) reply end eof read answers other = refl
-goes_on given old new number (line.Delete path) reply end eof read answers other = refl
-goes_on given old new number (line.Time seconds) reply end eof read answers other = refl
-goes_on given old new number line.Build reply end eof read answers other = refl
-goes_on given old new number line.End reply end eof read answers other = absurd (end refl)
-goes_on given old new number line.Eof reply end eof read answers other = absurd (eof refl)
-goes_on given old new number (line.Bad bad kind) reply end eof read answers other = absurd (other bad kind (ap (λ (s : Standing × Reply). s.1) (sym answers)))
-goes_on given old new number line.Failed reply end eof read answers other = absurd (read.0 refl)
-goes_on given old new number line.Memory reply end eof read answers other = absurd (read.1 refl)
+    → Answers given old number at reply new → bad_status reply ≡ None → ends at ≡ false
+goes_on given old new number line.Scan reply end eof read answers good = refl
+goes_on given old new number (line.Put path bytes) reply end eof read answers good = refl
+goes_on given old new number (line.Delete path) reply end eof read answers good = refl
+goes_on given old new number (line.Time seconds) reply end eof read answers good = refl
+goes_on given old new number line.Build reply end eof read answers good = refl
+goes_on given old new number line.End reply end eof read answers good = absurd (end refl)
+goes_on given old new number line.Eof reply end eof read answers good = absurd (eof refl)
+goes_on given old new number (line.Bad bad kind) reply end eof read answers good = let wrong : Some (status.Script bad kind) ≡ None = ap (λ (s : Standing × Reply). bad_status s.1) answers ∙ good in absurd (cc (wrong))
+goes_on given old new number line.Failed reply end eof read answers good = absurd (read.0 refl)
+goes_on given old new number line.Memory reply end eof read answers good = absurd (read.1 refl)
 
 -- the reply of a step
 reply_is : {one other : Standing × Reply} → one ≡ other → one.1 ≡ other.1
@@ -88,25 +105,13 @@ pub turned : (given : Given) (old : Standing) (number : ℕ) (at : Line) (before
     → (at ≡ line.End → ⊥) → (at ≡ line.Eof → ⊥) → IsRead at
     → Answers given old number at reply new → after ≡ Some (before ++ reply_bytes given.why reply) → Holds told new.belief given.output → Counted counts (reply ∷ [])
     → Turned given old number at before new after told counts (bad_status reply)
-turned given old number at before new after told counts (BadLine bad kind) end eof read answers bytes holds counted = record { next = tt; ends_at = (read, answers, bytes, holds) }
-turned given old number at before new after told counts (Scanned count) end eof read answers bytes holds counted =
-    record { next = (goes_on given old new number at (Scanned count) end eof read answers (λ b k e. cc (e)), (Scanned count, refl, answers, bytes, counted)); ends_at = tt }
-turned given old number at before new after told counts ScanFault end eof read answers bytes holds counted =
-    record { next = (goes_on given old new number at ScanFault end eof read answers (λ b k e. cc (e)), (ScanFault, refl, answers, bytes, counted)); ends_at = tt }
-turned given old number at before new after told counts (Faulty fault) end eof read answers bytes holds counted =
-    record { next = (goes_on given old new number at (Faulty fault) end eof read answers (λ b k e. cc (e)), (Faulty fault, refl, answers, bytes, counted)); ends_at = tt }
-turned given old number at before new after told counts Fine end eof read answers bytes holds counted =
-    record { next = (goes_on given old new number at Fine end eof read answers (λ b k e. cc (e)), (Fine, refl, answers, bytes, counted)); ends_at = tt }
-turned given old number at before new after told counts Absent end eof read answers bytes holds counted =
-    record { next = (goes_on given old new number at Absent end eof read answers (λ b k e. cc (e)), (Absent, refl, answers, bytes, counted)); ends_at = tt }
-turned given old number at before new after told counts (Built report) end eof read answers bytes holds counted =
-    record { next = (goes_on given old new number at (Built report) end eof read answers (λ b k e. cc (e)), (Built report, refl, answers, bytes, counted)); ends_at = tt }
-turned given old number at before new after told counts (Marked paths) end eof read answers bytes holds counted =
-    record { next = (goes_on given old new number at (Marked paths) end eof read answers (λ b k e. cc (e)), (Marked paths, refl, answers, bytes, counted)); ends_at = tt }
-turned given old number at before new after told counts Unlisted end eof read answers bytes holds counted =
-    record { next = (goes_on given old new number at Unlisted end eof read answers (λ b k e. cc (e)), (Unlisted, refl, answers, bytes, counted)); ends_at = tt }
-turned given old number at before new after told counts Silent end eof read answers bytes holds counted =
-    record { next = (goes_on given old new number at Silent end eof read answers (λ b k e. cc (e)), (Silent, refl, answers, bytes, counted)); ends_at = tt }
+turned given old number at before new after told counts reply end eof read answers bytes holds counted = by (outcome reply)
+  where
+    by : Outcome reply → Turned given old number at before new after told counts (bad_status reply)
+    by (Goes is) = subst (λ (r : Option Status). Turned given old number at before new after told counts r) (sym is)
+        (record { next = (goes_on given old new number at reply end eof read answers is, (reply, is, answers, bytes, counted)); ends_at = tt })
+    by (Ends bad kind is) = subst (λ (r : Reply). Turned given old number at before new after told counts (bad_status r)) (sym is)
+        (record { next = tt; ends_at = (read, subst (λ (r : Reply). Answers given old number at r new) is answers, bytes ∙ ap (λ (r : Reply). Some (before ++ reply_bytes given.why r)) is, holds) })
 
 pub halts : (given : Given) (old : Standing) (number : ℕ) (at : Line) (before part : List ℕ) (new : Standing) (after : Option (List ℕ)) (told : Option Files) (s : Status)
     → IsRead at → Stopped given old number at told part → after ≡ Some (before ++ part) → IsCut s part → EndsAt given old number at before new after told s
@@ -192,16 +197,11 @@ counted_none source output = record { source = omega arith; output = omega arith
 
 -- a reply ends the session only where it is that of a bad line
 pub bad_ends : (reply : Reply) → IfSome (bad_status reply) EndsSession
-bad_ends (BadLine number kind) = tt
-bad_ends (Scanned count) = tt
-bad_ends ScanFault = tt
-bad_ends (Faulty fault) = tt
-bad_ends Fine = tt
-bad_ends Absent = tt
-bad_ends (Built report) = tt
-bad_ends (Marked paths) = tt
-bad_ends Unlisted = tt
-bad_ends Silent = tt
+bad_ends reply = by (outcome reply)
+  where
+    by : Outcome reply → IfSome (bad_status reply) EndsSession
+    by (Goes is) = subst (λ (r : Option Status). IfSome r EndsSession) (sym is) tt
+    by (Ends bad kind is) = subst (λ (r : Reply). IfSome (bad_status r) EndsSession) (sym is) tt
 
 -- what reading a line told
 abbrev Reads : ℕ → Option (List ℕ) → Option (List ℕ) → Line → Type 0
