@@ -1,5 +1,5 @@
 -- What the replies to `scan` and to `build` tell of the site and of what was done.
-use Rattle.std.proofs.Common.{◌≡◌, ◌⊎◌, inl, inr, ℕ, Bool, true, false, List, [], ◌∷◌, ◌++◌, length, max, append_assoc, refl, sym, ◌∙◌, ap, subst, Option, Some, None, Ok, Err}
+use Rattle.std.proofs.Common.{◌≡◌, inl, inr, ℕ, Bool, false, List, [], ◌∷◌, ◌++◌, length, max, refl, sym, ◌∙◌, ap, subst, Option, Some, None, Ok, Err}
 use Rattle.std.specs.Option.{option_or}
 use Rattle.std.specs.FinMap.{entries, len}
 use Rattle.site_base.specs.Places.{Files}
@@ -10,12 +10,12 @@ use Rattle.site_reader.specs.Found.{Found}
 use Rattle.site_session.specs.Full.{fault_of}
 use Rattle.site_session.specs.declared.output.Output.{Output}
 use Rattle.site_session.specs.Standing.{Standing}
-use Rattle.site_session.specs.Session.{Given, Event, Nothing, TheScan, TheList, TheSteps, event_of, failed_of, full_now, scan, build, build_tree, build_reply, output_faults, source_faults}
+use Rattle.site_session.specs.Session.{Given, Event, Nothing, TheScan, TheList, TheSteps, event_of, full_now, scan, build, build_tree, build_reply, output_faults, source_faults}
 use Rattle.site_session.specs.Replies.{LeavesBy, Leaves, has_called_output}
 use Rattle.site_session.specs.declared.reply.Reply.{Reply}
 use Rattle.site_session.specs.declared.reply.Reply.TheVariants.{Scanned, ScanFault, Faulty, Fine, Absent, Built, Marked, Unlisted, BadLine, Silent}
 use Rattle.site_session.specs.Bytes.{reply_bytes, written}
-use Rattle.site_program.specs.Once.{after_scan, site_fault, Answered, Left, LeftBut, Ended, Replies, Replied, Took, Untouched, scanned}
+use Rattle.site_program.specs.Once.{after_scan, site_fault, LeftBut, Ended, Replies, Took, Untouched, scanned}
 use Rattle.site_program.specs.declared.status.Status.{Status}
 use Rattle.site_program.specs.declared.status.Status.TheVariants.{Done, Site, Usage, SourceFault, OutFault, InputFault, SinkFault, Script, Memory}
 use Rattle.std.proofs.lemmas.List.{append-nil}

@@ -1,6 +1,6 @@
 -- What a check says of a site.
-use Rattle.std.proofs.Common.{◌≡◌, ◌⊎◌, inl, inr, ℕ, List, [], ◌++◌, take, drop, append_assoc, refl, sym, ◌∙◌, ap, subst, Option, Some, None}
-use Rattle.std.specs.Prelude.{codes, false}
+use Rattle.std.proofs.Common.{◌≡◌, ◌⊎◌, inl, inr, ℕ, List, ◌++◌, take, drop, append_assoc, refl, sym, ◌∙◌, ap, subst, Option, Some, None}
+use Rattle.std.specs.Prelude.{false}
 use Rattle.std.specs.Option.{option_or}
 use Rattle.std.specs.FinMap.{entries, len}
 use Rattle.std.proofs.lemmas.List.{append-nil, take-append-drop}
@@ -10,12 +10,11 @@ use Rattle.site_session.specs.Bytes.{fault_line, reply_bytes}
 use Rattle.site_session.specs.Full.{fault_of}
 use Rattle.site_session.specs.Session.{Given, Nothing, full_now, scan}
 use Rattle.site_session.specs.Standing.{Standing}
-use Rattle.site_session.specs.declared.reply.Reply.{Reply}
-use Rattle.site_session.specs.declared.reply.Reply.TheVariants.{Scanned, ScanFault, Faulty}
+use Rattle.site_session.specs.declared.reply.Reply.TheVariants.{Scanned, Faulty}
 use Rattle.site_program.specs.Checks.{Checked, CheckTook, EndsAs, IsFrontOf, Said, SaidBoth, check_bytes, check_bytes_by, failed_bytes, verdict, verdict_status}
 use Rattle.site_program.specs.Once.{after_scan, scanned, site_fault}
 use Rattle.site_program.specs.declared.status.Status.{Status}
-use Rattle.site_program.specs.declared.status.Status.TheVariants.{Done, Site, SourceFault, SinkFault, Memory}
+use Rattle.site_program.specs.declared.status.Status.TheVariants.{Site, SourceFault, SinkFault, Memory}
 use Rattle.site_program.proofs.Cases.{ScanCase, Counted, Failed, Limited, scan_case}
 
 -- a text of which a part was written

@@ -1,14 +1,14 @@
 -- Runs of a build from nothing.
-use Rattle.std.proofs.Common.{◌≡◌, ◌⊎◌, inl, inr, ℕ, ◌+◌, List, [], ◌∷◌, ◌++◌, length, refl, sym, ◌∙◌, ap, subst, Option, Some, None, append_assoc}
+use Rattle.std.proofs.Common.{◌≡◌, inl, inr, ℕ, List, [], ◌∷◌, ◌++◌, refl, sym, ◌∙◌, ap, subst, Option, Some, None, append_assoc}
 use Rattle.std.proofs.lemmas.List.{append-nil}
 use Rattle.site_base.specs.Places.{Files}
 use Rattle.site_script.specs.declared.line.Line.TheVariants as line
 use Rattle.site_session.specs.Standing.{Standing, Holds}
 use Rattle.site_session.specs.Session.{Given, Answers, Run}
-use Rattle.site_session.specs.Bytes.{reply_bytes, written}
+use Rattle.site_session.specs.Bytes.{reply_bytes}
 use Rattle.site_session.specs.declared.reply.Reply.{Reply}
 use Rattle.site_session.specs.declared.reply.Reply.TheVariants.{Scanned, ScanFault, Faulty, Fine, Absent, Built, Marked, Unlisted, BadLine, Silent}
-use Rattle.site_program.specs.Runs.{Stopped, Cut, IsCut, OnceWhole, OnceRun, Whole, CutShort, once_lines, once_status, reply_status}
+use Rattle.site_program.specs.Runs.{Stopped, IsCut, OnceRun, Whole, CutShort, once_lines, reply_status}
 use Rattle.site_program.specs.declared.status.Status.{Status}
 use Rattle.site_program.specs.declared.status.Status.TheVariants.{Memory}
 
@@ -59,7 +59,6 @@ pub cut_one : (given : Given) (first mid : Standing) (before part : List ℕ) (a
 cut_one given first mid before part after told status same stopped bytes is = CutShort (record {
   done = [];
   next = line.Scan;
-  left = line.Build ∷ [];
   replies = [];
   mid = mid;
   part = part;
@@ -69,17 +68,16 @@ cut_one given first mid before part after told status same stopped bytes is = Cu
   bytes = bytes;
 }) is
 
-pub cut_two : (given : Given) (first mid : Standing) (before part : List ℕ) (after : Option (List ℕ)) (told : Option Files) (status : Status) (scanned : Reply)
-    → Answers given first 1 line.Scan scanned mid → Stopped given mid 2 line.Build told part → after ≡ Some ((before ++ reply_bytes given.why scanned) ++ part) → IsCut status part
+pub cut_two : (given : Given) (first mid : Standing) (before part : List ℕ) (after : Option (List ℕ)) (told : Option Files) (status : Status) (scanned : Reply) (count : ℕ)
+    → scanned ≡ Scanned count → Answers given first 1 line.Scan scanned mid → Stopped given mid 2 line.Build told part → after ≡ Some ((before ++ reply_bytes given.why scanned) ++ part) → IsCut status part
     → OnceRun given first before after told status
-cut_two given first mid before part after told status scanned answers stopped bytes is = CutShort (record {
+cut_two given first mid before part after told status scanned count is_scanned answers stopped bytes is = CutShort (record {
   done = line.Scan ∷ [];
   next = line.Build;
-  left = [];
   replies = scanned ∷ [];
   mid = mid;
   part = part;
-  whole = refl;
+  whole = ap (λ r. once_lines (r ∷ [])) is_scanned;
   run = (mid, answers, refl);
   stopped = stopped;
   bytes = bytes ∙ ap Some (append_assoc before (reply_bytes given.why scanned) part) ∙ ap (λ b. Some (before ++ (b ++ part))) (sym (append-nil (reply_bytes given.why scanned)));

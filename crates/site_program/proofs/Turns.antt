@@ -1,38 +1,101 @@
 -- One line of a session, and the run that it makes longer.
-use Rattle.std.proofs.Common.{◌≡◌, ◌⊎◌, inl, inr, ℕ, ◌+◌, ◌-◌, ◌^◌, ◌≤◌, min, Bool, true, false, List, [], ◌∷◌, ◌++◌, length, refl, sym, ◌∙◌, ap, subst, Option, Some, None, append_assoc, length-append, arith}
-use Rattle.std.specs.Prelude.{take, flat_map, sum_by}
+use Rattle.std.proofs.Common.{◌≡◌, ◌⊎◌, inl, inr, ℕ, ◌+◌, ◌-◌, ◌^◌, ◌≤◌, min, Bool, true, false, cond, List, [], ◌∷◌, ◌++◌, length, refl, sym, ◌∙◌, ap, subst, Option, Some, None, Ok, Err, append_assoc, length-append, arith}
+use Rattle.std.specs.Prelude.{sum_by}
+use Rattle.std.specs.FinMap.{entries, contains_key}
 use Rattle.std.specs.Option.{IfNone, IfSome}
 use Rattle.std.proofs.lemmas.List.{append-nil}
+use Rattle.std.proofs.lemmas.List.Elements.{All-nil, All-push}
 use Rattle.std.proofs.lemmas.List.Sums.{sum_by-append}
 use Rattle.site_base.specs.Places.{Files}
+use Rattle.site_base.specs.declared.faults.SiteFault.{SiteFault}
+use Rattle.source_tree.specs.Put.{put_refusal}
+use Rattle.source_tree.specs.Scan.{scan_fault}
+use Rattle.source_tree.specs.declared.put_error.PutError.{PutError}
+use Rattle.out_tree.specs.Belief.{Belief}
+use Rattle.site_reader.specs.Found.{Found}
 use Rattle.site_script.specs.Line.{line_number, ends}
 use Rattle.site_script.specs.Script.{Taken, first_line, is_bad, IsFirst}
 use Rattle.site_script.specs.declared.line.Line.{Line}
 use Rattle.site_script.specs.declared.line.Line.TheVariants as line
 use Rattle.site_script.specs.declared.line.ScriptKind.{ScriptKind}
 use Rattle.site_session.specs.Standing.{Standing, Holds}
-use Rattle.site_session.specs.Session.{Given, Answers, Run, step, event_of, source_faults, output_faults}
+use Rattle.site_session.specs.declared.output.Output.{Output}
+use Rattle.site_session.specs.Session.{Given, Answers, Run, Nothing, put, scan, build, build_tree, full_now, source_faults, output_faults}
 use Rattle.site_session.specs.Bytes.{reply_bytes, written}
 use Rattle.site_session.specs.declared.reply.Reply.{Reply}
 use Rattle.site_session.specs.declared.reply.Reply.TheVariants.{Scanned, ScanFault, Faulty, Fine, Absent, Built, Marked, Unlisted, BadLine, Silent}
 use Rattle.site_program.specs.Runs.{Stopped, IsCut}
-use Rattle.site_program.specs.Sessions.{Counts, Counted, Going, SoFar, SessionRun, AtEnd, AtBad, AtInput, AtLine, next_of, IsRead, Halted, EndsAt, GoesOn, EndsSession, bad_status}
+use Rattle.site_program.specs.Sessions.{Counts, Counted, Gone, Going, SoFar, SessionRun, AtEnd, AtBad, AtInput, AtLine, next_of, IsRead, Halted, EndsAt, GoesOn, EndsSession, bad_status}
 use Rattle.site_program.specs.declared.status.Status.{Status}
 use Rattle.site_program.specs.declared.status.Status.TheVariants as status
 
+-- what a reply makes of its session
+data Outcome (reply : Reply) : Type 0 where
+  Goes : bad_status reply ≡ None → Outcome reply
+  Ends : (number : ℕ) (kind : ScriptKind) → reply ≡ BadLine number kind → Outcome reply
+
+outcome : (reply : Reply) → Outcome reply
+outcome (BadLine number kind) = Ends number kind refl
+outcome (Scanned count) = Goes refl
+outcome ScanFault = Goes refl
+outcome (Faulty fault) = Goes refl
+outcome Fine = Goes refl
+outcome Absent = Goes refl
+outcome (Built report) = Goes refl
+outcome (Marked paths) = Goes refl
+outcome Unlisted = Goes refl
+outcome Silent = Goes refl
+
 -- a line that does not end the script
 goes_on : (given : Given) (old new : Standing) (number : ℕ) (at : Line) (reply : Reply) → (at ≡ line.End → ⊥) → (at ≡ line.Eof → ⊥) → IsRead at
-    → Answers given old number at reply new → ((bad : ℕ) (kind : ScriptKind) → reply ≡ BadLine bad kind → ⊥) → ends at ≡ false
-goes_on given old new number line.Scan reply end eof read answers other = refl
-goes_on given old new number (line.Put path bytes) reply end eof read answers other = refl
-goes_on given old new number (line.Delete path) reply end eof read answers other = refl
-goes_on given old new number (line.Time seconds) reply end eof read answers other = refl
-goes_on given old new number line.Build reply end eof read answers other = refl
-goes_on given old new number line.End reply end eof read answers other = absurd (end refl)
-goes_on given old new number line.Eof reply end eof read answers other = absurd (eof refl)
-goes_on given old new number (line.Bad bad kind) reply end eof read answers other = absurd (other bad kind (ap (λ (s : Standing × Reply). s.1) (sym answers)))
-goes_on given old new number line.Failed reply end eof read answers other = absurd (read.0 refl)
-goes_on given old new number line.Memory reply end eof read answers other = absurd (read.1 refl)
+    → Answers given old number at reply new → bad_status reply ≡ None → ends at ≡ false
+goes_on given old new number line.Scan reply end eof read answers good = refl
+goes_on given old new number (line.Put path bytes) reply end eof read answers good = refl
+goes_on given old new number (line.Delete path) reply end eof read answers good = refl
+goes_on given old new number (line.Time seconds) reply end eof read answers good = refl
+goes_on given old new number line.Build reply end eof read answers good = refl
+goes_on given old new number line.End reply end eof read answers good = absurd (end refl)
+goes_on given old new number line.Eof reply end eof read answers good = absurd (eof refl)
+goes_on given old new number (line.Bad bad kind) reply end eof read answers good = let wrong : Some (status.Script bad kind) ≡ None = ap (λ (s : Standing × Reply). bad_status s.1) answers ∙ good in absurd (cc (wrong))
+goes_on given old new number line.Failed reply end eof read answers good = absurd (read.0 refl)
+goes_on given old new number line.Memory reply end eof read answers good = absurd (read.1 refl)
+
+-- the reply of a step
+reply_is : {one other : Standing × Reply} → one ≡ other → one.1 ≡ other.1
+reply_is e = ap (λ (p : Standing × Reply). p.1) e
+
+bad_put : (old new : Standing) (number : ℕ) (path bytes : List ℕ) (bad : ℕ) (kind : ScriptKind) (refusal : Option PutError) → put old number path bytes refusal ≡ (new, BadLine bad kind) → new ≡ old
+bad_put old new number path bytes bad kind None e = let r = reply_is e in absurd (cc (r))
+bad_put old new number path bytes bad kind (Some error) e = sym (ap (λ (p : Standing × Reply). p.0) e)
+
+bad_delete : (b : Bool) (bad : ℕ) (kind : ScriptKind) → cond b Fine Absent ≡ BadLine bad kind → ⊥
+bad_delete true bad kind r = absurd (cc (r))
+bad_delete false bad kind r = absurd (cc (r))
+
+bad_scan : (given : Given) (old new : Standing) (bad : ℕ) (kind : ScriptKind) (fault : Option SiteFault) → scan given old fault Nothing ≡ (new, BadLine bad kind) → ⊥
+bad_scan given old new bad kind None e = let r = reply_is e in absurd (cc (r))
+bad_scan given old new bad kind (Some fault) e = let r = reply_is e in absurd (cc (r))
+
+bad_build : (given : Given) (old new : Standing) (bad : ℕ) (kind : ScriptKind) (f : Found Output) → build given old f Nothing ≡ (new, BadLine bad kind) → ⊥
+bad_build given old new bad kind (Err fault) e = let r = reply_is e in absurd (cc (r))
+bad_build given old new bad kind (Ok output) e = by old.belief e
+  where
+    by : (belief : Option Belief) → build_tree given old output belief Nothing ≡ (new, BadLine bad kind) → ⊥
+    by None e = let r = reply_is e in absurd (cc (r))
+    by (Some belief) e = let r = reply_is e in absurd (cc (r))
+
+-- a bad line changes nothing
+bad_same : (given : Given) (old new : Standing) (number : ℕ) (at : Line) (bad : ℕ) (kind : ScriptKind) → Answers given old number at (BadLine bad kind) new → new ≡ old
+bad_same given old new number line.Scan bad kind e = absurd (bad_scan given old new bad kind (scan_fault (entries given.source)) e)
+bad_same given old new number (line.Put path bytes) bad kind e = bad_put old new number path bytes bad kind (put_refusal old.files path bytes) e
+bad_same given old new number (line.Delete path) bad kind e = absurd (bad_delete (contains_key old.files path) bad kind (reply_is e))
+bad_same given old new number (line.Time seconds) bad kind e = let r = reply_is e in absurd (cc (r))
+bad_same given old new number line.Build bad kind e = absurd (bad_build given old new bad kind (full_now old) e)
+bad_same given old new number (line.Bad at kind') bad kind e = sym (ap (λ (p : Standing × Reply). p.0) e)
+bad_same given old new number line.End bad kind e = let r = reply_is e in absurd (cc (r))
+bad_same given old new number line.Eof bad kind e = let r = reply_is e in absurd (cc (r))
+bad_same given old new number line.Failed bad kind e = let r = reply_is e in absurd (cc (r))
+bad_same given old new number line.Memory bad kind e = let r = reply_is e in absurd (cc (r))
 
 pub record Turned (given : Given) (old : Standing) (number : ℕ) (at : Line) (before : List ℕ) (new : Standing) (after : Option (List ℕ)) (told : Option Files) (counts : Counts) (result : Option Status) : Type 0 where
   pub next : IfNone result (GoesOn given old number at before new after counts)
@@ -42,25 +105,13 @@ pub turned : (given : Given) (old : Standing) (number : ℕ) (at : Line) (before
     → (at ≡ line.End → ⊥) → (at ≡ line.Eof → ⊥) → IsRead at
     → Answers given old number at reply new → after ≡ Some (before ++ reply_bytes given.why reply) → Holds told new.belief given.output → Counted counts (reply ∷ [])
     → Turned given old number at before new after told counts (bad_status reply)
-turned given old number at before new after told counts (BadLine bad kind) end eof read answers bytes holds counted = record { next = tt; ends_at = (read, answers, bytes, holds) }
-turned given old number at before new after told counts (Scanned count) end eof read answers bytes holds counted =
-    record { next = (goes_on given old new number at (Scanned count) end eof read answers (λ b k e. cc (e)), (Scanned count, answers, bytes, counted)); ends_at = tt }
-turned given old number at before new after told counts ScanFault end eof read answers bytes holds counted =
-    record { next = (goes_on given old new number at ScanFault end eof read answers (λ b k e. cc (e)), (ScanFault, answers, bytes, counted)); ends_at = tt }
-turned given old number at before new after told counts (Faulty fault) end eof read answers bytes holds counted =
-    record { next = (goes_on given old new number at (Faulty fault) end eof read answers (λ b k e. cc (e)), (Faulty fault, answers, bytes, counted)); ends_at = tt }
-turned given old number at before new after told counts Fine end eof read answers bytes holds counted =
-    record { next = (goes_on given old new number at Fine end eof read answers (λ b k e. cc (e)), (Fine, answers, bytes, counted)); ends_at = tt }
-turned given old number at before new after told counts Absent end eof read answers bytes holds counted =
-    record { next = (goes_on given old new number at Absent end eof read answers (λ b k e. cc (e)), (Absent, answers, bytes, counted)); ends_at = tt }
-turned given old number at before new after told counts (Built report) end eof read answers bytes holds counted =
-    record { next = (goes_on given old new number at (Built report) end eof read answers (λ b k e. cc (e)), (Built report, answers, bytes, counted)); ends_at = tt }
-turned given old number at before new after told counts (Marked paths) end eof read answers bytes holds counted =
-    record { next = (goes_on given old new number at (Marked paths) end eof read answers (λ b k e. cc (e)), (Marked paths, answers, bytes, counted)); ends_at = tt }
-turned given old number at before new after told counts Unlisted end eof read answers bytes holds counted =
-    record { next = (goes_on given old new number at Unlisted end eof read answers (λ b k e. cc (e)), (Unlisted, answers, bytes, counted)); ends_at = tt }
-turned given old number at before new after told counts Silent end eof read answers bytes holds counted =
-    record { next = (goes_on given old new number at Silent end eof read answers (λ b k e. cc (e)), (Silent, answers, bytes, counted)); ends_at = tt }
+turned given old number at before new after told counts reply end eof read answers bytes holds counted = by (outcome reply)
+  where
+    by : Outcome reply → Turned given old number at before new after told counts (bad_status reply)
+    by (Goes is) = subst (λ (r : Option Status). Turned given old number at before new after told counts r) (sym is)
+        (record { next = (goes_on given old new number at reply end eof read answers is, (reply, is, answers, bytes, counted)); ends_at = tt })
+    by (Ends bad kind is) = subst (λ (r : Reply). Turned given old number at before new after told counts (bad_status r)) (sym is)
+        (record { next = tt; ends_at = (read, subst (λ (r : Reply). Answers given old number at r new) is answers, bytes ∙ ap (λ (r : Reply). Some (before ++ reply_bytes given.why r)) is, holds) })
 
 pub halts : (given : Given) (old : Standing) (number : ℕ) (at : Line) (before part : List ℕ) (new : Standing) (after : Option (List ℕ)) (told : Option Files) (s : Status)
     → IsRead at → Stopped given old number at told part → after ≡ Some (before ++ part) → IsCut s part → EndsAt given old number at before new after told s
@@ -146,23 +197,11 @@ counted_none source output = record { source = omega arith; output = omega arith
 
 -- a reply ends the session only where it is that of a bad line
 pub bad_ends : (reply : Reply) → IfSome (bad_status reply) EndsSession
-bad_ends (BadLine number kind) = tt
-bad_ends (Scanned count) = tt
-bad_ends ScanFault = tt
-bad_ends (Faulty fault) = tt
-bad_ends Fine = tt
-bad_ends Absent = tt
-bad_ends (Built report) = tt
-bad_ends (Marked paths) = tt
-bad_ends Unlisted = tt
-bad_ends Silent = tt
-
-counted_quiet : (counts : Counts) (source output : ℕ) (reply : Reply) → source_faults reply ≡ 0 → output_faults reply ≡ 0 → counts.source_now ≤ source → counts.output_now ≤ output
-    → Counted (following counts source output) (reply ∷ [])
-counted_quiet counts source output reply none nothing source_later output_later = record {
-  source = omega (arith, none, source_later);
-  output = omega (arith, nothing, output_later);
-}
+bad_ends reply = by (outcome reply)
+  where
+    by : Outcome reply → IfSome (bad_status reply) EndsSession
+    by (Goes is) = subst (λ (r : Option Status). IfSome r EndsSession) (sym is) tt
+    by (Ends bad kind is) = subst (λ (r : Reply). IfSome (bad_status r) EndsSession) (sym is) tt
 
 -- what reading a line told
 abbrev Reads : ℕ → Option (List ℕ) → Option (List ℕ) → Line → Type 0
@@ -188,12 +227,16 @@ module _ (given : Given) (first : Standing) (text before : List ℕ) (now : Stan
   is_length : length so.lines ≡ 0 + length so.lines
   is_length = omega arith
 
-  longer : (new : Standing) (reply : Reply) (after' : Option (List ℕ)) (told' : Option Files) → IsRead at → Answers given now number at reply new → after' ≡ Some ((before ++ written given.why so.replies) ++ reply_bytes given.why reply) → Holds told' new.belief given.output
-      → Counted (following counts source output) (reply ∷ [])
+  longer : (new : Standing) (reply : Reply) (after' : Option (List ℕ)) (told' : Option Files) → IsRead at → ends at ≡ false → bad_status reply ≡ None → Answers given now number at reply new
+      → after' ≡ Some ((before ++ written given.why so.replies) ++ reply_bytes given.why reply) → Holds told' new.belief given.output → Counted (following counts source output) (reply ∷ [])
       → Going given first text before (so.lines ++ at ∷ []) (so.replies ++ reply ∷ []) new (next_of so.lines so.left).1 after' told' (moved counts source output)
-  longer new reply after' told' read answers bytes holds more = record {
-    taken = taken_more 0 (length so.lines) text so.lines so.left at is_length so.going.taken (is_next read).0;
-    run = run_more given first now new 0 (length so.lines) so.lines so.replies at reply is_length so.going.run (subst (λ (n : ℕ). Answers given now n at reply new) numbered answers);
+  longer new reply after' told' read on good answers bytes holds more = record {
+    gone = record {
+      taken = taken_more 0 (length so.lines) text so.lines so.left at is_length so.going.gone.taken (is_next read).0;
+      run = run_more given first now new 0 (length so.lines) so.lines so.replies at reply is_length so.going.gone.run (subst (λ (n : ℕ). Answers given now n at reply new) numbered answers);
+      none_ends = All-push (λ (l : Line). ends l ≡ false) so.lines at so.going.gone.none_ends on;
+      none_bad = All-push (λ (r : Reply). bad_status r ≡ None) so.replies reply so.going.gone.none_bad good;
+    };
     bytes = bytes ∙ ap Some (append_assoc before (written given.why so.replies) (reply_bytes given.why reply)) ∙ ap (λ b. Some (before ++ b)) (sym (written_more given.why so.replies reply));
     output = holds;
     counted = counted_more counts source output so.replies reply so.going.counted more;
@@ -208,7 +251,7 @@ module _ (given : Given) (first : Standing) (text before : List ℕ) (now : Stan
         lines = so.lines ++ at ∷ [];
         replies = so.replies ++ g.1.0 ∷ [];
         left = (next_of so.lines so.left).1;
-        going = longer new g.1.0 after' told' read g.1.1 g.1.2 holds g.1.3;
+        going = longer new g.1.0 after' told' read g.0 g.1.1 g.1.2 g.1.3 holds g.1.4;
         unread_is = (is_next read).1 (good_line at g.0);
         number_is = (let more : length (so.lines ++ at ∷ []) ≡ length so.lines + 1 = length-append so.lines (at ∷ []) in omega (arith, numbered));
       }
@@ -217,18 +260,27 @@ module _ (given : Given) (first : Standing) (text before : List ℕ) (now : Stan
   still = counted_later counts source output so.replies so.going.counted source_later output_later
 
   same_going : (after' : Option (List ℕ)) (told' : Option Files) → after' ≡ Some (before ++ written given.why so.replies) → Holds told' now.belief given.output → Going given first text before so.lines so.replies now so.left after' told' (moved counts source output)
-  same_going after' told' bytes holds = record { taken = so.going.taken; run = so.going.run; bytes = bytes; output = holds; counted = still }
+  same_going after' told' bytes holds = record { gone = so.going.gone; bytes = bytes; output = holds; counted = still }
 
   cut_at : (part : List ℕ) (after' : Option (List ℕ)) (told' : Option Files) (s : Status) → Stopped given now (line_number (length so.lines)) (next_of so.lines so.left).0 told' part → after' ≡ Some ((before ++ written given.why so.replies) ++ part) → IsCut s part
       → SessionRun given first text before rest after' told' (moved counts source output) s
   cut_at part after' told' s stopped bytes cut =
-      AtLine so.lines so.replies now so.left part so.going.taken so.going.run stopped (bytes ∙ ap Some (append_assoc before (written given.why so.replies) part)) still cut
+      AtLine so.lines so.replies now so.left part so.going.gone stopped (bytes ∙ ap Some (append_assoc before (written given.why so.replies) part)) still cut
 
   halted : (after' : Option (List ℕ)) (told' : Option Files) (s : Status) → Halted given now number at (before ++ written given.why so.replies) after' told' s → SessionRun given first text before rest after' told' (moved counts source output) s
   halted after' told' s (inl h) =
       cut_at [] after' told' s (inl (h.2.1, refl)) (h.2.0 ∙ ap Some (sym (append-nil (before ++ written given.why so.replies)))) (record { cases = inr h.1; memory = λ _. refl })
   halted after' told' s (inr h) =
       cut_at h.1.0 after' told' s (subst (λ (l : Line). Stopped given now (line_number (length so.lines)) l told' h.1.0) (sym (is_next h.0).0) (subst (λ (n : ℕ). Stopped given now n at told' h.1.0) numbered h.1.1)) h.1.2 h.1.3
+
+  bad_at : (after' : Option (List ℕ)) (told' : Option Files) (bad : ℕ) (kind : ScriptKind) {new : Standing} → IsRead at → new ≡ now → Answers given now number at (BadLine bad kind) new
+      → after' ≡ Some ((before ++ written given.why so.replies) ++ reply_bytes given.why (BadLine bad kind)) → Holds told' new.belief given.output
+      → SessionRun given first text before rest after' told' (moved counts source output) (status.Script bad kind)
+  bad_at after' told' bad kind read same answers bytes holds =
+      let here = subst (λ (s : Standing). Answers given now number at (BadLine bad kind) s) same answers in
+      let counted_here = subst (λ (n : ℕ). Answers given now n at (BadLine bad kind) now) numbered here in
+      AtBad so.lines so.replies now so.left bad kind so.going.gone (subst (λ (l : Line). Answers given now (line_number (length so.lines)) l (BadLine bad kind) now) (sym (is_next read).0) counted_here)
+      (bytes ∙ ap Some (append_assoc before (written given.why so.replies) (reply_bytes given.why (BadLine bad kind)))) (subst (λ (s : Standing). Holds told' s.belief given.output) same holds) still refl
 
   pub session_ends : (new : Standing) (after' : Option (List ℕ)) (told' : Option Files) (s : Status) → ((w : List ℕ) → after ≡ Some w → EndsAt given now number at w new after' told' s)
       → SessionRun given first text before rest after' told' (moved counts source output) s
@@ -249,7 +301,7 @@ module _ (given : Given) (first : Standing) (text before : List ℕ) (now : Stan
       by : (s : Status) → EndsAt given now number at (before ++ written given.why so.replies) new after' told' s → SessionRun given first text before rest after' told' (moved counts source output) s
       by status.Done e = AtEnd so.lines so.replies now so.left (same_going after' told' e.1.0 e.1.1) (next_is e.0 (is_next (read_of e.0)).0) ((is_next (read_of e.0)).1 (good_end e.0)) refl
       by status.InputFault e = AtInput so.lines so.replies now so.left (same_going after' told' e.1.0 e.1.1) refl
-      by (status.Script bad kind) e = AtBad (so.lines ++ at ∷ []) so.replies new (next_of so.lines so.left).1 bad kind (longer new (BadLine bad kind) after' told' e.0 e.1 e.2 e.3 (counted_quiet counts source output (BadLine bad kind) refl refl source_later output_later)) refl
+      by (status.Script bad kind) e = bad_at after' told' bad kind e.0 (bad_same given now new number at bad kind e.1) e.1 e.2 e.3
       by status.SinkFault e = halted after' told' status.SinkFault e
       by status.Memory e = halted after' told' status.Memory e
       by (status.Site fault) e = absurd e
@@ -257,9 +309,13 @@ module _ (given : Given) (first : Standing) (text before : List ℕ) (now : Stan
       by status.SourceFault e = absurd e
       by (status.OutFault count) e = absurd e
 
+-- before the first line
+pub gone_none : (given : Given) (first : Standing) (text : List ℕ) → Gone given first text [] [] first text
+gone_none given first text = record { taken = refl; run = refl; none_ends = All-nil (λ (l : Line). ends l ≡ false); none_bad = All-nil (λ (r : Reply). bad_status r ≡ None) }
+
 -- a session that came to nothing, for want of memory
 pub session_none : (given : Given) (first : Standing) (text before : List ℕ) (unread after : Option (List ℕ)) (told : Option Files) (source output : ℕ) (s : Status)
     → Holds told first.belief given.output → after ≡ Some before → s ≡ status.Memory
     → SessionRun given first text before unread after told (record { source_first = source; source_now = source; output_first = output; output_now = output }) s
 session_none given first text before unread after told source output s holds bytes ends =
-    AtLine [] [] first text [] refl refl (inl (holds, refl)) (bytes ∙ ap Some (sym (append-nil before))) (counted_none source output) (record { cases = inr ends; memory = λ _. refl })
+    AtLine [] [] first text [] (gone_none given first text) (inl (holds, refl)) (bytes ∙ ap Some (sym (append-nil before))) (counted_none source output) (record { cases = inr ends; memory = λ _. refl })

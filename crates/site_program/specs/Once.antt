@@ -1,5 +1,5 @@
 -- When each status of one build from nothing comes, what the output then has, and what the sink then took.
-use Rattle.std.specs.Prelude.{◌≡◌, ◌⊎◌, ℕ, ℤ, List, [], ◌∷◌, ◌++◌, length, Option, Some, None, Result, Ok, Err}
+use Rattle.std.specs.Prelude.{◌≡◌, ◌⊎◌, ℕ, ℤ, List, [], ◌∷◌, ◌++◌, length, Option, Some, None, Result, Ok}
 use Rattle.std.specs.Option.{option_or}
 use Rattle.std.specs.FinMap.{entries, len}
 use Rattle.site_base.specs.Places.{Files}

@@ -1,5 +1,5 @@
 -- Whole runs of a session, and runs that are cut short.
-use Rattle.std.specs.Prelude.{◌≡◌, ◌⊎◌, ℕ, ◌+◌, List, [], ◌∷◌, ◌++◌, length, take, Option, Some}
+use Rattle.std.specs.Prelude.{◌≡◌, ◌⊎◌, ℕ, List, [], ◌∷◌, ◌++◌, length, take, Option, Some}
 use Rattle.site_base.specs.Places.{Files}
 use Rattle.site_script.specs.Line.{line_number}
 use Rattle.site_script.specs.declared.line.Line.{Line}
@@ -7,7 +7,7 @@ use Rattle.site_script.specs.declared.line.Line.TheVariants as line
 use Rattle.site_session.specs.Standing.{Standing, Holds}
 use Rattle.site_session.specs.Session.{Given, Answers, Run}
 use Rattle.site_session.specs.declared.reply.Reply.{Reply}
-use Rattle.site_session.specs.declared.reply.Reply.TheVariants.{Scanned, ScanFault, Faulty, Fine, Absent, Built, Marked, Unlisted, BadLine, Silent}
+use Rattle.site_session.specs.declared.reply.Reply.TheVariants.{Scanned, ScanFault, Faulty, Marked, Unlisted}
 use Rattle.site_session.specs.Bytes.{reply_bytes, written}
 use Rattle.site_program.specs.declared.status.Status.{Status}
 use Rattle.site_program.specs.declared.status.Status.TheVariants.{Done, Site, Usage, SourceFault, OutFault, InputFault, SinkFault, Script, Memory}
@@ -29,12 +29,7 @@ reply_status (Faulty fault) = Site fault
 reply_status ScanFault = SourceFault
 reply_status (Marked paths) = OutFault (length paths)
 reply_status Unlisted = OutFault 0
-reply_status (Scanned count) = Done
-reply_status Fine = Done
-reply_status Absent = Done
-reply_status (Built report) = Done
-reply_status (BadLine number kind) = Done
-reply_status Silent = Done
+reply_status _ = Done
 
 -- a line that was not done, or done without its whole reply: what is believed before it, or after it, is true of the output
 abbrev pub Stopped : Given → Standing → ℕ → Line → Option Files → List ℕ → Type 0
@@ -42,15 +37,19 @@ Stopped given old number line told part =
     (Holds told old.belief given.output × (part ≡ []))
     ⊎ ((reply : Reply) × (new : Standing) × (k : ℕ) × Answers given old number line reply new × Holds told new.belief given.output × (part ≡ take k (reply_bytes given.why reply)))
 
--- these lines were done and their replies taken, and at the next the run was cut short
-pub record Cut (given : Given) (first : Standing) (lines : List Line) (before : List ℕ) (after : Option (List ℕ)) (told : Option Files) : Type 0 where
+-- the script of one build from nothing, which is as long as the replies tell: the build follows where the scan answers a number
+abbrev pub once_lines : List Reply → List Line
+once_lines (Scanned count ∷ replies) = line.Scan ∷ line.Build ∷ []
+once_lines _ = line.Scan ∷ []
+
+-- lines of the script of one build were done and their replies taken, and at the next the run was cut short
+pub record Cut (given : Given) (first : Standing) (before : List ℕ) (after : Option (List ℕ)) (told : Option Files) : Type 0 where
   pub done : List Line
   pub next : Line
-  pub left : List Line
   pub replies : List Reply
   pub mid : Standing
   pub part : List ℕ
-  pub whole : lines ≡ done ++ next ∷ left
+  pub whole : once_lines replies ≡ done ++ next ∷ []
   pub run : Run given first 0 done replies mid
   pub stopped : Stopped given mid (line_number (length done)) next told part
   pub bytes : after ≡ Some (before ++ (written given.why replies ++ part))
@@ -59,20 +58,6 @@ pub record Cut (given : Given) (first : Standing) (lines : List Line) (before : 
 pub record IsCut (status : Status) (part : List ℕ) : Type 0 where
   pub cases : (status ≡ SinkFault) ⊎ (status ≡ Memory)
   pub memory : status ≡ Memory → part ≡ []
-
--- the script of one build from nothing: the build is left out where the scan answers no number
-abbrev pub once_lines : List Reply → List Line
-once_lines [] = line.Scan ∷ []
-once_lines (Scanned count ∷ replies) = line.Scan ∷ line.Build ∷ []
-once_lines (ScanFault ∷ replies) = line.Scan ∷ []
-once_lines (Faulty fault ∷ replies) = line.Scan ∷ []
-once_lines (Fine ∷ replies) = line.Scan ∷ []
-once_lines (Absent ∷ replies) = line.Scan ∷ []
-once_lines (Built report ∷ replies) = line.Scan ∷ []
-once_lines (Marked paths ∷ replies) = line.Scan ∷ []
-once_lines (Unlisted ∷ replies) = line.Scan ∷ []
-once_lines (BadLine number kind ∷ replies) = line.Scan ∷ []
-once_lines (Silent ∷ replies) = line.Scan ∷ []
 
 -- the status of the last reply
 abbrev pub once_status : List Reply → Status
@@ -91,4 +76,4 @@ pub record OnceWhole (given : Given) (first : Standing) (before : List ℕ) (aft
 
 pub data OnceRun (given : Given) (first : Standing) (before : List ℕ) (after : Option (List ℕ)) (told : Option Files) (status : Status) : Type 0 where
   Whole : OnceWhole given first before after told status → OnceRun given first before after told status
-  CutShort : (cut : Cut given first (line.Scan ∷ line.Build ∷ []) before after told) → IsCut status cut.part → OnceRun given first before after told status
+  CutShort : (cut : Cut given first before after told) → IsCut status cut.part → OnceRun given first before after told status

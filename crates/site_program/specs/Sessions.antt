@@ -1,5 +1,5 @@
 -- Whole runs of a session over the bytes of a script, and how they end.
-use Rattle.std.specs.Prelude.{◌≡◌, ◌⊎◌, ℕ, ◌+◌, ◌-◌, ◌^◌, ◌≤◌, min, sum_by, false, List, [], ◌∷◌, ◌++◌, length, Option, Some, None}
+use Rattle.std.specs.Prelude.{◌≡◌, ◌⊎◌, All, ℕ, ◌+◌, ◌-◌, ◌^◌, ◌≤◌, min, sum_by, false, List, [], ◌∷◌, ◌++◌, length, Option, Some, None}
 use Rattle.site_base.specs.Places.{Files}
 use Rattle.site_script.specs.Line.{line_number, ends}
 use Rattle.site_script.specs.Script.{Taken, first_line}
@@ -9,11 +9,16 @@ use Rattle.site_script.specs.declared.line.Line.TheVariants as line
 use Rattle.site_session.specs.Standing.{Standing, Holds}
 use Rattle.site_session.specs.Session.{Given, Answers, Run, source_faults, output_faults}
 use Rattle.site_session.specs.declared.reply.Reply.{Reply}
-use Rattle.site_session.specs.declared.reply.Reply.TheVariants.{Scanned, ScanFault, Faulty, Fine, Absent, Built, Marked, Unlisted, BadLine, Silent}
+use Rattle.site_session.specs.declared.reply.Reply.TheVariants.{BadLine}
 use Rattle.site_session.specs.Bytes.{reply_bytes, written}
 use Rattle.site_program.specs.Runs.{Stopped, IsCut}
 use Rattle.site_program.specs.declared.status.Status.{Status}
 use Rattle.site_program.specs.declared.status.Status.TheVariants.{Done, Site, Usage, SourceFault, OutFault, SinkFault, InputFault, Script, Memory}
+
+-- a bad line ends the session
+abbrev pub bad_status : Reply → Option Status
+bad_status (BadLine number kind) = Some (Script number kind)
+bad_status _ = None
 
 -- how often the source and the output had failed before a run, and have now
 pub record Counts : Type 0 where
@@ -27,10 +32,17 @@ pub record Counted (counts : Counts) (replies : List Reply) : Type 0 where
   pub source : min (counts.source_first + sum_by source_faults replies) (2 ^ 64 - 1) ≤ counts.source_now
   pub output : min (counts.output_first + sum_by output_faults replies) (2 ^ 64 - 1) ≤ counts.output_now
 
--- of this text these lines were taken and done, and their replies written; this is left of it
-pub record Going (given : Given) (first : Standing) (text before : List ℕ) (lines : List Line) (replies : List Reply) (now : Standing) (left : List ℕ) (after : Option (List ℕ)) (told : Option Files) (counts : Counts) : Type 0 where
+-- of this text these lines were taken and done, with these replies, and this is left of it; none of the lines ends the script,
+-- and no reply is that of a bad line
+pub record Gone (given : Given) (first : Standing) (text : List ℕ) (lines : List Line) (replies : List Reply) (now : Standing) (left : List ℕ) : Type 0 where
   pub taken : Taken 0 text lines left
   pub run : Run given first 0 lines replies now
+  pub none_ends : All (λ at. ends at ≡ false) lines
+  pub none_bad : All (λ reply. bad_status reply ≡ None) replies
+
+-- the same, with all replies written
+pub record Going (given : Given) (first : Standing) (text before : List ℕ) (lines : List Line) (replies : List Reply) (now : Standing) (left : List ℕ) (after : Option (List ℕ)) (told : Option Files) (counts : Counts) : Type 0 where
+  pub gone : Gone given first text lines replies now left
   pub bytes : after ≡ Some (before ++ written given.why replies)
   pub output : Holds told now.belief given.output
   pub counted : Counted counts replies
@@ -45,15 +57,16 @@ pub data SessionRun (given : Given) (first : Standing) (text before : List ℕ) 
   AtEnd : (lines : List Line) (replies : List Reply) (last : Standing) (left : List ℕ) → Going given first text before lines replies last left after told counts
       → ((next_of lines left).0 ≡ line.End) ⊎ ((next_of lines left).0 ≡ line.Eof) → unread ≡ Some (next_of lines left).1 → status ≡ Done
       → SessionRun given first text before unread after told counts status
-  -- at a bad line, which changed nothing
-  AtBad : (lines : List Line) (replies : List Reply) (last : Standing) (left : List ℕ) (number : ℕ) (kind : ScriptKind)
-      → Going given first text before lines (replies ++ BadLine number kind ∷ []) last left after told counts
+  -- at the first bad line, which changed nothing and whose reply was written
+  AtBad : (lines : List Line) (replies : List Reply) (last : Standing) (left : List ℕ) (number : ℕ) (kind : ScriptKind) → Gone given first text lines replies last left
+      → Answers given last (line_number (length lines)) (next_of lines left).0 (BadLine number kind) last
+      → after ≡ Some (before ++ (written given.why replies ++ reply_bytes given.why (BadLine number kind))) → Holds told last.belief given.output → Counted counts replies
       → status ≡ Script number kind → SessionRun given first text before unread after told counts status
   -- the input failed, and the lines taken whole before it were done
   AtInput : (lines : List Line) (replies : List Reply) (last : Standing) (left : List ℕ) → Going given first text before lines replies last left after told counts
       → status ≡ InputFault → SessionRun given first text before unread after told counts status
   -- the sink failed, or memory was wanting, at the line that came next
-  AtLine : (lines : List Line) (replies : List Reply) (mid : Standing) (left part : List ℕ) → Taken 0 text lines left → Run given first 0 lines replies mid
+  AtLine : (lines : List Line) (replies : List Reply) (mid : Standing) (left part : List ℕ) → Gone given first text lines replies mid left
       → Stopped given mid (line_number (length lines)) (next_of lines left).0 told part → after ≡ Some (before ++ (written given.why replies ++ part))
       → Counted counts replies → IsCut status part
       → SessionRun given first text before unread after told counts status
@@ -94,23 +107,10 @@ EndsAt given old number at before new after told (Usage kind) = ⊥
 EndsAt given old number at before new after told SourceFault = ⊥
 EndsAt given old number at before new after told (OutFault count) = ⊥
 
--- a line after which the session goes on; the counts are those before and after this line
+-- a line after which the session goes on, as neither it nor its reply ends it; the counts are those before and after this line
 abbrev pub GoesOn : Given → Standing → ℕ → Line → List ℕ → Standing → Option (List ℕ) → Counts → Type 0
 GoesOn given old number at before new after counts =
-    (ends at ≡ false) × ((reply : Reply) × Answers given old number at reply new × (after ≡ Some (before ++ reply_bytes given.why reply)) × Counted counts (reply ∷ []))
-
--- a bad line ends the session
-abbrev pub bad_status : Reply → Option Status
-bad_status (BadLine number kind) = Some (Script number kind)
-bad_status (Scanned count) = None
-bad_status ScanFault = None
-bad_status (Faulty fault) = None
-bad_status Fine = None
-bad_status Absent = None
-bad_status (Built report) = None
-bad_status (Marked paths) = None
-bad_status Unlisted = None
-bad_status Silent = None
+    (ends at ≡ false) × ((reply : Reply) × (bad_status reply ≡ None) × Answers given old number at reply new × (after ≡ Some (before ++ reply_bytes given.why reply)) × Counted counts (reply ∷ []))
 
 -- a session blames neither source nor output in its status
 abbrev pub EndsSession : Status → Type 0

@@ -9,7 +9,7 @@ ghost use Rattle.site_words.specs.declared.faults.UsageKind.{UsageKind};
 ghost use Rattle.site_words.specs.declared.orders.Options.{Options};
 ghost use Rattle.site_words.specs.declared.orders.Order.TheVariants as order;
 ghost use Rattle.site_program.specs.Runs.{OnceRun};
-ghost use Rattle.site_program.specs.Once.{after_scan, jobs_order, Took, WasUsage, Ended};
+ghost use Rattle.site_program.specs.Once.{after_scan, jobs_order, Took, Untouched, WasUsage, Ended};
 ghost use Rattle.site_program.specs.Sessions.{SessionRun, EndsAt, GoesOn, EndsSession, bad_status};
 ghost use Rattle.site_program.specs.Usage.{usage_line};
 
@@ -59,9 +59,11 @@ pub fn run_jobs<H: Wait, S: SourceTree, O: OutTree, I: ByteSource, K: ByteSink>(
     ensures build_run { (given : Given) (options : Options) (before : List ℕ) → jobs_order words.now moment ≡ Ok (order.Build options) → given.why ≡ options.why →
         S.files source.old ≡ Some given.source → O.contents out.old ≡ Some given.output → K.taken sink.old ≡ Some before →
         OnceRun given (start options.settings moment) before (K.taken sink.new) (O.contents out.new) result }
-    ensures build_input { (options : Options) → jobs_order words.now moment ≡ Ok (order.Build options) → input.new ≡ input.old }
 
-    // Whatever the ends tell: the words alone decide about Usage.
+    // Whatever the ends tell: a build leaves the input alone, and the output too where it did not come to build,
+    ensures build_input { (options : Options) → jobs_order words.now moment ≡ Ok (order.Build options) → input.new ≡ input.old }
+    ensures build_untouched { (options : Options) → jobs_order words.now moment ≡ Ok (order.Build options) → Untouched result → out.new ≡ out.old }
+    // and the words alone decide about Usage.
     ensures usage { (kind : UsageKind) → jobs_order words.now moment ≡ Err kind → WasUsage kind result }
     ensures usage_took { (kind : UsageKind) (before : List ℕ) → K.taken sink.old ≡ Some before → result ≡ Status.Usage kind →
         K.taken sink.new ≡ Some (before ++ usage_line kind) }

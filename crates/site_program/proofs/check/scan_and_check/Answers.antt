@@ -3,7 +3,7 @@ use Rattle.std.specs.Prelude.{false}
 use Rattle.site_session.specs.Bytes.{reply_bytes}
 use Rattle.site_session.specs.Full.{fault_of}
 use Rattle.site_session.specs.Replies.{scan_reply}
-use Rattle.site_session.specs.Session.{Given, full_now, start}
+use Rattle.site_session.specs.Session.{full_now, start}
 use Rattle.site_session.specs.Standing.{Standing}
 use Rattle.site_session.specs.declared.reply.Reply.TheVariants.{Scanned, Faulty}
 use Rattle.site_program.specs.Checks.{EndsAs, SaidBoth, verdict, verdict_status}

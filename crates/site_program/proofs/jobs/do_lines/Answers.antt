@@ -1,9 +1,8 @@
-use Rattle.std.proofs.Common.{◌≡◌, ◌∙◌, ◌≤◌, ap, sym, subst, refl, Some, List, ℕ, [], ◌++◌, rules, arith}
+use Rattle.std.proofs.Common.{◌∙◌, ap, sym, subst, refl, Some, ℕ, [], arith}
 use Rattle.std.proofs.lemmas.List.{append-nil}
 use Rattle.site_script.specs.Reader.{ReaderState}
-use Rattle.site_session.specs.Session.{Given}
-use Rattle.site_program.specs.Sessions.{Counts, SoFar, SessionRun}
-use Rattle.site_program.proofs.Turns.{moved, session_more, session_ends, counted_none}
+use Rattle.site_program.specs.Sessions.{Counts, SoFar}
+use Rattle.site_program.proofs.Turns.{moved, session_more, session_ends, gone_none, counted_none}
 use Rattle.site_program.proofs.jobs.do_lines.Goals as goal
 
 pub lines-init : goal.lines-init
@@ -19,8 +18,7 @@ lines-init g c = record {
       replies = [];
       left = text;
       going = record {
-        taken = refl;
-        run = refl;
+        gone = gone_none given c.args.session.now text;
         bytes = w ∙ ap Some (sym (append-nil before));
         output = out;
         counted = counted_none _ _;

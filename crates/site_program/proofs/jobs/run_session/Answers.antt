@@ -1,6 +1,6 @@
 use Rattle.std.proofs.Common.{◌≡◌, ap, subst, rules}
 use Rattle.site_session.specs.Standing.{Standing}
-use Rattle.site_session.specs.Session.{Given, start}
+use Rattle.site_session.specs.Session.{start}
 use Rattle.site_program.specs.Sessions.{Counts, SessionRun}
 use Rattle.site_program.proofs.Onces.{holds_first}
 use Rattle.site_program.proofs.jobs.run_session.Goals as goal

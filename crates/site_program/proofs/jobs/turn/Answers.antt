@@ -1,10 +1,9 @@
-use Rattle.std.proofs.Common.{◌≡◌, ◌∙◌, ◌++◌, ap, subst, sym, Option, Some, List, ℕ, rules}
+use Rattle.std.proofs.Common.{◌∙◌, ◌++◌, ap, subst, sym, Option, Some}
 use Rattle.site_session.specs.Bytes.{reply_bytes}
 use Rattle.std.specs.Option.{IfNone, IfSome}
-use Rattle.site_session.specs.Session.{Given}
 use Rattle.site_program.specs.Sessions.{Counts, GoesOn, EndsAt, EndsSession}
 use Rattle.site_program.specs.declared.status.Status.{Status}
-use Rattle.site_program.proofs.Turns.{Turned, turned, halts, counted_one, bad_ends}
+use Rattle.site_program.proofs.Turns.{turned, halts, counted_one, bad_ends}
 use Rattle.site_program.proofs.jobs.turn.Goals as goal
 
 pub returns-in-Ok-clause-next : goal.returns-in-Ok-clause-next

@@ -1,4 +1,4 @@
-use Rattle.std.proofs.Common.{◌≡◌, refl, subst}
+use Rattle.std.proofs.Common.{refl, subst}
 use Rattle.std.proofs.Math.Facts.{to_z-of_z}
 use Rattle.site_session.specs.Session.{start}
 use Rattle.site_session.specs.Standing.{Standing}

@@ -1,10 +1,9 @@
-use Rattle.std.proofs.Common.{◌≡◌, ◌⊎◌, ◌∙◌, ◌++◌, ◌∷◌, ◌+◌, ◌-◌, ◌^◌, ◌≤◌, min, max, [], ap, sym, refl, subst, Some, None, Err, List, ℕ, arith, rules, append_assoc}
+use Rattle.std.proofs.Common.{◌≡◌, ◌∙◌, ◌++◌, ◌+◌, ◌-◌, ◌^◌, ◌≤◌, min, ap, sym, subst, Some, ℕ, arith, rules, append_assoc}
 use Rattle.site_script.specs.declared.line.Line.TheVariants as line
-use Rattle.site_session.specs.Standing.{Standing, Holds}
+use Rattle.site_session.specs.Standing.{Standing}
 use Rattle.site_session.specs.Bytes.{reply_bytes}
-use Rattle.site_session.specs.Session.{Given, Answers, start}
+use Rattle.site_session.specs.Session.{Answers, start}
 use Rattle.site_session.specs.Replies.{has_called_output}
-use Rattle.site_program.specs.Runs.{IsCut, reply_status}
 use Rattle.site_program.specs.Once.{after_scan, Ended, Took, Untouched}
 use Rattle.site_program.proofs.Cases.{one_tells, two_tells, untouched_quiet, out_rose, source_rose}
 use Rattle.site_program.proofs.Onces.{holds_first, whole_one, whole_two, cut_one, cut_two}
@@ -108,6 +107,6 @@ returns-clause-run g c = λ given before why told out w.
     let h1 = c.do_line.ensures.belief given.output h in
     let told1 = c.do_line.ensures.source_same ∙ told in
     let s = c.in-Err-do_line.ensures.stopped given (before ++ reply_bytes c.args.why c.in-Ok.scanned) why told1 h1 (c.in-Ok.ensures.bytes before w) in
-    cut_two given (start c.args.settings c.args.moment) c.do_line.new.session before s.0 _ _ _ c.in-Ok.scanned
+    cut_two given (start c.args.settings c.args.moment) c.do_line.new.session before s.0 _ _ _ c.in-Ok.scanned _ c.in-Scanned.is
     (subst (λ (s : Standing). Answers given s 1 line.Scan c.in-Ok.scanned c.do_line.new.session) opened (c.in-Ok.ensures.answers given told h))
     s.1 (s.2 ∙ ap (λ b. Some ((before ++ reply_bytes b c.in-Ok.scanned) ++ s.0)) (sym why)) (record { cases = c.status-in-Err-do_line.ensures.cases; memory = λ e. s.3 (c.status-in-Err-do_line.ensures.memory e) })
