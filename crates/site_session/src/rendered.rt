@@ -1,10 +1,11 @@
 // The items of a site, rendered one after another.
-ghost use Rattle.std.specs.Prelude.{◌≡◌, ◌<◌, IfOk, IfSome, MatchResult, Ok, length, map, slice_get};
+ghost use Rattle.std.specs.Prelude.{◌≡◌, ◌<◌, ◌≤◌, IfSome, MatchResult, Ok, length, map, slice_get};
 ghost use Rattle.site_reader.specs.Found.{IsFirst};
 ghost use Rattle.site_session.specs.Full.{made, made_by, rendered, seen};
+ghost use Rattle.source_tree.specs.Limits.{most_files};
 
 use page_render::{Outcome, render_thin};
-use site_base::{Memory, SharedBytes};
+use site_base::SharedBytes;
 use site_reader::{Site, SiteError, SiteItem};
 use std::alloc::Global;
 
@@ -20,24 +21,23 @@ pub(crate) fn render_items<'a>(
     alloc: Global,
     site: &'a Site,
 ) -> Result<Vec<Rendered<'a>>, SiteError>
+    requires { length site.now.items ≤ most_files }
     ensures { let found = rendered site.entry.now in
         MatchResult result (λ items. found ≡ Ok (map seen items.items)) (IsFirst found) }
 {
     let mut items = Vec::new(alloc);
-    for place in 0..count(site)? {
+    for place in 0..count(site) {
         items.push(rendered_at(alloc, site, place)?)?;
     }
     Ok(items)
 }
 
-/// How many items there are. Each is of a held file, so their number fits.
-pub(crate) fn count(site: &Site) -> Result<u32, Memory>
-    ensures { IfOk result (λ count. count ≡ length site.now.items) }
+/// How many items there are: no more than files that may be held.
+pub(crate) fn count(site: &Site) -> u32
+    requires { length site.now.items ≤ most_files }
+    ensures { result ≡ length site.now.items }
 {
-    match u32::try_from(site.items.len()) {
-        Ok(count) => Ok(count),
-        Err(_) => Err(Memory),
-    }
+    site.items.len() as u32
 }
 
 fn rendered_at<'a>(alloc: Global, site: &'a Site, place: u32) -> Result<Rendered<'a>, SiteError>
