@@ -1,6 +1,11 @@
+mod ConfigurationLaws
 mod DataLaws
+mod Differing
 mod EachLaws
+mod IncludeLaws
+mod ItemLaws
 mod LawfulSites
+mod LayoutLaws
 mod NeighbourLaws
 mod RisingLaws
 mod Weights

@@ -1,9 +1,10 @@
 -- What lists weigh, by a number for each element.
-use Rattle.std.proofs.Common.{◌≡◌, ℕ, ◌+◌, ◌≤◌, List, [], ◌∷◌, ◌++◌, length, map, Ok, Err, Less, Equal, Greater, Ordering, arith, refl, ap}
+use Rattle.std.proofs.Common.{subst, ◌≡◌, ℕ, ◌+◌, ◌≤◌, List, [], ◌∷◌, ◌++◌, length, map, Ok, Err, Less, Equal, Greater, Ordering, arith, refl, ap}
 use Rattle.std.specs.BTreeMap.{insert_entry}
 use Rattle.std.specs.Ordering.{match_ordering}
 use Rattle.std.specs.Result.{result_unwrap_or}
-use Rattle.site_reader.specs.Found.{Found, each, ◌>>◌}
+use Rattle.site_items.specs.Outcomes.{Outcome, ◌>>=◌}
+use Rattle.site_reader.specs.Found.{Found, each, in_file, ◌>>◌}
 
 abbrev pub weight : {A : Type 0} → (A → ℕ) → List A → ℕ
 weight w [] = 0
@@ -43,10 +44,21 @@ module _ {K V : Type 0} (cmp : K → K → Ordering) (w : K → ℕ) (k : K) (v 
 pub found_value : {A : Type 0} (x y : A) → ◌≡◌ {A = Found A} (Ok x) (Ok y) → x ≡ y
 found_value {A} x y e = ap (λ (r : Found A). result_unwrap_or r x) e
 
+pub outcome_value : {A : Type 0} (x y : A) → ◌≡◌ {A = Outcome A} (Ok x) (Ok y) → x ≡ y
+outcome_value {A} x y e = ap (λ (r : Outcome A). result_unwrap_or r x) e
+
 -- what is found at last was found of something found before
 pub found_before : {A B : Type 0} (found : Found A) (then : A → Found B) (last : B) → found >> then ≡ Ok last → (x : A) × (found ≡ Ok x) × (then x ≡ Ok last)
 found_before (Ok x) then last e = (x, refl, e)
 found_before (Err fault) then last e = absurd (cc (e))
+
+pub outcome_before : {A B : Type 0} (found : Outcome A) (then : A → Outcome B) (last : B) → found >>= then ≡ Ok last → (x : A) × (found ≡ Ok x) × (then x ≡ Ok last)
+outcome_before (Ok x) then last e = (x, refl, e)
+outcome_before (Err fault) then last e = absurd (cc (e))
+
+pub file_found : {A : Type 0} (path : List ℕ) (found : Outcome A) (x : A) → in_file path found ≡ Ok x → found ≡ Ok x
+file_found path (Ok y) x e = ap Ok (found_value y x e)
+file_found path (Err fault) x e = absurd (cc (e))
 
 -- where a file adds no more than it weighs, all of them do not
 module _ {F S : Type 0} (step : F → S → Found S) (size : S → ℕ) (w : F → ℕ) where
@@ -56,3 +68,12 @@ module _ {F S : Type 0} (step : F → S → Found S) (size : S → ℕ) (w : F �
   each_adds adds (f ∷ fs) made all e =
       let first = found_before (step f made) (each step fs) all e in
       omega (arith, adds f made first.0 first.1, each_adds adds fs first.0 all first.2)
+
+-- what each file keeps, all of them keep
+module _ {F S : Type 0} (step : F → S → Found S) (P : S → Type 0) where
+  pub each_keeps : ((f : F) (made more : S) → step f made ≡ Ok more → P made → P more) → (fs : List F) (made all : S) → each step fs made ≡ Ok all → P made → P all
+  unfolding each
+  each_keeps keeps [] made all e holds = subst P (found_value made all e) holds
+  each_keeps keeps (f ∷ fs) made all e holds =
+      let first = found_before (step f made) (each step fs) all e in
+      each_keeps keeps fs first.0 all first.2 (keeps f made first.0 first.1 holds)

@@ -1,8 +1,9 @@
 // What the held files stand for.
-ghost use Rattle.std.specs.Prelude.{◌≡◌, IfOk, MatchResult, Ok, map, true};
+ghost use Rattle.std.specs.Prelude.{◌≡◌, ◌≤◌, IfOk, MatchResult, Ok, length, map, true};
 ghost use Rattle.site_script.specs.Line.{is_moment};
 ghost use Rattle.site_reader.specs.Found.{IsFirst};
 ghost use Rattle.site_session.specs.Full.{fault_of, full, output_of, reason, seen, site_output};
+ghost use Rattle.source_tree.specs.Limits.{most_files};
 
 use crate::rendered::{Rendered, count, first_item_fault, render_items};
 use crate::tree::tree_of;
@@ -63,6 +64,7 @@ pub(crate) fn first_fault(
 }
 
 fn site_output(alloc: Global, held: &Held, site: &Site) -> Result<Output, SiteError>
+    requires { length site.now.items ≤ most_files }
     ensures { let found = site_output held.now site.now in
         MatchResult result (λ made. found ≡ Ok made) (IsFirst found) }
 {
@@ -73,11 +75,12 @@ fn site_output(alloc: Global, held: &Held, site: &Site) -> Result<Output, SiteEr
 }
 
 fn output_of(alloc: Global, held: &Held, site: &Site, items: &[Rendered]) -> Result<Output, Memory>
+    requires { length site.now.items ≤ most_files }
     ensures { IfOk result (λ made. made ≡ output_of held.now site.now (map seen items.entry.now)) }
 {
     Ok(Output {
         tree: tree_of(alloc, held, site, items)?,
-        rendered: count(site)?,
+        rendered: count(site),
         why: reasons(alloc, site.items.as_slice())?,
         keep: keep_list(alloc, &site.config.keep_files)?,
     })

@@ -1,7 +1,8 @@
 // The items of a site, rendered one after another.
-ghost use Rattle.std.specs.Prelude.{◌≡◌, ◌<◌, IfOk, IfSome, MatchResult, Ok, length, map, slice_get};
+ghost use Rattle.std.specs.Prelude.{◌≡◌, ◌<◌, ◌≤◌, IfOk, IfSome, MatchResult, Ok, length, map, slice_get};
 ghost use Rattle.site_reader.specs.Found.{IsFirst};
 ghost use Rattle.site_session.specs.Full.{fault_of, made, made_by, rendered, seen};
+ghost use Rattle.source_tree.specs.Limits.{most_files};
 
 use page_render::{Outcome, render_thin};
 use site_base::{Memory, SharedBytes, SiteFault};
@@ -20,11 +21,12 @@ pub(crate) fn render_items<'a>(
     alloc: Global,
     site: &'a Site,
 ) -> Result<Vec<Rendered<'a>>, SiteError>
+    requires { length site.now.items ≤ most_files }
     ensures { let found = rendered site.entry.now in
         MatchResult result (λ items. found ≡ Ok (map seen items.items)) (IsFirst found) }
 {
     let mut items = Vec::new(alloc);
-    for place in 0..count(site)? {
+    for place in 0..count(site) {
         items.push(rendered_at(alloc, site, place)?)?;
     }
     Ok(items)
@@ -32,9 +34,10 @@ pub(crate) fn render_items<'a>(
 
 /// The first fault of the items, rendered one after another in their order. No more than one output is held.
 pub(crate) fn first_item_fault(alloc: Global, site: &Site) -> Result<Option<SiteFault>, Memory>
+    requires { length site.now.items ≤ most_files }
     ensures { IfOk result (λ fault. fault ≡ fault_of (rendered site.entry.now)) }
 {
-    let count = count(site)?;
+    let count = count(site);
     for place in 0..count {
         if let Some(fault) = fault_at(alloc, site, place)? {
             return Ok(Some(fault));
@@ -53,14 +56,12 @@ fn fault_at(alloc: Global, site: &Site, place: u32) -> Result<Option<SiteFault>,
     }
 }
 
-/// How many items there are. Each is of a held file, so their number fits.
-pub(crate) fn count(site: &Site) -> Result<u32, Memory>
-    ensures { IfOk result (λ count. count ≡ length site.now.items) }
+/// How many items there are: no more than files that may be held.
+pub(crate) fn count(site: &Site) -> u32
+    requires { length site.now.items ≤ most_files }
+    ensures { result ≡ length site.now.items }
 {
-    match u32::try_from(site.items.len()) {
-        Ok(count) => Ok(count),
-        Err(_) => Err(Memory),
-    }
+    site.items.len() as u32
 }
 
 fn rendered_at<'a>(alloc: Global, site: &'a Site, place: u32) -> Result<Rendered<'a>, SiteError>

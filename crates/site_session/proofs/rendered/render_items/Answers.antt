@@ -5,7 +5,7 @@ use Rattle.site_session.proofs.rendered.render_items.Goals as goal
 
 pub returns-in_err-rendered_at : goal.returns-in_err-rendered_at
 returns-in_err-rendered_at c =
-    let e = err_from_is_err_and c.from_residual-in_err-rendered_at.result c.from_residual-in_err-rendered_at.ensures.1 in
+    let e = err_from_is_err_and c.from_residual.result c.from_residual.ensures.1 in
     rw (e.1, e.2) (one_fails c.args.site.now c.loop-place.place c.loop-place.items.items _ _ (search rules) c.in_err-rendered_at.ensures c.loop-place.invariant)
 
 pub loop-place-preserved : goal.loop-place-preserved
