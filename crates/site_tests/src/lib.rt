@@ -1,6 +1,12 @@
 //! Scenarios that cross the crates: whole runs over ends in memory, and over real folders.
 #![tactic(auto)]
 
+mod scenario;
+mod scenario_error;
+
+pub use scenario::{Ends, NEW_YEAR, Outcome, Scenario};
+pub use scenario_error::ScenarioError;
+
 #[cfg(test)]
 mod once;
 #[cfg(test)]
@@ -8,7 +14,7 @@ mod real;
 #[cfg(test)]
 mod rules;
 #[cfg(test)]
-mod run;
+mod seen;
 #[cfg(test)]
 mod sessions;
 #[cfg(test)]

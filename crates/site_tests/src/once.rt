@@ -1,28 +1,12 @@
 // Worked runs of `once`.
-use crate::run::{Given, MOMENT};
+use crate::scenario::{NEW_YEAR, Scenario};
+use crate::seen::comes_out;
 use site_program::Status;
 use site_words::UsageKind;
-use std::alloc::Global;
-use std::process::Abort;
+use std::str;
 use std::test::Fail;
 
 const PAGE: &str = "---\ntitle: Hi\n---\n<h1>{{ page.title }}</h1>\n";
-
-// Runs what is given, and looks at what comes of it: the status number, the replies, and the output's files.
-fn comes_out(
-    rt: &impl Abort,
-    alloc: Global,
-    given: Given<'_>,
-    status: u8,
-    replies: &str,
-    outputs: &[(&str, &str)],
-) -> Result<(), Fail> {
-    let outcome = given.run(alloc)?;
-    assert_eq!(rt; outcome.status.number(), status, "after {replies}");
-    assert_eq!(rt; outcome.replies.as_str(), replies);
-    assert!(rt; outcome.has(alloc, outputs)?, "after {replies}");
-    Ok(())
-}
 
 #[test]
 fn builds_and_refuses(rt: HostRuntime) -> Result<(), Fail> {
@@ -30,7 +14,7 @@ fn builds_and_refuses(rt: HostRuntime) -> Result<(), Fail> {
     comes_out(
         &rt,
         alloc,
-        Given::once(&[("index.html", PAGE)]),
+        Scenario::once(&[("index.html", PAGE)]),
         0,
         "scanned 1\nbuilt rendered=1 reused=0 written=1 removed=0\n",
         &[("index.html", "<h1>Hi</h1>\n")],
@@ -38,7 +22,7 @@ fn builds_and_refuses(rt: HostRuntime) -> Result<(), Fail> {
     comes_out(
         &rt,
         alloc,
-        Given::once(&[("index.html", PAGE), ("a.txt", "x")]),
+        Scenario::once(&[("index.html", PAGE), ("a.txt", "x")]),
         0,
         "scanned 2\nbuilt rendered=1 reused=0 written=2 removed=0\n",
         &[("a.txt", "x"), ("index.html", "<h1>Hi</h1>\n")],
@@ -47,9 +31,9 @@ fn builds_and_refuses(rt: HostRuntime) -> Result<(), Fail> {
     comes_out(
         &rt,
         alloc,
-        Given {
+        Scenario {
             outputs: &[("old.html", "old")],
-            ..Given::once(&[("a.md", "---\n---\nx")])
+            ..Scenario::once(&[("a.md", "---\n---\nx")])
         },
         1,
         "scanned 1\nfault F0 0 a.md\n",
@@ -59,9 +43,9 @@ fn builds_and_refuses(rt: HostRuntime) -> Result<(), Fail> {
     comes_out(
         &rt,
         alloc,
-        Given {
+        Scenario {
             outputs: &[(".git/HEAD", "ref"), ("old.html", "old")],
-            ..Given::once(&[])
+            ..Scenario::once(&[])
         },
         0,
         "scanned 0\nbuilt rendered=0 reused=0 written=0 removed=1\n",
@@ -71,10 +55,10 @@ fn builds_and_refuses(rt: HostRuntime) -> Result<(), Fail> {
     comes_out(
         &rt,
         alloc,
-        Given {
+        Scenario {
             outputs: &[("old.html", "old")],
             source_fails: &[1],
-            ..Given::once(&[("a.txt", "x")])
+            ..Scenario::once(&[("a.txt", "x")])
         },
         3,
         "scan-fault\n",
@@ -84,9 +68,9 @@ fn builds_and_refuses(rt: HostRuntime) -> Result<(), Fail> {
     comes_out(
         &rt,
         alloc,
-        Given {
+        Scenario {
             source_fails: &[3],
-            ..Given::once(&[("a.txt", "x"), ("b.txt", "y")])
+            ..Scenario::once(&[("a.txt", "x"), ("b.txt", "y")])
         },
         3,
         "scan-fault\n",
@@ -96,10 +80,10 @@ fn builds_and_refuses(rt: HostRuntime) -> Result<(), Fail> {
     comes_out(
         &rt,
         alloc,
-        Given {
+        Scenario {
             outputs: &[("old.html", "old")],
             output_fails: &[1],
-            ..Given::once(&[("a.txt", "x")])
+            ..Scenario::once(&[("a.txt", "x")])
         },
         4,
         "scanned 1\nout-fault 0\n",
@@ -109,9 +93,9 @@ fn builds_and_refuses(rt: HostRuntime) -> Result<(), Fail> {
     comes_out(
         &rt,
         alloc,
-        Given {
+        Scenario {
             output_fails: &[2],
-            ..Given::once(&[("p.html", "p"), ("q.html", "q")])
+            ..Scenario::once(&[("p.html", "p"), ("q.html", "q")])
         },
         4,
         "scanned 2\nout-fault 1\nmarked p.html\n",
@@ -121,10 +105,10 @@ fn builds_and_refuses(rt: HostRuntime) -> Result<(), Fail> {
     comes_out(
         &rt,
         alloc,
-        Given {
+        Scenario {
             outputs: &[("n.html", "n"), ("o.html", "o")],
             output_fails: &[2],
-            ..Given::once(&[("p.html", "p")])
+            ..Scenario::once(&[("p.html", "p")])
         },
         4,
         "scanned 1\nout-fault 1\nmarked n.html\n",
@@ -134,9 +118,9 @@ fn builds_and_refuses(rt: HostRuntime) -> Result<(), Fail> {
     comes_out(
         &rt,
         alloc,
-        Given {
+        Scenario {
             outputs: &[("a", "x")],
-            ..Given::once(&[("a/index.html", "y")])
+            ..Scenario::once(&[("a/index.html", "y")])
         },
         0,
         "scanned 1\nbuilt rendered=0 reused=0 written=1 removed=1\n",
@@ -146,9 +130,9 @@ fn builds_and_refuses(rt: HostRuntime) -> Result<(), Fail> {
     comes_out(
         &rt,
         alloc,
-        Given {
+        Scenario {
             sink_fails: &[1],
-            ..Given::once(&[("a.txt", "x")])
+            ..Scenario::once(&[("a.txt", "x")])
         },
         6,
         "",
@@ -157,9 +141,9 @@ fn builds_and_refuses(rt: HostRuntime) -> Result<(), Fail> {
     comes_out(
         &rt,
         alloc,
-        Given {
+        Scenario {
             sink_fails: &[2],
-            ..Given::once(&[("a.txt", "x")])
+            ..Scenario::once(&[("a.txt", "x")])
         },
         6,
         "scanned 1\n",
@@ -173,29 +157,39 @@ fn refuses_words(rt: HostRuntime) -> Result<(), Fail> {
     let alloc = rt.alloc();
     let site: &[(&str, &str)] = &[("a.txt", "x")];
     let rows: [(&[&str], i64, UsageKind, &str); 12] = [
-        (&[], MOMENT, UsageKind::Missing, "usage 1\n"),
-        (&["build"], MOMENT, UsageKind::Command, "usage 2\n"),
-        (&[""], MOMENT, UsageKind::Command, "usage 2\n"),
-        (&["Once"], MOMENT, UsageKind::Command, "usage 2\n"),
-        (&["build", "once"], MOMENT, UsageKind::Command, "usage 2\n"),
-        (&["make", "1", "2"], MOMENT, UsageKind::Command, "usage 2\n"),
+        (&[], NEW_YEAR, UsageKind::Missing, "usage 1\n"),
+        (&["build"], NEW_YEAR, UsageKind::Command, "usage 2\n"),
+        (&[""], NEW_YEAR, UsageKind::Command, "usage 2\n"),
+        (&["Once"], NEW_YEAR, UsageKind::Command, "usage 2\n"),
+        (
+            &["build", "once"],
+            NEW_YEAR,
+            UsageKind::Command,
+            "usage 2\n",
+        ),
+        (
+            &["make", "1", "2"],
+            NEW_YEAR,
+            UsageKind::Command,
+            "usage 2\n",
+        ),
         (&["once", "--why"], -1, UsageKind::Option, "usage 3\n"),
         (
             &["check", "--drafts", "--drafts"],
-            MOMENT,
+            NEW_YEAR,
             UsageKind::Option,
             "usage 3\n",
         ),
-        (&["once", "once"], MOMENT, UsageKind::Option, "usage 3\n"),
+        (&["once", "once"], NEW_YEAR, UsageKind::Option, "usage 3\n"),
         (&["once"], -1, UsageKind::Moment, "usage 5\n"),
         (&["check", "--future"], -1, UsageKind::Moment, "usage 5\n"),
         (&["once"], 253_402_214_400, UsageKind::Moment, "usage 5\n"),
     ];
     for (words, moment, kind, reply) in rows {
-        let given = Given {
+        let given = Scenario {
             words,
             moment,
-            ..Given::once(site)
+            ..Scenario::once(site)
         };
         let outcome = given.run(alloc)?;
         assert!(rt;
@@ -203,15 +197,18 @@ fn refuses_words(rt: HostRuntime) -> Result<(), Fail> {
             "{reply}"
         );
         assert_eq!(rt;
-            (outcome.status.number(), outcome.replies.as_str()),
+            (
+                outcome.status.number(),
+                str::from_utf8(outcome.ends.sink.bytes())?
+            ),
             (2, reply)
         );
-        assert!(rt; outcome.out.is_empty());
+        assert!(rt; outcome.ends.out.is_empty());
     }
     for moment in [0, 253_402_214_399] {
-        let given = Given {
+        let given = Scenario {
             moment,
-            ..Given::once(site)
+            ..Scenario::once(site)
         };
         assert_eq!(rt; given.run(alloc)?.status.number(), 0, "moment {moment}");
     }

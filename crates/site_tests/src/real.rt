@@ -1,5 +1,5 @@
 // Runs of `once` over real folders.
-use crate::run::MOMENT;
+use crate::scenario::NEW_YEAR;
 use out_tree::DiskOut;
 use site_base::{MemorySink, Words};
 use site_program::run_once;
@@ -30,7 +30,7 @@ fn once_here(rt: HostRuntime) -> Result<(u8, String), Fail> {
     let mut source = DiskSource::new(rt);
     let mut out = DiskOut::new(rt);
     let mut sink = MemorySink::new(alloc, Vec::new(alloc));
-    let status = run_once(alloc, &words, MOMENT, &mut source, &mut out, &mut sink);
+    let status = run_once(alloc, &words, NEW_YEAR, &mut source, &mut out, &mut sink);
     Ok((
         status.number(),
         String::from_utf8(sink.bytes().to_vec(alloc)?)?,

@@ -1,7 +1,8 @@
 // Small sites, one for each rule of what a file stands for, where it is written, and what is wrong with it.
-use crate::run::Given;
+use crate::scenario::Scenario;
 use std::alloc::Global;
 use std::process::Abort;
+use std::str;
 use std::test::Fail;
 
 const EMPTY: &str = "---\n---\nx";
@@ -13,9 +14,14 @@ fn built(
     sources: &[(&str, &str)],
     outputs: &[(&str, &str)],
 ) -> Result<(), Fail> {
-    let outcome = Given::once(sources).run(alloc)?;
-    assert_eq!(rt; outcome.status.number(), 0, "{}", outcome.replies.as_str());
-    assert!(rt; outcome.has(alloc, outputs)?);
+    let outcome = Scenario::once(sources).run(alloc)?;
+    assert_eq!(rt;
+        outcome.status.number(),
+        0,
+        "{}",
+        str::from_utf8(outcome.ends.sink.bytes())?
+    );
+    assert!(rt; outcome.ends.have(alloc, outputs)?);
     Ok(())
 }
 
@@ -26,9 +32,9 @@ fn refused(
     sources: &[(&str, &str)],
     fault: &str,
 ) -> Result<(), Fail> {
-    let outcome = Given::once(sources).run(alloc)?;
+    let outcome = Scenario::once(sources).run(alloc)?;
     assert_eq!(rt; outcome.status.number(), 1);
-    assert!(rt; outcome.replies.as_str().ends_with(fault));
+    assert!(rt; str::from_utf8(outcome.ends.sink.bytes())?.ends_with(fault));
     Ok(())
 }
 

@@ -1,36 +1,58 @@
 // A run over ends in memory, and what came of it.
-use out_tree::{MemoryOut, OutTree};
-use site_base::{FaultKind, MemoryInput, MemorySink, SitePath, Words};
+ghost use Rattle.std.specs.Prelude.{◌≡◌, [], ◌∷◌, codes, Ok, Some, true, IfErr, IfOk, IsErrOf};
+ghost use Rattle.site_session.specs.Session.{start};
+ghost use Rattle.site_base.specs.declared.settings.Settings.{Settings};
+ghost use Rattle.site_words.specs.declared.orders.Options.{Options};
+ghost use Rattle.site_words.specs.declared.orders.Order.TheVariants as order;
+ghost use Rattle.site_program.specs.Once.{Ended, Took, after_scan, jobs_order, once_order};
+ghost use Rattle.site_program.specs.Checks.{CheckTook, Checked};
+ghost use Rattle.site_program.specs.Sessions.{SessionRun};
+ghost use Rattle.source_tree.specs.Put.{plain};
+ghost use Rattle.site_base.specs.Places.{paths_of};
+ghost use Rattle.site_tests.specs.Scenarios.{IsFault, file_list, files_of, given_of, has_just, has_refused, told_of, FailsNowhere, word_list};
+
+use crate::scenario_error::ScenarioError;
+use out_tree::MemoryOut;
+use site_base::{MemoryInput, MemorySink, SitePath, Words};
 use site_program::{Status, run_jobs, run_once};
 use source_tree::{MemorySource, paths_stand_apart};
 use std::alloc::Global;
 use std::sync::Wait;
-use std::test::Fail;
 
-// The moment of every run: 2024-01-01T00:00:00Z.
-pub(crate) const MOMENT: i64 = 1_704_067_200;
+/// 2024-01-01T00:00:00Z, in seconds from the beginning of 1970.
+pub const NEW_YEAR: i64 = 1_704_067_200;
 
-// The files and the failing calls, counted from 1, of the ends of a run.
+/// What a run is given: the words of its command line, its moment, and ends in memory with their failing calls,
+/// counted from 1. Files are paths with texts.
 #[derive(Clone, Copy)]
-pub(crate) struct Given<'a> {
-    pub(crate) words: &'a [&'a str],
-    pub(crate) moment: i64,
-    // The bytes of the input; `run_once` has none.
-    pub(crate) script: &'a str,
-    pub(crate) sources: &'a [(&'a str, &'a str)],
-    pub(crate) outputs: &'a [(&'a str, &'a str)],
-    pub(crate) source_fails: &'a [u64],
-    pub(crate) output_fails: &'a [u64],
-    pub(crate) input_fails: &'a [u64],
-    pub(crate) sink_fails: &'a [u64],
+pub struct Scenario<'a> {
+    pub words: &'a [&'a str],
+    /// In seconds from the beginning of 1970.
+    pub moment: i64,
+    /// The bytes of the input, which only `run_jobs` reads.
+    pub script: &'a str,
+    pub sources: &'a [(&'a str, &'a str)],
+    /// The files that the output has at first.
+    pub outputs: &'a [(&'a str, &'a str)],
+    pub source_fails: &'a [u64],
+    pub output_fails: &'a [u64],
+    pub input_fails: &'a [u64],
+    pub sink_fails: &'a [u64],
 }
 
-impl<'a> Given<'a> {
-    // The word `once`, these sources, and ends that do not fail.
-    pub(crate) fn once(sources: &'a [(&'a str, &'a str)]) -> Given<'a> {
-        Given {
+impl<'a> Scenario<'a> {
+    /// The word `once`, these sources, an empty output, and ends that do not fail.
+    pub fn once(sources: &'a [(&'a str, &'a str)]) -> Scenario<'a>
+        ensures words { word_list result.words.now ≡ codes "once" ∷ [] }
+        ensures moment { result.moment ≡ 1704067200 }
+        ensures script { result.script.now ≡ [] }
+        ensures sources { result.sources.now ≡ sources.now }
+        ensures outputs { result.outputs.now ≡ [] }
+        ensures sound { FailsNowhere result }
+    {
+        Scenario {
             words: &["once"],
-            moment: MOMENT,
+            moment: NEW_YEAR,
             script: "",
             sources,
             outputs: &[],
@@ -41,101 +63,125 @@ impl<'a> Given<'a> {
         }
     }
 
-    // The word `session`, this script, and ends that do not fail.
-    pub(crate) fn session(script: &'a str) -> Given<'a> {
-        Given {
+    /// The word `session`, this script, an empty source and output, and ends that do not fail.
+    pub fn session(script: &'a str) -> Scenario<'a>
+        ensures words { word_list result.words.now ≡ codes "session" ∷ [] }
+        ensures moment { result.moment ≡ 1704067200 }
+        ensures script { result.script.now ≡ script.now }
+        ensures sources { result.sources.now ≡ [] }
+        ensures outputs { result.outputs.now ≡ [] }
+        ensures sound { FailsNowhere result }
+    {
+        Scenario {
             words: &["session"],
             script,
-            ..Given::once(&[])
+            ..Scenario::once(&[])
         }
     }
 
-    pub(crate) fn run(&self, alloc: Global) -> Result<Outcome, Fail> {
+    /// A run of `once` or `check`.
+    pub fn run(&self, alloc: Global) -> Result<Outcome, ScenarioError>
+        // Of `once`: how it ends, what the output then has, and what the sink took.
+        ensures once { (settings : Settings) → once_order (word_list self.now.words.now) self.now.moment ≡ Ok (order.Once settings) → IfOk result (λ outcome.
+            Ended (after_scan (given_of self.now) (start settings self.now.moment)) (Some (files_of self.now.outputs.now)) (Some outcome.ends.out.files) outcome.status) }
+        ensures once_took { (settings : Settings) → once_order (word_list self.now.words.now) self.now.moment ≡ Ok (order.Once settings) → IfOk result (λ outcome.
+            Took (given_of self.now) (after_scan (given_of self.now) (start settings self.now.moment)) [] (Some outcome.ends.sink.taken) outcome.status) }
+        // The same of `check`, which leaves the output alone.
+        ensures check { (settings : Settings) → once_order (word_list self.now.words.now) self.now.moment ≡ Ok (order.Check settings) → IfOk result (λ outcome.
+            Checked (after_scan (given_of self.now) (start settings self.now.moment)) outcome.status) }
+        ensures check_took { (settings : Settings) → once_order (word_list self.now.words.now) self.now.moment ≡ Ok (order.Check settings) → IfOk result (λ outcome.
+            CheckTook (given_of self.now) (after_scan (given_of self.now) (start settings self.now.moment)) [] (Some outcome.ends.sink.taken) outcome.status) }
+        ensures check_untouched { (settings : Settings) → once_order (word_list self.now.words.now) self.now.moment ≡ Ok (order.Check settings) → IfOk result (λ outcome.
+            outcome.ends.out.files ≡ files_of self.now.outputs.now) }
+        // The input is left alone.
+        ensures input { IfOk result (λ outcome. outcome.ends.input.left ≡ self.now.script.now) }
+        // What is wrong with the scenario, where it is not run.
+        ensures fault { IfErr result (IsFault self.now) }
+    {
+        let words = words(alloc, self.words)?;
         let mut ends = self.ends(alloc)?;
         let status = run_once(
             alloc,
-            &ends.words,
+            &words,
             self.moment,
             &mut ends.source,
             &mut ends.out,
             &mut ends.sink,
         );
-        ends.outcome(alloc, status)
+        Ok(Outcome { status, ends })
     }
 
-    pub(crate) fn run_jobs(&self, rt: &impl Wait, alloc: Global) -> Result<Outcome, Fail> {
+    /// A run of `build` or `session`.
+    pub fn run_jobs(&self, rt: &impl Wait, alloc: Global) -> Result<Outcome, ScenarioError>
+        // Of `build`: how it ends, what the output then has, what the sink took, and that the input is left alone.
+        ensures build { (options : Options) → jobs_order (word_list self.now.words.now) self.now.moment ≡ Ok (order.Build options) → IfOk result (λ outcome.
+            Ended (after_scan (given_of self.now) (start options.settings self.now.moment)) (Some (files_of self.now.outputs.now)) (Some outcome.ends.out.files) outcome.status) }
+        ensures build_took { (options : Options) → jobs_order (word_list self.now.words.now) self.now.moment ≡ Ok (order.Build options) → IfOk result (λ outcome.
+            Took (told_of self.now options) (after_scan (told_of self.now options) (start options.settings self.now.moment)) [] (Some outcome.ends.sink.taken) outcome.status) }
+        ensures build_input { (options : Options) → jobs_order (word_list self.now.words.now) self.now.moment ≡ Ok (order.Build options) → IfOk result (λ outcome.
+            outcome.ends.input.left ≡ self.now.script.now) }
+        // Of `session`: that it does the lines of the script, and tells what it did.
+        ensures session { (options : Options) → jobs_order (word_list self.now.words.now) self.now.moment ≡ Ok (order.Session options) → IfOk result (λ outcome.
+            SessionRun (told_of self.now options) (start options.settings self.now.moment) self.now.script.now [] (Some outcome.ends.input.left) (Some outcome.ends.sink.taken)
+            (Some outcome.ends.out.files) (record { source_first = 0; source_now = outcome.ends.source.faults; output_first = 0; output_now = outcome.ends.out.faults }) outcome.status) }
+        ensures fault { IfErr result (IsFault self.now) }
+    {
+        let words = words(alloc, self.words)?;
         let mut ends = self.ends(alloc)?;
-        let script = self.script.as_bytes().to_vec(alloc)?;
-        let mut input = MemoryInput::new(script, calls(alloc, self.input_fails)?);
         let status = run_jobs(
             rt,
             alloc,
-            &ends.words,
+            &words,
             self.moment,
             &mut ends.source,
             &mut ends.out,
-            &mut input,
+            &mut ends.input,
             &mut ends.sink,
         );
-        let outcome = ends.outcome(alloc, status)?;
-        Ok(Outcome {
-            unread: input.len(),
-            ..outcome
-        })
+        Ok(Outcome { status, ends })
     }
 
-    fn ends(&self, alloc: Global) -> Result<Ends, Fail> {
-        let mut words = Words::new(alloc);
-        for word in self.words {
-            words.push(alloc, word)?;
-        }
+    // The ends before the run.
+    fn ends(&self, alloc: Global) -> Result<Ends, ScenarioError>
+        ensures source { IfOk result (λ ends. ends.source ≡ record { files = files_of self.now.sources.now; fail = self.now.source_fails.now; calls = 0; faults = 0 }) }
+        ensures out { IfOk result (λ ends. ends.out ≡ record { files = files_of self.now.outputs.now; told = Some []; fail = self.now.output_fails.now; calls = 0; faults = 0; short = 0 }) }
+        ensures input { IfOk result (λ ends. ends.input ≡ record { left = self.now.script.now; fail = self.now.input_fails.now; calls = 0; faults = 0 }) }
+        ensures sink { IfOk result (λ ends. ends.sink ≡ record { taken = []; fail = self.now.sink_fails.now; calls = 0; faults = 0; short = 0 }) }
+        ensures fault { IfErr result (IsFault self.now) }
+    {
         let sources = files(alloc, self.sources)?;
         let outputs = files(alloc, self.outputs)?;
         if !paths_stand_apart(alloc, &sources)? || !paths_stand_apart(alloc, &outputs)? {
-            let clash: Result<Ends, &str> = Err("paths that clash");
-            return Ok(clash?);
+            return Err(ScenarioError::Clash);
         }
+        let script = self.script.as_bytes().to_vec(alloc)?;
         Ok(Ends {
-            words,
-            source: MemorySource::new(sources, calls(alloc, self.source_fails)?),
-            out: MemoryOut::new(alloc, outputs, calls(alloc, self.output_fails)?),
-            sink: MemorySink::new(alloc, calls(alloc, self.sink_fails)?),
+            source: MemorySource::new(sources, self.source_fails.to_vec(alloc)?),
+            out: MemoryOut::new(alloc, outputs, self.output_fails.to_vec(alloc)?),
+            input: MemoryInput::new(script, self.input_fails.to_vec(alloc)?),
+            sink: MemorySink::new(alloc, self.sink_fails.to_vec(alloc)?),
         })
     }
 }
 
+/// The ends of a run.
 #[derive(Drop)]
-struct Ends {
-    words: Words,
-    source: MemorySource,
-    out: MemoryOut,
-    sink: MemorySink,
+pub struct Ends {
+    pub source: MemorySource,
+    pub out: MemoryOut,
+    pub input: MemoryInput,
+    /// What takes the replies.
+    pub sink: MemorySink,
 }
 
 impl Ends {
-    fn outcome(self, alloc: Global, status: Status) -> Result<Outcome, Fail> {
-        let replies = String::from_utf8(self.sink.bytes().to_vec(alloc)?)?;
-        Ok(Outcome {
-            status,
-            replies,
-            out: self.out,
-            unread: 0,
-        })
-    }
-}
-
-#[derive(Drop)]
-pub(crate) struct Outcome {
-    pub(crate) status: Status,
-    pub(crate) replies: String,
-    pub(crate) out: MemoryOut,
-    // How many bytes of the input were left.
-    pub(crate) unread: usize,
-}
-
-impl Outcome {
-    // Whether the output has just these files.
-    pub(crate) fn has(&self, alloc: Global, wanted: &[(&str, &str)]) -> Result<bool, Fail> {
+    /// Whether the output has as many files as are wanted, and each of these with its text. `Path` comes only where a path
+    /// that is wanted is none of a site.
+    pub fn have(&self, alloc: Global, wanted: &[(&str, &str)]) -> Result<bool, ScenarioError>
+        ensures have { IfOk result (λ have. have ≡ has_just self.now.out.files (file_list wanted.now)) }
+        ensures refused { IsErrOf result ScenarioError.Path → has_refused (file_list wanted.now) ≡ true }
+        ensures no_clash { IsErrOf result ScenarioError.Clash → ⊥ }
+    {
         if self.out.len() != wanted.len() {
             return Ok(false);
         }
@@ -149,14 +195,33 @@ impl Outcome {
     }
 }
 
-fn files(alloc: Global, given: &[(&str, &str)]) -> Result<Vec<(SitePath, Vec<u8>)>, Fail> {
+/// What came of a run: how it ended, and how it left its ends.
+#[derive(Drop)]
+pub struct Outcome {
+    pub status: Status,
+    pub ends: Ends,
+}
+
+fn words(alloc: Global, given: &[&str]) -> Result<Words, ScenarioError>
+    ensures words { IfOk result (λ words. words ≡ word_list given.now) }
+    ensures memory { IfErr result (λ error. error ≡ ScenarioError.Memory) }
+{
+    let mut words = Words::new(alloc);
+    for word in given {
+        words.push(alloc, word)?;
+    }
+    Ok(words)
+}
+
+fn files(alloc: Global, given: &[(&str, &str)]) -> Result<Vec<(SitePath, Vec<u8>)>, ScenarioError>
+    ensures files { IfOk result (λ files. plain files.items ≡ file_list given.now) }
+    ensures paths { IfOk result (λ files. paths_of files.items ≡ paths_of (file_list given.now)) }
+    ensures refused { IsErrOf result ScenarioError.Path → has_refused (file_list given.now) ≡ true }
+    ensures no_clash { IsErrOf result ScenarioError.Clash → ⊥ }
+{
     let mut files = Vec::new(alloc);
     for (path, text) in given {
         files.push((SitePath::read(alloc, path)?, text.as_bytes().to_vec(alloc)?))?;
     }
     Ok(files)
-}
-
-fn calls(alloc: Global, given: &[u64]) -> Result<Vec<u64>, Fail> {
-    Ok(given.to_vec(alloc)?)
 }

@@ -1,27 +1,10 @@
 // Worked runs of `session` and `build`.
-use crate::run::Given;
-use std::alloc::Global;
-use std::process::Abort;
-use std::sync::Wait;
+use crate::scenario::Scenario;
+use crate::seen::comes_out;
+use std::str;
 use std::test::Fail;
 
 const PAGE: &str = "---\ntitle: Hi\n---\n<h1>{{ page.title }}</h1>\n";
-
-// Runs what is given, and looks at what comes of it: the status number, the replies, and the output's files.
-fn comes_out(
-    rt: &(impl Abort + Wait),
-    alloc: Global,
-    given: Given<'_>,
-    status: u8,
-    replies: &str,
-    outputs: &[(&str, &str)],
-) -> Result<(), Fail> {
-    let outcome = given.run_jobs(rt, alloc)?;
-    assert_eq!(rt; outcome.status.number(), status, "after {replies}");
-    assert_eq!(rt; outcome.replies.as_str(), replies);
-    assert!(rt; outcome.has(alloc, outputs)?, "after {replies}");
-    Ok(())
-}
 
 #[test]
 fn sessions_go_on(rt: HostRuntime) -> Result<(), Fail> {
@@ -31,9 +14,9 @@ fn sessions_go_on(rt: HostRuntime) -> Result<(), Fail> {
     comes_out(
         &rt,
         alloc,
-        Given {
+        Scenario {
             output_fails: &[2],
-            ..Given::session(two_pages)
+            ..Scenario::session(two_pages)
         },
         0,
         "ok\nok\nout-fault 1\nmarked p.html\nbuilt rendered=2 reused=0 written=1 removed=0\n",
@@ -43,7 +26,7 @@ fn sessions_go_on(rt: HostRuntime) -> Result<(), Fail> {
     comes_out(
         &rt,
         alloc,
-        Given::session("put a 1\nxbuild\ndelete a\nput a/index.html 1\nybuild\n"),
+        Scenario::session("put a 1\nxbuild\ndelete a\nput a/index.html 1\nybuild\n"),
         0,
         "ok\nbuilt rendered=0 reused=0 written=1 removed=0\nok\nok\nbuilt rendered=0 reused=0 written=1 removed=1\n",
         &[("a/index.html", "y")],
@@ -52,10 +35,10 @@ fn sessions_go_on(rt: HostRuntime) -> Result<(), Fail> {
     comes_out(
         &rt,
         alloc,
-        Given {
+        Scenario {
             sources: &[("a.txt", "x")],
             source_fails: &[1],
-            ..Given::session("scan\nscan\nbuild\nend\n")
+            ..Scenario::session("scan\nscan\nbuild\nend\n")
         },
         0,
         "scan-fault\nscanned 1\nbuilt rendered=0 reused=0 written=1 removed=0\n",
@@ -65,10 +48,10 @@ fn sessions_go_on(rt: HostRuntime) -> Result<(), Fail> {
     comes_out(
         &rt,
         alloc,
-        Given {
+        Scenario {
             outputs: &[("old", "o")],
             output_fails: &[1],
-            ..Given::session("build\nbuild\n")
+            ..Scenario::session("build\nbuild\n")
         },
         0,
         "out-fault 0\nbuilt rendered=0 reused=0 written=0 removed=1\n",
@@ -78,7 +61,7 @@ fn sessions_go_on(rt: HostRuntime) -> Result<(), Fail> {
     comes_out(
         &rt,
         alloc,
-        Given::session("put a 1\nxbuild\nput b.md 9\n---\n---\nbbuild\ndelete b.md\nbuild"),
+        Scenario::session("put a 1\nxbuild\nput b.md 9\n---\n---\nbbuild\ndelete b.md\nbuild"),
         0,
         "ok\nbuilt rendered=0 reused=0 written=1 removed=0\nok\nfault F0 0 b.md\nok\nbuilt rendered=0 reused=0 written=0 removed=0\n",
         &[("a", "x")],
@@ -87,15 +70,15 @@ fn sessions_go_on(rt: HostRuntime) -> Result<(), Fail> {
     comes_out(
         &rt,
         alloc,
-        Given {
+        Scenario {
             sources: &[("a.txt", "x")],
-            ..Given::session("put b 2\r\n\r\nscan\r\ntime 5\r\ndelete b\r\nbuild\r\n")
+            ..Scenario::session("put b 2\r\n\r\nscan\r\ntime 5\r\ndelete b\r\nbuild\r\n")
         },
         0,
         "ok\nscanned 1\nok\nabsent\nbuilt rendered=0 reused=0 written=1 removed=0\n",
         &[("a.txt", "x")],
     )?;
-    comes_out(&rt, alloc, Given::session(""), 0, "", &[])?;
+    comes_out(&rt, alloc, Scenario::session(""), 0, "", &[])?;
     Ok(())
 }
 
@@ -105,7 +88,7 @@ fn sessions_end(rt: HostRuntime) -> Result<(), Fail> {
     comes_out(
         &rt,
         alloc,
-        Given::session("put x.md 10\nabcd"),
+        Scenario::session("put x.md 10\nabcd"),
         7,
         "script 1 6\n",
         &[],
@@ -113,7 +96,7 @@ fn sessions_end(rt: HostRuntime) -> Result<(), Fail> {
     comes_out(
         &rt,
         alloc,
-        Given::session("put a 1\nxput a/b 1\ny"),
+        Scenario::session("put a 1\nxput a/b 1\ny"),
         7,
         "ok\nscript 2 8\n",
         &[],
@@ -121,7 +104,7 @@ fn sessions_end(rt: HostRuntime) -> Result<(), Fail> {
     comes_out(
         &rt,
         alloc,
-        Given::session("put a 16777217\nx"),
+        Scenario::session("put a 16777217\nx"),
         7,
         "script 1 5\n",
         &[],
@@ -129,7 +112,7 @@ fn sessions_end(rt: HostRuntime) -> Result<(), Fail> {
     comes_out(
         &rt,
         alloc,
-        Given::session("build\n\nbuild\n"),
+        Scenario::session("build\n\nbuild\n"),
         7,
         "built rendered=0 reused=0 written=0 removed=0\nscript 2 3\n",
         &[],
@@ -137,7 +120,7 @@ fn sessions_end(rt: HostRuntime) -> Result<(), Fail> {
     comes_out(
         &rt,
         alloc,
-        Given::session("time 253402214400\n"),
+        Scenario::session("time 253402214400\n"),
         7,
         "script 1 9\n",
         &[],
@@ -146,9 +129,9 @@ fn sessions_end(rt: HostRuntime) -> Result<(), Fail> {
     comes_out(
         &rt,
         alloc,
-        Given {
+        Scenario {
             input_fails: &[20],
-            ..Given::session("put a 1\nxbuild\nput b 9\n123456789build\n")
+            ..Scenario::session("put a 1\nxbuild\nput b 9\n123456789build\n")
         },
         5,
         "ok\nbuilt rendered=0 reused=0 written=1 removed=0\n",
@@ -158,9 +141,9 @@ fn sessions_end(rt: HostRuntime) -> Result<(), Fail> {
     comes_out(
         &rt,
         alloc,
-        Given {
+        Scenario {
             sink_fails: &[1],
-            ..Given::session("put a 1\nxbuild\n")
+            ..Scenario::session("put a 1\nxbuild\n")
         },
         6,
         "",
@@ -169,9 +152,9 @@ fn sessions_end(rt: HostRuntime) -> Result<(), Fail> {
     comes_out(
         &rt,
         alloc,
-        Given {
+        Scenario {
             sink_fails: &[2],
-            ..Given::session("put a 1\nxbuild\nput b 1\ny")
+            ..Scenario::session("put a 1\nxbuild\nput b 1\ny")
         },
         6,
         "ok\n",
@@ -183,9 +166,9 @@ fn sessions_end(rt: HostRuntime) -> Result<(), Fail> {
 #[test]
 fn builds(rt: HostRuntime) -> Result<(), Fail> {
     let alloc = rt.alloc();
-    let build = Given {
+    let build = Scenario {
         words: &["build"],
-        ..Given::session("never read")
+        ..Scenario::session("never read")
     };
     comes_out(
         &rt,
@@ -198,7 +181,7 @@ fn builds(rt: HostRuntime) -> Result<(), Fail> {
     comes_out(
         &rt,
         alloc,
-        Given {
+        Scenario {
             sources: &[("index.html", PAGE)],
             outputs: &[(".git/HEAD", "ref"), ("old.html", "old")],
             ..build
@@ -210,7 +193,7 @@ fn builds(rt: HostRuntime) -> Result<(), Fail> {
     comes_out(
         &rt,
         alloc,
-        Given {
+        Scenario {
             source_fails: &[1],
             ..build
         },
@@ -221,7 +204,7 @@ fn builds(rt: HostRuntime) -> Result<(), Fail> {
     comes_out(
         &rt,
         alloc,
-        Given {
+        Scenario {
             output_fails: &[1],
             ..build
         },
@@ -232,7 +215,7 @@ fn builds(rt: HostRuntime) -> Result<(), Fail> {
     comes_out(
         &rt,
         alloc,
-        Given {
+        Scenario {
             sources: &[("p.html", "p"), ("q.html", "q")],
             output_fails: &[2],
             ..build
@@ -244,7 +227,7 @@ fn builds(rt: HostRuntime) -> Result<(), Fail> {
     comes_out(
         &rt,
         alloc,
-        Given {
+        Scenario {
             words: &["build", "--jobs", "0"],
             ..build
         },
@@ -255,7 +238,7 @@ fn builds(rt: HostRuntime) -> Result<(), Fail> {
     comes_out(
         &rt,
         alloc,
-        Given {
+        Scenario {
             words: &["once"],
             ..build
         },
@@ -274,7 +257,7 @@ fn edits_go_on_from_the_build_before(rt: HostRuntime) -> Result<(), Fail> {
     comes_out(
         &rt,
         alloc,
-        Given::session("put b 1\nxput c 1\nzbuild\nput b 1\nyput a 1\nwbuild\nbuild\n"),
+        Scenario::session("put b 1\nxput c 1\nzbuild\nput b 1\nyput a 1\nwbuild\nbuild\n"),
         0,
         "ok\nok\nbuilt rendered=0 reused=0 written=2 removed=0\nok\nok\nbuilt rendered=0 reused=0 written=2 removed=0\nbuilt rendered=0 reused=0 written=0 removed=0\n",
         &[("a", "w"), ("b", "y"), ("c", "z")],
@@ -283,7 +266,7 @@ fn edits_go_on_from_the_build_before(rt: HostRuntime) -> Result<(), Fail> {
     comes_out(
         &rt,
         alloc,
-        Given::session(
+        Scenario::session(
             "put p.html 9\n---\n---\npput q.html 9\n---\n---\nqbuild\nput p.html 1\nxbuild\nput p.html 9\n---\n---\nrbuild\n",
         ),
         0,
@@ -294,7 +277,9 @@ fn edits_go_on_from_the_build_before(rt: HostRuntime) -> Result<(), Fail> {
     comes_out(
         &rt,
         alloc,
-        Given::session("put a 1\nxput b 1\nybuild\ndelete a\nput a 1\nxbuild\ndelete b\nbuild\n"),
+        Scenario::session(
+            "put a 1\nxput b 1\nybuild\ndelete a\nput a 1\nxbuild\ndelete b\nbuild\n",
+        ),
         0,
         "ok\nok\nbuilt rendered=0 reused=0 written=2 removed=0\nok\nok\nbuilt rendered=0 reused=0 written=0 removed=0\nok\nbuilt rendered=0 reused=0 written=0 removed=1\n",
         &[("a", "x")],
@@ -303,7 +288,7 @@ fn edits_go_on_from_the_build_before(rt: HostRuntime) -> Result<(), Fail> {
     comes_out(
         &rt,
         alloc,
-        Given::session(
+        Scenario::session(
             "put a 1\nxbuild\nput b.md 9\n---\n---\nbbuild\nput a 1\nyput b.md 1\nbbuild\n",
         ),
         0,
@@ -314,9 +299,11 @@ fn edits_go_on_from_the_build_before(rt: HostRuntime) -> Result<(), Fail> {
     comes_out(
         &rt,
         alloc,
-        Given {
+        Scenario {
             output_fails: &[4],
-            ..Given::session("put a 1\nxput b 1\nybuild\nput a 1\nzbuild\nput b 1\nwbuild\nbuild\n")
+            ..Scenario::session(
+                "put a 1\nxput b 1\nybuild\nput a 1\nzbuild\nput b 1\nwbuild\nbuild\n",
+            )
         },
         0,
         "ok\nok\nbuilt rendered=0 reused=0 written=2 removed=0\nok\nout-fault 1\nmarked a\nok\nbuilt rendered=0 reused=0 written=2 removed=0\nbuilt rendered=0 reused=0 written=0 removed=0\n",
@@ -326,9 +313,9 @@ fn edits_go_on_from_the_build_before(rt: HostRuntime) -> Result<(), Fail> {
     comes_out(
         &rt,
         alloc,
-        Given {
+        Scenario {
             sources: &[("a", "x"), ("c", "v")],
-            ..Given::session("put a 1\nxput b 1\nybuild\nscan\nbuild\nput c 1\nubuild\n")
+            ..Scenario::session("put a 1\nxput b 1\nybuild\nscan\nbuild\nput c 1\nubuild\n")
         },
         0,
         "ok\nok\nbuilt rendered=0 reused=0 written=2 removed=0\nscanned 2\nbuilt rendered=0 reused=0 written=1 removed=1\nok\nbuilt rendered=0 reused=0 written=1 removed=0\n",
@@ -341,15 +328,15 @@ fn edits_go_on_from_the_build_before(rt: HostRuntime) -> Result<(), Fail> {
 fn a_second_build_calls_nobody(rt: HostRuntime) -> Result<(), Fail> {
     let script =
         "put index.html 44\n---\ntitle: Hi\n---\n<h1>{{ page.title }}</h1>\nbuild\nbuild\nend\nbuild\n";
-    let outcome = Given::session(script).run_jobs(&rt, rt.alloc())?;
+    let outcome = Scenario::session(script).run_jobs(&rt, rt.alloc())?;
     assert_eq!(rt;
-        outcome.replies.as_str(),
+        str::from_utf8(outcome.ends.sink.bytes())?,
         "ok\nbuilt rendered=1 reused=0 written=1 removed=0\nbuilt rendered=1 reused=0 written=0 removed=0\n"
     );
     // One list and one write.
-    assert_eq!(rt; outcome.out.calls(), 2);
+    assert_eq!(rt; outcome.ends.out.calls(), 2);
     // What follows `end` stays unread.
-    assert_eq!(rt; outcome.unread, 6);
+    assert_eq!(rt; outcome.ends.input.len(), 6);
     Ok(())
 }
 
@@ -361,15 +348,18 @@ fn refuses_a_file_that_is_too_long(rt: HostRuntime) -> Result<(), Fail> {
         long.push('x')?;
     }
     let sources = [("big", long.as_str())];
-    let build = Given {
+    let build = Scenario {
         words: &["build"],
-        ..Given::once(&sources)
+        ..Scenario::once(&sources)
     };
     let built = build.run_jobs(&rt, rt.alloc())?;
     assert_eq!(rt; built.status.number(), 1);
-    assert_eq!(rt; built.replies.as_str(), "fault F2 0 big\n");
-    let once = Given::once(&sources).run(rt.alloc())?;
+    assert_eq!(rt;
+        str::from_utf8(built.ends.sink.bytes())?,
+        "fault F2 0 big\n"
+    );
+    let once = Scenario::once(&sources).run(rt.alloc())?;
     assert_eq!(rt; once.status.number(), 1);
-    assert_eq!(rt; once.replies.as_str(), "fault F2 0 big\n");
+    assert_eq!(rt; str::from_utf8(once.ends.sink.bytes())?, "fault F2 0 big\n");
     Ok(())
 }

@@ -1,8 +1,6 @@
 // Worked runs over sites with a configuration, posts, drafts, permalinks and faults of reading.
-use crate::run::Given;
-use std::alloc::Global;
-use std::process::Abort;
-use std::sync::Wait;
+use crate::scenario::Scenario;
+use crate::seen::comes_out;
 use std::test::Fail;
 
 const PAGE: &str = "---\ntitle: Hi\n---\n<h1>{{ page.title }}</h1>\n";
@@ -12,41 +10,13 @@ const AT_FILE: &str = "---\npermalink: /a.html\n---\nx";
 
 const AT_FOLDER: &str = "---\npermalink: /a.html/\n---\nx";
 
-// Whether the words ask for a command that takes its time: a build, or a session.
-fn is_for_jobs(words: &[&str]) -> bool {
-    match words.first() {
-        Some(word) => *word == "build" || *word == "session",
-        None => false,
-    }
-}
-
-// Runs a build, a session, a check or a build from nothing, and looks at what comes of it.
-fn comes_out(
-    rt: &(impl Abort + Wait),
-    alloc: Global,
-    given: Given<'_>,
-    status: u8,
-    replies: &str,
-    outputs: &[(&str, &str)],
-) -> Result<(), Fail> {
-    let outcome = if is_for_jobs(given.words) {
-        given.run_jobs(rt, alloc)?
-    } else {
-        given.run(alloc)?
-    };
-    assert_eq!(rt; outcome.status.number(), status, "after {replies}");
-    assert_eq!(rt; outcome.replies.as_str(), replies);
-    assert!(rt; outcome.has(alloc, outputs)?, "after {replies}");
-    Ok(())
-}
-
 // Front matter that is never closed is none: the page is its whole text.
 #[test]
 fn open_front_matter_is_text(rt: HostRuntime) -> Result<(), Fail> {
     comes_out(
         &rt,
         rt.alloc(),
-        Given::once(&[("x.html", "---\ntitle: x")]),
+        Scenario::once(&[("x.html", "---\ntitle: x")]),
         0,
         "scanned 1\nbuilt rendered=1 reused=0 written=1 removed=0\n",
         &[("x.html", "---\ntitle: x")],
@@ -59,7 +29,7 @@ fn outputs_clash(rt: HostRuntime) -> Result<(), Fail> {
     comes_out(
         &rt,
         rt.alloc(),
-        Given::once(&[("p.html", AT_FILE), ("q.html", AT_FOLDER)]),
+        Scenario::once(&[("p.html", AT_FILE), ("q.html", AT_FOLDER)]),
         1,
         "scanned 2\nfault F9 0 a.html\n",
         &[],
@@ -73,9 +43,9 @@ fn drafts_are_built_where_they_are_wanted(rt: HostRuntime) -> Result<(), Fail> {
     comes_out(
         &rt,
         alloc,
-        Given {
+        Scenario {
             words: &["build"],
-            ..Given::once(&sources)
+            ..Scenario::once(&sources)
         },
         0,
         "scanned 1\nbuilt rendered=0 reused=0 written=0 removed=0\n",
@@ -84,9 +54,9 @@ fn drafts_are_built_where_they_are_wanted(rt: HostRuntime) -> Result<(), Fail> {
     comes_out(
         &rt,
         alloc,
-        Given {
+        Scenario {
             words: &["build", "--drafts"],
-            ..Given::once(&sources)
+            ..Scenario::once(&sources)
         },
         0,
         "scanned 1\nbuilt rendered=1 reused=0 written=1 removed=0\n",
@@ -102,10 +72,10 @@ fn posts_of_a_later_day_wait(rt: HostRuntime) -> Result<(), Fail> {
     comes_out(
         &rt,
         alloc,
-        Given {
+        Scenario {
             words: &["session"],
             script: "scan\nbuild\ntime 1704153600\nbuild\n",
-            ..Given::once(&sources)
+            ..Scenario::once(&sources)
         },
         0,
         "scanned 1\nbuilt rendered=0 reused=0 written=0 removed=0\nok\nbuilt rendered=1 reused=0 written=1 removed=0\n",
@@ -114,9 +84,9 @@ fn posts_of_a_later_day_wait(rt: HostRuntime) -> Result<(), Fail> {
     comes_out(
         &rt,
         alloc,
-        Given {
+        Scenario {
             words: &["once", "--future"],
-            ..Given::once(&sources)
+            ..Scenario::once(&sources)
         },
         0,
         "scanned 1\nbuilt rendered=1 reused=0 written=1 removed=0\n",
@@ -131,10 +101,10 @@ fn checks(rt: HostRuntime) -> Result<(), Fail> {
     comes_out(
         &rt,
         alloc,
-        Given {
+        Scenario {
             words: &["check"],
             outputs: &[("old.html", "old")],
-            ..Given::once(&[("index.html", PAGE)])
+            ..Scenario::once(&[("index.html", PAGE)])
         },
         0,
         "scanned 1\nclean\n",
@@ -143,10 +113,10 @@ fn checks(rt: HostRuntime) -> Result<(), Fail> {
     comes_out(
         &rt,
         alloc,
-        Given {
+        Scenario {
             words: &["check"],
             outputs: &[("old.html", "old")],
-            ..Given::once(&[("y.html", "---\na: &x 1\n---\n")])
+            ..Scenario::once(&[("y.html", "---\na: &x 1\n---\n")])
         },
         1,
         "scanned 1\nfault F5 2 y.html\n",
@@ -160,10 +130,10 @@ fn checks_fail_with_their_ends(rt: HostRuntime) -> Result<(), Fail> {
     comes_out(
         &rt,
         alloc,
-        Given {
+        Scenario {
             words: &["check"],
             source_fails: &[1],
-            ..Given::once(&[("index.html", PAGE)])
+            ..Scenario::once(&[("index.html", PAGE)])
         },
         3,
         "scan-fault\n",
@@ -172,10 +142,10 @@ fn checks_fail_with_their_ends(rt: HostRuntime) -> Result<(), Fail> {
     comes_out(
         &rt,
         alloc,
-        Given {
+        Scenario {
             words: &["check"],
             sink_fails: &[2],
-            ..Given::once(&[("index.html", PAGE)])
+            ..Scenario::once(&[("index.html", PAGE)])
         },
         6,
         "scanned 1\n",
@@ -188,7 +158,7 @@ fn faults_of_reading_have_lines(rt: HostRuntime) -> Result<(), Fail> {
     comes_out(
         &rt,
         rt.alloc(),
-        Given::once(&[("y.html", "---\na: &x 1\n---\n")]),
+        Scenario::once(&[("y.html", "---\na: &x 1\n---\n")]),
         1,
         "scanned 1\nfault F5 2 y.html\n",
         &[],
@@ -201,9 +171,9 @@ fn reasons_are_told(rt: HostRuntime) -> Result<(), Fail> {
     comes_out(
         &rt,
         rt.alloc(),
-        Given {
+        Scenario {
             words: &["build", "--why"],
-            ..Given::once(&[("p.html", "---\n---\nx"), ("q.html", "---\n---\ny")])
+            ..Scenario::once(&[("p.html", "---\n---\nx"), ("q.html", "---\n---\ny")])
         },
         0,
         "scanned 2\nwhy p.html new\nwhy q.html new\nbuilt rendered=2 reused=0 written=2 removed=0\n",
@@ -217,9 +187,9 @@ fn the_configuration_keeps_files(rt: HostRuntime) -> Result<(), Fail> {
     comes_out(
         &rt,
         rt.alloc(),
-        Given {
+        Scenario {
             outputs: &[(".git/HEAD", "r"), ("kept/a", "k"), ("keptb", "o")],
-            ..Given::once(&[("_config.yml", "keep_files: [kept]\n")])
+            ..Scenario::once(&[("_config.yml", "keep_files: [kept]\n")])
         },
         0,
         "scanned 1\nbuilt rendered=0 reused=0 written=0 removed=2\n",
@@ -236,7 +206,7 @@ fn the_last_kind_wins(rt: HostRuntime) -> Result<(), Fail> {
     comes_out(
         &rt,
         alloc,
-        Given::once(&[
+        Scenario::once(&[
             ("_posts/2020-01-01-d.html", document),
             ("a.html", "copy"),
             ("p.html", page),
@@ -248,7 +218,7 @@ fn the_last_kind_wins(rt: HostRuntime) -> Result<(), Fail> {
     comes_out(
         &rt,
         alloc,
-        Given::once(&[("a.html", "copy"), ("p.html", page)]),
+        Scenario::once(&[("a.html", "copy"), ("p.html", page)]),
         0,
         "scanned 2\nbuilt rendered=1 reused=0 written=1 removed=0\n",
         &[("a.html", "copy")],
