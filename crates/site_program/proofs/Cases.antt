@@ -6,11 +6,13 @@ use Rattle.site_base.specs.Places.{Files}
 use Rattle.site_base.specs.declared.faults.SiteFault.{SiteFault}
 use Rattle.source_tree.specs.Scan.{scan_fault}
 use Rattle.out_tree.specs.Belief.{Belief, all_marked}
+use Rattle.out_tree.specs.Plan.{planned}
+use Rattle.out_tree.specs.declared.step.Step.{Step}
 use Rattle.site_reader.specs.Found.{Found}
 use Rattle.site_session.specs.Full.{fault_of}
 use Rattle.site_session.specs.declared.output.Output.{Output}
 use Rattle.site_session.specs.Standing.{Standing}
-use Rattle.site_session.specs.Session.{Given, Event, Nothing, TheScan, TheList, TheSteps, event_of, full_now, scan, build, build_tree, build_reply, output_faults, source_faults}
+use Rattle.site_session.specs.Session.{Given, Event, Nothing, TheScan, TheList, TheSteps, event_of, full_now, scan, build, build_tree, build_reply, failed_in, output_faults, source_faults}
 use Rattle.site_session.specs.Replies.{LeavesBy, Leaves, has_called_output}
 use Rattle.site_session.specs.declared.reply.Reply.{Reply}
 use Rattle.site_session.specs.declared.reply.Reply.TheVariants.{Scanned, ScanFault, Faulty, Fine, Absent, Built, Marked, Unlisted, BadLine, Silent}
@@ -59,11 +61,14 @@ pub data BuildCase (given : Given) (now : Standing) (reply : Reply) : Type 0 whe
 pub build_case : (given : Given) (now : Standing) (reply : Reply) (new : Standing) → now.belief ≡ None → build given now (full_now now) (event_of reply) ≡ (new, reply) → BuildCase given now reply
 build_case given now reply new unlisted answers = by (full_now now) refl answers
   where
+    steps : Output → List Step
+    steps output = planned (all_marked given.output) output.tree output.keep
+
     of_event : (output : Output) (event : Event) → full_now now ≡ Ok output → build_tree given now output None event ≡ (new, reply) → BuildCase given now reply
     of_event output TheList is e = NotListed output is (sym (ap (λ (p : Standing × Reply). p.1) e))
-    of_event output Nothing is e = Tried output [] is (sym (ap (λ (p : Standing × Reply). p.1) e))
-    of_event output TheScan is e = Tried output [] is (sym (ap (λ (p : Standing × Reply). p.1) e))
-    of_event output (TheSteps paths) is e = Tried output paths is (sym (ap (λ (p : Standing × Reply). p.1) e))
+    of_event output Nothing is e = Tried output (failed_in (steps output) []) is (sym (ap (λ (p : Standing × Reply). p.1) e))
+    of_event output TheScan is e = Tried output (failed_in (steps output) []) is (sym (ap (λ (p : Standing × Reply). p.1) e))
+    of_event output (TheSteps paths) is e = Tried output (failed_in (steps output) paths) is (sym (ap (λ (p : Standing × Reply). p.1) e))
 
     by : (f : Found Output) → full_now now ≡ f → build given now f (event_of reply) ≡ (new, reply) → BuildCase given now reply
     by (Err fault) is e = Faulted fault (sym (ap (λ (p : Standing × Reply). p.1) e)) is

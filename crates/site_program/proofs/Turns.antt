@@ -11,7 +11,8 @@ use Rattle.site_base.specs.declared.faults.SiteFault.{SiteFault}
 use Rattle.source_tree.specs.Put.{put_refusal}
 use Rattle.source_tree.specs.Scan.{scan_fault}
 use Rattle.source_tree.specs.declared.put_error.PutError.{PutError}
-use Rattle.out_tree.specs.Belief.{Belief}
+use Rattle.out_tree.specs.Belief.{Belief, all_marked}
+use Rattle.out_tree.specs.Plan.{planned}
 use Rattle.site_reader.specs.Found.{Found}
 use Rattle.site_script.specs.Line.{line_number, ends}
 use Rattle.site_script.specs.Script.{Taken, first_line, is_bad, IsFirst}
@@ -20,7 +21,7 @@ use Rattle.site_script.specs.declared.line.Line.TheVariants as line
 use Rattle.site_script.specs.declared.line.ScriptKind.{ScriptKind}
 use Rattle.site_session.specs.Standing.{Standing, Holds}
 use Rattle.site_session.specs.declared.output.Output.{Output}
-use Rattle.site_session.specs.Session.{Given, Answers, Run, Nothing, put, scan, build, build_tree, full_now, source_faults, output_faults}
+use Rattle.site_session.specs.Session.{Given, Answers, Run, Nothing, put, scan, build, build_reply, build_tree, failed_in, full_now, source_faults, output_faults}
 use Rattle.site_session.specs.Bytes.{reply_bytes, written}
 use Rattle.site_session.specs.declared.reply.Reply.{Reply}
 use Rattle.site_session.specs.declared.reply.Reply.TheVariants.{Scanned, ScanFault, Faulty, Fine, Absent, Built, Marked, Unlisted, BadLine, Silent}
@@ -76,13 +77,17 @@ bad_scan : (given : Given) (old new : Standing) (bad : ℕ) (kind : ScriptKind) 
 bad_scan given old new bad kind None e = let r = reply_is e in absurd (cc (r))
 bad_scan given old new bad kind (Some fault) e = let r = reply_is e in absurd (cc (r))
 
+bad_reply : (belief : Belief) (output : Output) (failed : List (List ℕ)) (bad : ℕ) (kind : ScriptKind) → build_reply belief output failed ≡ BadLine bad kind → ⊥
+bad_reply belief output [] bad kind r = absurd (cc (r))
+bad_reply belief output (path ∷ paths) bad kind r = absurd (cc (r))
+
 bad_build : (given : Given) (old new : Standing) (bad : ℕ) (kind : ScriptKind) (f : Found Output) → build given old f Nothing ≡ (new, BadLine bad kind) → ⊥
 bad_build given old new bad kind (Err fault) e = let r = reply_is e in absurd (cc (r))
 bad_build given old new bad kind (Ok output) e = by old.belief e
   where
     by : (belief : Option Belief) → build_tree given old output belief Nothing ≡ (new, BadLine bad kind) → ⊥
-    by None e = let r = reply_is e in absurd (cc (r))
-    by (Some belief) e = let r = reply_is e in absurd (cc (r))
+    by None e = bad_reply (all_marked given.output) output (failed_in (planned (all_marked given.output) output.tree output.keep) []) bad kind (reply_is e)
+    by (Some belief) e = bad_reply belief output (failed_in (planned belief output.tree output.keep) []) bad kind (reply_is e)
 
 -- a bad line changes nothing
 bad_same : (given : Given) (old new : Standing) (number : ℕ) (at : Line) (bad : ℕ) (kind : ScriptKind) → Answers given old number at (BadLine bad kind) new → new ≡ old
