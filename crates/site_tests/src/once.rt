@@ -1,6 +1,6 @@
 // Worked runs of `once`.
-use crate::scenario::{NEW_YEAR, Scenario};
-use crate::seen::comes_out;
+use crate::scenario::Scenario;
+use crate::seen::{NEW_YEAR, comes_out};
 use site_program::Status;
 use site_words::UsageKind;
 use std::str;
@@ -188,10 +188,9 @@ fn refuses_words(rt: HostRuntime) -> Result<(), Fail> {
     for (words, moment, kind, reply) in rows {
         let given = Scenario {
             words,
-            moment,
             ..Scenario::once(site)
         };
-        let outcome = given.run(alloc)?;
+        let outcome = given.run(alloc, moment)?;
         assert!(rt;
             matches!(outcome.status, Status::Usage(other) if other == kind),
             "{reply}"
@@ -206,11 +205,8 @@ fn refuses_words(rt: HostRuntime) -> Result<(), Fail> {
         assert!(rt; outcome.ends.out.is_empty());
     }
     for moment in [0, 253_402_214_399] {
-        let given = Scenario {
-            moment,
-            ..Scenario::once(site)
-        };
-        assert_eq!(rt; given.run(alloc)?.status.number(), 0, "moment {moment}");
+        let outcome = Scenario::once(site).run(alloc, moment)?;
+        assert_eq!(rt; outcome.status.number(), 0, "moment {moment}");
     }
     Ok(())
 }

@@ -1,5 +1,5 @@
 // Runs of `once` over real folders.
-use crate::scenario::NEW_YEAR;
+use crate::seen::NEW_YEAR;
 use out_tree::DiskOut;
 use site_base::{MemorySink, Words};
 use site_program::run_once;

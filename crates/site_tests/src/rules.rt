@@ -1,5 +1,6 @@
 // Small sites, one for each rule of what a file stands for, where it is written, and what is wrong with it.
 use crate::scenario::Scenario;
+use crate::seen::NEW_YEAR;
 use std::alloc::Global;
 use std::process::Abort;
 use std::str;
@@ -14,7 +15,7 @@ fn built(
     sources: &[(&str, &str)],
     outputs: &[(&str, &str)],
 ) -> Result<(), Fail> {
-    let outcome = Scenario::once(sources).run(alloc)?;
+    let outcome = Scenario::once(sources).run(alloc, NEW_YEAR)?;
     assert_eq!(rt;
         outcome.status.number(),
         0,
@@ -32,7 +33,7 @@ fn refused(
     sources: &[(&str, &str)],
     fault: &str,
 ) -> Result<(), Fail> {
-    let outcome = Scenario::once(sources).run(alloc)?;
+    let outcome = Scenario::once(sources).run(alloc, NEW_YEAR)?;
     assert_eq!(rt; outcome.status.number(), 1);
     assert!(rt; str::from_utf8(outcome.ends.sink.bytes())?.ends_with(fault));
     Ok(())

@@ -19,16 +19,11 @@ use source_tree::{MemorySource, paths_stand_apart};
 use std::alloc::Global;
 use std::sync::Wait;
 
-/// 2024-01-01T00:00:00Z, in seconds from the beginning of 1970.
-pub const NEW_YEAR: i64 = 1_704_067_200;
-
-/// What a run is given: the words of its command line, its moment, and ends in memory with their failing calls,
+/// What a run is given: the words of its command line, and ends in memory with their failing calls,
 /// counted from 1. Files are paths with texts.
 #[derive(Clone, Copy)]
 pub struct Scenario<'a> {
     pub words: &'a [&'a str],
-    /// In seconds from the beginning of 1970.
-    pub moment: i64,
     /// The bytes of the input, which only `run_jobs` reads.
     pub script: &'a str,
     pub sources: &'a [(&'a str, &'a str)],
@@ -44,7 +39,6 @@ impl<'a> Scenario<'a> {
     /// The word `once`, these sources, an empty output, and ends that do not fail.
     pub fn once(sources: &'a [(&'a str, &'a str)]) -> Scenario<'a>
         ensures words { word_list result.words.now ≡ codes "once" ∷ [] }
-        ensures moment { result.moment ≡ 1704067200 }
         ensures script { result.script.now ≡ [] }
         ensures sources { result.sources.now ≡ sources.now }
         ensures outputs { result.outputs.now ≡ [] }
@@ -52,7 +46,6 @@ impl<'a> Scenario<'a> {
     {
         Scenario {
             words: &["once"],
-            moment: NEW_YEAR,
             script: "",
             sources,
             outputs: &[],
@@ -66,7 +59,6 @@ impl<'a> Scenario<'a> {
     /// The word `session`, this script, an empty source and output, and ends that do not fail.
     pub fn session(script: &'a str) -> Scenario<'a>
         ensures words { word_list result.words.now ≡ codes "session" ∷ [] }
-        ensures moment { result.moment ≡ 1704067200 }
         ensures script { result.script.now ≡ script.now }
         ensures sources { result.sources.now ≡ [] }
         ensures outputs { result.outputs.now ≡ [] }
@@ -79,19 +71,19 @@ impl<'a> Scenario<'a> {
         }
     }
 
-    /// A run of `once` or `check`.
-    pub fn run(&self, alloc: Global) -> Result<Outcome, ScenarioError>
+    /// A run of `once` or `check` at a moment, in seconds from the beginning of 1970.
+    pub fn run(&self, alloc: Global, moment: i64) -> Result<Outcome, ScenarioError>
         // Of `once`: how it ends, what the output then has, and what the sink took.
-        ensures once { (settings : Settings) → once_order (word_list self.now.words.now) self.now.moment ≡ Ok (order.Once settings) → IfOk result (λ outcome.
-            Ended (after_scan (given_of self.now) (start settings self.now.moment)) (Some (files_of self.now.outputs.now)) (Some outcome.ends.out.files) outcome.status) }
-        ensures once_took { (settings : Settings) → once_order (word_list self.now.words.now) self.now.moment ≡ Ok (order.Once settings) → IfOk result (λ outcome.
-            Took (given_of self.now) (after_scan (given_of self.now) (start settings self.now.moment)) [] (Some outcome.ends.sink.taken) outcome.status) }
+        ensures once { (settings : Settings) → once_order (word_list self.now.words.now) moment ≡ Ok (order.Once settings) → IfOk result (λ outcome.
+            Ended (after_scan (given_of self.now) (start settings moment)) (Some (files_of self.now.outputs.now)) (Some outcome.ends.out.files) outcome.status) }
+        ensures once_took { (settings : Settings) → once_order (word_list self.now.words.now) moment ≡ Ok (order.Once settings) → IfOk result (λ outcome.
+            Took (given_of self.now) (after_scan (given_of self.now) (start settings moment)) [] (Some outcome.ends.sink.taken) outcome.status) }
         // The same of `check`, which leaves the output alone.
-        ensures check { (settings : Settings) → once_order (word_list self.now.words.now) self.now.moment ≡ Ok (order.Check settings) → IfOk result (λ outcome.
-            Checked (after_scan (given_of self.now) (start settings self.now.moment)) outcome.status) }
-        ensures check_took { (settings : Settings) → once_order (word_list self.now.words.now) self.now.moment ≡ Ok (order.Check settings) → IfOk result (λ outcome.
-            CheckTook (given_of self.now) (after_scan (given_of self.now) (start settings self.now.moment)) [] (Some outcome.ends.sink.taken) outcome.status) }
-        ensures check_untouched { (settings : Settings) → once_order (word_list self.now.words.now) self.now.moment ≡ Ok (order.Check settings) → IfOk result (λ outcome.
+        ensures check { (settings : Settings) → once_order (word_list self.now.words.now) moment ≡ Ok (order.Check settings) → IfOk result (λ outcome.
+            Checked (after_scan (given_of self.now) (start settings moment)) outcome.status) }
+        ensures check_took { (settings : Settings) → once_order (word_list self.now.words.now) moment ≡ Ok (order.Check settings) → IfOk result (λ outcome.
+            CheckTook (given_of self.now) (after_scan (given_of self.now) (start settings moment)) [] (Some outcome.ends.sink.taken) outcome.status) }
+        ensures check_untouched { (settings : Settings) → once_order (word_list self.now.words.now) moment ≡ Ok (order.Check settings) → IfOk result (λ outcome.
             outcome.ends.out.files ≡ files_of self.now.outputs.now) }
         // The input is left alone.
         ensures input { IfOk result (λ outcome. outcome.ends.input.left ≡ self.now.script.now) }
@@ -103,7 +95,7 @@ impl<'a> Scenario<'a> {
         let status = run_once(
             alloc,
             &words,
-            self.moment,
+            moment,
             &mut ends.source,
             &mut ends.out,
             &mut ends.sink,
@@ -111,18 +103,23 @@ impl<'a> Scenario<'a> {
         Ok(Outcome { status, ends })
     }
 
-    /// A run of `build` or `session`.
-    pub fn run_jobs(&self, rt: &impl Wait, alloc: Global) -> Result<Outcome, ScenarioError>
+    /// A run of `build` or `session` at a moment, in seconds from the beginning of 1970.
+    pub fn run_jobs(
+        &self,
+        rt: &impl Wait,
+        alloc: Global,
+        moment: i64,
+    ) -> Result<Outcome, ScenarioError>
         // Of `build`: how it ends, what the output then has, what the sink took, and that the input is left alone.
-        ensures build { (options : Options) → jobs_order (word_list self.now.words.now) self.now.moment ≡ Ok (order.Build options) → IfOk result (λ outcome.
-            Ended (after_scan (given_of self.now) (start options.settings self.now.moment)) (Some (files_of self.now.outputs.now)) (Some outcome.ends.out.files) outcome.status) }
-        ensures build_took { (options : Options) → jobs_order (word_list self.now.words.now) self.now.moment ≡ Ok (order.Build options) → IfOk result (λ outcome.
-            Took (told_of self.now options) (after_scan (told_of self.now options) (start options.settings self.now.moment)) [] (Some outcome.ends.sink.taken) outcome.status) }
-        ensures build_input { (options : Options) → jobs_order (word_list self.now.words.now) self.now.moment ≡ Ok (order.Build options) → IfOk result (λ outcome.
+        ensures build { (options : Options) → jobs_order (word_list self.now.words.now) moment ≡ Ok (order.Build options) → IfOk result (λ outcome.
+            Ended (after_scan (given_of self.now) (start options.settings moment)) (Some (files_of self.now.outputs.now)) (Some outcome.ends.out.files) outcome.status) }
+        ensures build_took { (options : Options) → jobs_order (word_list self.now.words.now) moment ≡ Ok (order.Build options) → IfOk result (λ outcome.
+            Took (told_of self.now options) (after_scan (told_of self.now options) (start options.settings moment)) [] (Some outcome.ends.sink.taken) outcome.status) }
+        ensures build_input { (options : Options) → jobs_order (word_list self.now.words.now) moment ≡ Ok (order.Build options) → IfOk result (λ outcome.
             outcome.ends.input.left ≡ self.now.script.now) }
         // Of `session`: that it does the lines of the script, and tells what it did.
-        ensures session { (options : Options) → jobs_order (word_list self.now.words.now) self.now.moment ≡ Ok (order.Session options) → IfOk result (λ outcome.
-            SessionRun (told_of self.now options) (start options.settings self.now.moment) self.now.script.now [] (Some outcome.ends.input.left) (Some outcome.ends.sink.taken)
+        ensures session { (options : Options) → jobs_order (word_list self.now.words.now) moment ≡ Ok (order.Session options) → IfOk result (λ outcome.
+            SessionRun (told_of self.now options) (start options.settings moment) self.now.script.now [] (Some outcome.ends.input.left) (Some outcome.ends.sink.taken)
             (Some outcome.ends.out.files) (record { source_first = 0; source_now = outcome.ends.source.faults; output_first = 0; output_now = outcome.ends.out.faults }) outcome.status) }
         ensures fault { IfErr result (IsFault self.now) }
     {
@@ -132,7 +129,7 @@ impl<'a> Scenario<'a> {
             rt,
             alloc,
             &words,
-            self.moment,
+            moment,
             &mut ends.source,
             &mut ends.out,
             &mut ends.input,

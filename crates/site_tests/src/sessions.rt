@@ -1,6 +1,6 @@
 // Worked runs of `session` and `build`.
 use crate::scenario::Scenario;
-use crate::seen::comes_out;
+use crate::seen::{NEW_YEAR, comes_out};
 use std::str;
 use std::test::Fail;
 
@@ -235,17 +235,14 @@ fn builds(rt: HostRuntime) -> Result<(), Fail> {
         "usage 3\n",
         &[],
     )?;
-    comes_out(
-        &rt,
-        alloc,
-        Scenario {
-            words: &["once"],
-            ..build
-        },
-        2,
-        "usage 2\n",
-        &[],
-    )?;
+    // The other top call's command.
+    let once = Scenario {
+        words: &["once"],
+        ..build
+    };
+    let refused = once.run_jobs(&rt, alloc, NEW_YEAR)?;
+    assert_eq!(rt; refused.status.number(), 2);
+    assert_eq!(rt; str::from_utf8(refused.ends.sink.bytes())?, "usage 2\n");
     Ok(())
 }
 
@@ -328,7 +325,7 @@ fn edits_go_on_from_the_build_before(rt: HostRuntime) -> Result<(), Fail> {
 fn a_second_build_calls_nobody(rt: HostRuntime) -> Result<(), Fail> {
     let script =
         "put index.html 44\n---\ntitle: Hi\n---\n<h1>{{ page.title }}</h1>\nbuild\nbuild\nend\nbuild\n";
-    let outcome = Scenario::session(script).run_jobs(&rt, rt.alloc())?;
+    let outcome = Scenario::session(script).run_jobs(&rt, rt.alloc(), NEW_YEAR)?;
     assert_eq!(rt;
         str::from_utf8(outcome.ends.sink.bytes())?,
         "ok\nbuilt rendered=1 reused=0 written=1 removed=0\nbuilt rendered=1 reused=0 written=0 removed=0\n"
@@ -352,13 +349,13 @@ fn refuses_a_file_that_is_too_long(rt: HostRuntime) -> Result<(), Fail> {
         words: &["build"],
         ..Scenario::once(&sources)
     };
-    let built = build.run_jobs(&rt, rt.alloc())?;
+    let built = build.run_jobs(&rt, rt.alloc(), NEW_YEAR)?;
     assert_eq!(rt; built.status.number(), 1);
     assert_eq!(rt;
         str::from_utf8(built.ends.sink.bytes())?,
         "fault F2 0 big\n"
     );
-    let once = Scenario::once(&sources).run(rt.alloc())?;
+    let once = Scenario::once(&sources).run(rt.alloc(), NEW_YEAR)?;
     assert_eq!(rt; once.status.number(), 1);
     assert_eq!(rt; str::from_utf8(once.ends.sink.bytes())?, "fault F2 0 big\n");
     Ok(())
