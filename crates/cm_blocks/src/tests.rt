@@ -119,6 +119,6 @@ fn large_texts_are_read_in_seconds(rt: HostRuntime) -> Result<(), Fail> {
     assert_eq!(rt; count(alloc, "a\n", 100_000, "")?, 1);
     assert_eq!(rt; count(alloc, "- a\n", 100_000, "")?, 200_001);
     assert_eq!(rt; count(alloc, "[a]: b\n", 10_000, "")?, 0);
-    assert_eq!(rt; count_behind_items(alloc, 50_000)?, 100_002);
+    assert_eq!(rt; count_behind_items(alloc, 200_000)?, 400_002);
     Ok(())
 }
