@@ -88,6 +88,9 @@ record IsOther (key : List ℕ) : Type 0 where
   no_url : bytes_eq (codes "url") key ≡ false
   no_ext : bytes_eq (codes "ext") key ≡ false
 
+other_key : (key : List ℕ) → bytes_eq (codes "path") key ≡ false → bytes_eq (codes "relative_path") key ≡ false → bytes_eq (codes "url") key ≡ false → bytes_eq (codes "ext") key ≡ false → IsOther key
+other_key key path relative_path url ext = record { no_path = path; no_relative_path = relative_path; no_url = url; no_ext = ext }
+
 module _ (path address : List ℕ) where
   keeps : (key : List ℕ) (v : Plain) (vars : Pairs) → IsOther key → Known path address vars → Known path address (set key v vars)
   keeps key v vars other known = record {
@@ -117,19 +120,17 @@ module _ (path address : List ℕ) where
   known_document : (post draft : Bool) (id tags categories date collection : Plain) (vars : Pairs) → Known path address vars
       → Known path address (set (codes "id") id (set (codes "tags") tags (of.set_if post (codes "categories") categories (set (codes "date") date (of.set_if draft (codes "draft") (bool true) (set (codes "collection") collection vars))))))
   known_document post draft id tags categories date collection vars known =
-      let other = λ (key : List ℕ) (a : bytes_eq (codes "path") key ≡ false) (b : bytes_eq (codes "relative_path") key ≡ false) (c : bytes_eq (codes "url") key ≡ false) (d : bytes_eq (codes "ext") key ≡ false).
-      let is : IsOther key = record { no_path = a; no_relative_path = b; no_url = c; no_ext = d } in is in
-      keeps (codes "id") id _ (other (codes "id") refl refl refl refl)
-      (keeps (codes "tags") tags _ (other (codes "tags") refl refl refl refl)
-      (keeps_if post (codes "categories") categories _ (other (codes "categories") refl refl refl refl)
-      (keeps (codes "date") date _ (other (codes "date") refl refl refl refl)
-      (keeps_if draft (codes "draft") (bool true) _ (other (codes "draft") refl refl refl refl)
-      (keeps (codes "collection") collection vars (other (codes "collection") refl refl refl refl) known)))))
+      keeps (codes "id") id _ (other_key (codes "id") refl refl refl refl)
+      (keeps (codes "tags") tags _ (other_key (codes "tags") refl refl refl refl)
+      (keeps_if post (codes "categories") categories _ (other_key (codes "categories") refl refl refl refl)
+      (keeps (codes "date") date _ (other_key (codes "date") refl refl refl refl)
+      (keeps_if draft (codes "draft") (bool true) _ (other_key (codes "draft") refl refl refl refl)
+      (keeps (codes "collection") collection vars (other_key (codes "collection") refl refl refl refl) known)))))
 
   known_page : (dir name : Plain) (vars : Pairs) → Known path address vars → Known path address (set (codes "dir") dir (set (codes "name") name vars))
   known_page dir name vars known =
-      keeps (codes "dir") dir _ (record { no_path = refl; no_relative_path = refl; no_url = refl; no_ext = refl })
-      (keeps (codes "name") name vars (record { no_path = refl; no_relative_path = refl; no_url = refl; no_ext = refl }) known)
+      keeps (codes "dir") dir _ (other_key (codes "dir") refl refl refl refl)
+      (keeps (codes "name") name vars (other_key (codes "name") refl refl refl refl) known)
 
   known_kind : (config : Config) (k : Kind) (moment : Option ℤ) (vars : Pairs) → Known path address vars → Known path address (of.kind_variables config k path address moment vars)
   known_kind config kind.Page moment vars known = known_page _ _ vars known
@@ -235,8 +236,8 @@ neighbours_known documents rank before behind address vars known = by (nat_lt ra
   where
     by : (b : Bool) → Known rank.path address (if b then set (codes "previous") (neighbour rank before) (set (codes "next") (neighbour rank behind) vars) else vars)
     by true =
-        keeps rank.path address (codes "previous") (neighbour rank before) _ (record { no_path = refl; no_relative_path = refl; no_url = refl; no_ext = refl })
-        (keeps rank.path address (codes "next") (neighbour rank behind) vars (record { no_path = refl; no_relative_path = refl; no_url = refl; no_ext = refl }) known)
+        keeps rank.path address (codes "previous") (neighbour rank before) _ (other_key (codes "previous") refl refl refl refl)
+        (keeps rank.path address (codes "next") (neighbour rank behind) vars (other_key (codes "next") refl refl refl refl) known)
     by false = known
 
 knows_itself : (documents : ℕ) (rank : Rank) (before behind : Option Rank) (made : Item) → IsKnown rank.path made → KnowsItself (site_item_of documents rank before behind made)
