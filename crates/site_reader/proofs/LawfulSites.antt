@@ -24,6 +24,7 @@ use Rattle.site_reader.proofs.Differing.{differ, each_named, file_held, file_onc
 use Rattle.site_reader.proofs.IncludeLaws.{includes_differ}
 use Rattle.site_reader.proofs.ItemLaws.{copies_add, files_placed, items_by_add}
 use Rattle.site_reader.proofs.LayoutLaws.{layouts_differ}
+use Rattle.site_reader.proofs.VariableLaws.{items_know}
 use Rattle.site_reader.proofs.Weights.{found_before, found_value, weight, weight_length}
 
 -- ---- the parts of a site
@@ -108,6 +109,7 @@ module _ {files : Files} {now : ℤ} {settings : Settings} {config : Config} {ma
     items_differ = items_differ;
     layouts_differ = layouts_differ (map (placed config (builds_drafts config settings)) (entries files)) made.layouts here.layouts;
     includes_differ = includes_differ files config (builds_drafts config settings) made.includes here.includes;
+    items_known = items_know (by_strength config.defaults) config now (builds_future config settings) (map (placed config (builds_drafts config settings)) (entries files)) made.items here.items;
     copies_differ = copies_differ;
     copies_held = copies_held;
     moment = subst IsMoment here.moment given.moment;

@@ -8,4 +8,5 @@ mod LawfulSites
 mod LayoutLaws
 mod NeighbourLaws
 mod RisingLaws
+mod VariableLaws
 mod Weights

@@ -1,16 +1,27 @@
 -- When a site is lawful with the files that it was read from.
-use Rattle.std.specs.Prelude.{◌≡◌, ◌≢◌, ◌≤◌, true, List, length, All, AllPairs, None}
+use Rattle.std.specs.Prelude.{◌≡◌, ◌≢◌, ◌≤◌, true, List, codes, length, All, AllPairs, None}
 use Rattle.std.specs.FinMap.{contains_key, len}
 use Rattle.site_base.specs.Places.{Files}
-use Rattle.site_base.specs.Plain.{hash}
+use Rattle.site_base.specs.Plain.{hash, text}
+use Rattle.site_base.specs.View.{plain}
 use Rattle.site_config.specs.Config.{config}
+use Rattle.site_config.specs.Forms.{setting}
 use Rattle.site_config.specs.Table.{wrong_key}
 use Rattle.site_dates.specs.Moment.{IsMoment}
+use Rattle.site_files.specs.Names.{extension, file_name}
 use Rattle.site_reader.specs.declared.site.Site.{Site}
+use Rattle.site_reader.specs.declared.site_item.SiteItem.{SiteItem}
 
 -- no two elements have the same name
 abbrev pub Differ : {A B : Type 0} → (A → B) → List A → Type 0
 Differ name xs = AllPairs (λ x y. name x ≢ name y) xs
+
+-- the variables by which an item is known: its path, also as `relative_path`, its URL, and its extension
+pub record KnowsItself (item : SiteItem) : Type 0 where
+  pub path : setting (codes "path") (plain item.vars) ≡ text item.name.path
+  pub relative_path : setting (codes "relative_path") (plain item.vars) ≡ text item.name.path
+  pub url : setting (codes "url") (plain item.vars) ≡ text item.url
+  pub ext : setting (codes "ext") (plain item.vars) ≡ text (extension (file_name item.name.path))
 
 pub record IsLawful (files : Files) (site : Site) : Type 0 where
   -- there are no more items than files
@@ -19,6 +30,8 @@ pub record IsLawful (files : Files) (site : Site) : Type 0 where
   pub items_differ : Differ (λ item. item.name) site.items
   pub layouts_differ : Differ (λ layout. layout.name) site.layouts
   pub includes_differ : Differ (λ include. include.name) site.includes
+  -- the variables of each item say which it is
+  pub items_known : All KnowsItself site.items
   -- the files that are copied have different paths, and each is held
   pub copies_differ : Differ (λ copy. copy.path) site.statics
   pub copies_held : All (λ copy. contains_key files copy.path ≡ true) site.statics

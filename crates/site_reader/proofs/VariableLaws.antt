@@ -1,0 +1,264 @@
+-- The variables by which an item is known.
+use Rattle.std.proofs.Common.{◌≡◌, ℕ, Bool, true, false, ◌||◌, List, [], ◌∷◌, codes, length, nat_lt, Option, Some, None, Ok, Err, Less, Equal, Greater, Ordering, if◌then◌else◌, All, refl, sym, ap, subst, ◌∙◌}
+use Rattle.std.specs.BTreeMap.{insert_entry}
+use Rattle.std.specs.Cmp.Lexicographic.{slice_cmp}
+use Rattle.std.specs.List.{AllByRecursion}
+use Rattle.std.specs.Option.{unwrap_or}
+use Rattle.std.specs.Ordering.{bool_cmp, int_cmp, match_ordering, nat_cmp, ordering_then}
+use Rattle.std.specs.Prelude.{ℤ}
+use Rattle.std.specs.Str.{bytes_eq, is_utf8}
+use Rattle.std.proofs.lemmas.List.Elements.{All-from_recursion}
+use Rattle.site_base.specs.Plain.{Plain, nil, bool, text, Pairs, no_pairs, pair, get, set}
+use Rattle.site_base.specs.declared.faults.FaultKind.TheVariants as fault
+use Rattle.site_base.proofs.Entries.{same_text, text_same}
+use Rattle.site_config.specs.declared.config.Config.{Config}
+use Rattle.site_config.specs.declared.scope.Scope.{Scope}
+use Rattle.site_files.specs.Names.{extension, file_name, stem}
+use Rattle.site_items.specs.Addresses.{dest_of, found_url, template}
+use Rattle.site_items.specs.Dates.{given_date}
+use Rattle.site_items.specs.Defaults.{variable, variables}
+use Rattle.site_items.specs.Extensions.{output_ext}
+use Rattle.site_items.specs.Items as of
+use Rattle.site_items.specs.Matter as matter
+use Rattle.site_items.specs.Outcomes.{Outcome, ◌>>=◌}
+use Rattle.site_items.specs.declared.item.Item.{Item}
+use Rattle.site_items.specs.declared.kind.Kind.{Kind}
+use Rattle.site_items.specs.declared.kind.Kind.TheVariants as kind
+use Rattle.site_reader.specs.Found.{each, in_file}
+use Rattle.site_reader.specs.Lawful.{KnowsItself}
+use Rattle.site_reader.specs.Neighbours.{neighbour, site_item_of, site_items, with_neighbours}
+use Rattle.site_reader.specs.Placing.{File, Placed, as_item}
+use Rattle.site_reader.specs.Ranks.{Ranked, rank, rank_cmp, with_item}
+use Rattle.site_reader.specs.Sites as sites
+use Rattle.site_reader.specs.declared.rank.Rank.{Rank}
+use Rattle.site_reader.specs.declared.site_item.SiteItem.{SiteItem}
+use Rattle.site_reader.proofs.Differing.{tied}
+use Rattle.site_reader.proofs.ItemLaws.{rank_path}
+use Rattle.site_reader.proofs.Weights.{each_keeps, file_found, found_before, found_value, outcome_before, outcome_value}
+
+-- ---- what stands at a key
+
+apart_from : (k l m : List ℕ) → bytes_eq l m ≡ false → bytes_eq k m ≡ true → bytes_eq k l ≡ false
+apart_from k l m other same = by (bytes_eq k l) refl
+  where
+    by : (b : Bool) → bytes_eq k l ≡ b → b ≡ false
+    by true is = absurd (cc (other, text_same l m (sym (same_text k l is) ∙ same_text k m same)))
+    by false is = refl
+
+module _ (k l : List ℕ) (v : Plain) where
+  here : (a b : Bool) (w : Plain) (rest : Option Plain) → a ≡ b → (if b then Some v else rest) ≡ (if a then Some v else (if b then Some w else rest))
+  here true true w rest is = refl
+  here true false w rest is = absurd (cc (is))
+  here false true w rest is = absurd (cc (is))
+  here false false w rest is = refl
+
+  beside : (a b : Bool) (w : Plain) (rest more : Option Plain) → (b ≡ true → a ≡ false) → more ≡ (if a then Some v else rest) → (if b then Some w else more) ≡ (if a then Some v else (if b then Some w else rest))
+  beside true true w rest more apart is = absurd (cc (apart refl))
+  beside true false w rest more apart is = is
+  beside false true w rest more apart is = refl
+  beside false false w rest more apart is = is
+
+  get_set : (ps : Pairs) → get k (set l v ps) ≡ (if bytes_eq k l then Some v else get k ps)
+  get_set no_pairs = refl
+  get_set (pair m w ps) = by (bytes_eq l m) refl (get_set ps)
+    where
+      by : (b : Bool) → bytes_eq l m ≡ b → get k (set l v ps) ≡ (if bytes_eq k l then Some v else get k ps)
+          → get k (if b then pair m v ps else pair m w (set l v ps)) ≡ (if bytes_eq k l then Some v else get k (pair m w ps))
+      by true is rest = here (bytes_eq k l) (bytes_eq k m) w (get k ps) (ap (bytes_eq k) (same_text l m is))
+      by false is rest = beside (bytes_eq k l) (bytes_eq k m) w (get k ps) (get k (set l v ps)) (apart_from k l m is) rest
+
+  other_set : (ps : Pairs) → bytes_eq k l ≡ false → get k (set l v ps) ≡ get k ps
+  other_set ps apart = get_set ps ∙ ap (λ b. if b then Some v else get k ps) apart
+
+same_set : (k : List ℕ) (v : Plain) (ps : Pairs) → get k (set k v ps) ≡ Some v
+same_set k v ps = get_set k k v ps ∙ ap (λ b. if b then Some v else get k ps) (text_same k k refl)
+
+-- ---- an item's own path, URL and extension
+
+record Known (path address : List ℕ) (vars : Pairs) : Type 0 where
+  its_path : get (codes "path") vars ≡ Some (text path)
+  its_relative_path : get (codes "relative_path") vars ≡ Some (text path)
+  its_url : get (codes "url") vars ≡ Some (text address)
+  its_ext : get (codes "ext") vars ≡ Some (text (extension (file_name path)))
+
+-- a key that is none of these
+record IsOther (key : List ℕ) : Type 0 where
+  no_path : bytes_eq (codes "path") key ≡ false
+  no_relative_path : bytes_eq (codes "relative_path") key ≡ false
+  no_url : bytes_eq (codes "url") key ≡ false
+  no_ext : bytes_eq (codes "ext") key ≡ false
+
+other_key : (key : List ℕ) → bytes_eq (codes "path") key ≡ false → bytes_eq (codes "relative_path") key ≡ false → bytes_eq (codes "url") key ≡ false → bytes_eq (codes "ext") key ≡ false → IsOther key
+other_key key path relative_path url ext = record { no_path = path; no_relative_path = relative_path; no_url = url; no_ext = ext }
+
+module _ (path address : List ℕ) where
+  keeps : (key : List ℕ) (v : Plain) (vars : Pairs) → IsOther key → Known path address vars → Known path address (set key v vars)
+  keeps key v vars other known = record {
+    its_path = other_set (codes "path") key v vars other.no_path ∙ known.its_path;
+    its_relative_path = other_set (codes "relative_path") key v vars other.no_relative_path ∙ known.its_relative_path;
+    its_url = other_set (codes "url") key v vars other.no_url ∙ known.its_url;
+    its_ext = other_set (codes "ext") key v vars other.no_ext ∙ known.its_ext;
+  }
+
+  keeps_if : (b : Bool) (key : List ℕ) (v : Plain) (vars : Pairs) → IsOther key → Known path address vars → Known path address (of.set_if b key v vars)
+  keeps_if true key v vars other known = keeps key v vars other known
+  keeps_if false key v vars other known = known
+
+  known_placed : (vars : Pairs) → Known path address (of.placed path address vars)
+  known_placed vars =
+      let first = set (codes "path") (text path) vars in
+      let second = set (codes "relative_path") (text path) first in
+      let third = set (codes "url") (text address) second in
+      let ext = text (extension (file_name path)) in
+      record {
+        its_path = other_set (codes "path") (codes "ext") ext third refl ∙ other_set (codes "path") (codes "url") (text address) second refl ∙ other_set (codes "path") (codes "relative_path") (text path) first refl ∙ same_set (codes "path") (text path) vars;
+        its_relative_path = other_set (codes "relative_path") (codes "ext") ext third refl ∙ other_set (codes "relative_path") (codes "url") (text address) second refl ∙ same_set (codes "relative_path") (text path) first;
+        its_url = other_set (codes "url") (codes "ext") ext third refl ∙ same_set (codes "url") (text address) second;
+        its_ext = same_set (codes "ext") ext third;
+      }
+
+  known_document : (post draft : Bool) (id tags categories date collection : Plain) (vars : Pairs) → Known path address vars
+      → Known path address (set (codes "id") id (set (codes "tags") tags (of.set_if post (codes "categories") categories (set (codes "date") date (of.set_if draft (codes "draft") (bool true) (set (codes "collection") collection vars))))))
+  known_document post draft id tags categories date collection vars known =
+      keeps (codes "id") id _ (other_key (codes "id") refl refl refl refl)
+      (keeps (codes "tags") tags _ (other_key (codes "tags") refl refl refl refl)
+      (keeps_if post (codes "categories") categories _ (other_key (codes "categories") refl refl refl refl)
+      (keeps (codes "date") date _ (other_key (codes "date") refl refl refl refl)
+      (keeps_if draft (codes "draft") (bool true) _ (other_key (codes "draft") refl refl refl refl)
+      (keeps (codes "collection") collection vars (other_key (codes "collection") refl refl refl refl) known)))))
+
+  known_page : (dir name : Plain) (vars : Pairs) → Known path address vars → Known path address (set (codes "dir") dir (set (codes "name") name vars))
+  known_page dir name vars known =
+      keeps (codes "dir") dir _ (other_key (codes "dir") refl refl refl refl)
+      (keeps (codes "name") name vars (other_key (codes "name") refl refl refl refl) known)
+
+  known_kind : (config : Config) (k : Kind) (moment : Option ℤ) (vars : Pairs) → Known path address vars → Known path address (of.kind_variables config k path address moment vars)
+  known_kind config kind.Page moment vars known = known_page _ _ vars known
+  known_kind config kind.Post moment vars known = known_document true false _ _ _ _ _ vars known
+  known_kind config kind.Draft moment vars known = known_document true true _ _ _ _ _ vars known
+  known_kind config (kind.Document n) moment vars known = known_document false false _ _ nil _ _ vars known
+
+-- ---- an item that is found
+
+abbrev IsKnown : List ℕ → Item → Type 0
+IsKnown path made = Known path made.url made.vars
+
+module _ (config : Config) (now : ℤ) (future : Bool) (k : Kind) (path : List ℕ) (made : Item) where
+  abbrev Makes : Outcome (Option Item) → Type 0
+  Makes found = found ≡ Ok (Some made)
+
+  nothing : ◌≡◌ {A = Outcome (Option Item)} (Ok None) (Ok (Some made)) → ⊥
+  nothing e = absurd (cc (outcome_value None (Some made) e))
+
+  at_address : (moment : Option ℤ) (vars : Pairs) (text_body ext address : List ℕ) → Makes (of.item_at config k path moment vars text_body ext address) → IsKnown path made
+  at_address moment vars text_body ext address e =
+      let dest = outcome_before (dest_of config k address ext) _ (Some made) e in
+      let is = ap (λ (o : Option Item). unwrap_or o made) (outcome_value _ (Some made) dest.2) in
+      subst (IsKnown path) is (known_kind path address config k moment (of.placed path address vars) (known_placed path address vars))
+
+  built : (moment : Option ℤ) (text_body ext : List ℕ) (vars : Pairs) → Makes (of.built_with config k path moment text_body ext vars) → IsKnown path made
+  built moment text_body ext vars e =
+      let t = outcome_before (template config ext (stem (file_name path)) k (variable (codes "permalink") vars)) _ (Some made) e in
+      let address = outcome_before (found_url _) (of.item_at config k path moment vars text_body ext) (Some made) t.2 in
+      at_address moment vars text_body ext address.0 address.2
+
+  dated : (vars : Pairs) (text_body : List ℕ) (given : Option ℤ) → Makes (of.dated_item config now future k path vars text_body given) → IsKnown path made
+  dated vars text_body given e = by (of.is_left_out now future moment) e
+    where
+      moment : Option ℤ
+      moment = of.document_date config.timezone now k (stem (file_name path)) given
+
+      by : (b : Bool) → Makes (if b then Ok None else of.named_item config k path moment vars text_body) → IsKnown path made
+      by true is = absurd (nothing is)
+      by false is = built moment text_body (output_ext config.markdown_ext (extension (file_name path))) (of.kind_named config.timezone k (stem (file_name path)) vars) is
+
+  published : (vars : Pairs) (text_body : List ℕ) (told : Bool) → Makes (of.published_item config now future k path vars text_body told) → IsKnown path made
+  published vars text_body told e = by (told || config.unpublished) e
+    where
+      by : (b : Bool) → Makes (if b then given_date config.timezone (variable (codes "date") vars) >>= of.dated_item config now future k path vars text_body else Ok None) → IsKnown path made
+      by true is =
+          let given = outcome_before (given_date config.timezone (variable (codes "date") vars)) (of.dated_item config now future k path vars text_body) (Some made) is in
+          dated vars text_body given.0 given.2
+      by false is = absurd (nothing is)
+
+  in_text : (scopes : List Scope) (s : List ℕ) → Makes (of.text_item config scopes now future k path s) → IsKnown path made
+  in_text scopes s e =
+      let own = outcome_before (matter.own_variables s) _ (Some made) e in
+      let vars = variables scopes path (of.type_name config k) own.0 in
+      let told = outcome_before (of.is_published (variable (codes "published") vars)) (of.published_item config now future k path vars (matter.body s)) (Some made) own.2 in
+      published vars (matter.body s) told.0 told.2
+
+  item_known : (scopes : List Scope) (bytes : List ℕ) → Makes (of.item config scopes now future k path bytes) → IsKnown path made
+  item_known scopes bytes e = by (is_utf8 bytes) e
+    where
+      by : (b : Bool) → Makes (if b then of.text_item config scopes now future k path bytes else Err (0, fault.NotUtf8)) → IsKnown path made
+      by true is = in_text scopes bytes is
+      by false is = absurd (cc (is))
+
+-- ---- the items in their order
+
+later : (a b : Ordering) → ordering_then a b ≡ Equal → b ≡ Equal
+later Less b e = absurd (cc (e))
+later Equal b e = e
+later Greater b e = absurd (cc (e))
+
+path_tied : (a b : Rank) → rank_cmp a b ≡ Equal → a.path ≡ b.path
+path_tied a b e = tied a.path b.path (later (slice_cmp nat_cmp a.name b.name) _ (later (int_cmp a.moment b.moment) _ (later (bool_cmp a.undated b.undated) _ (later (nat_cmp a.group b.group) _ e))))
+
+abbrev AreKnown : Ranked → Type 0
+AreKnown es = AllByRecursion (λ e. IsKnown e.0.path e.1) es
+
+known_inserted : (r : Rank) (made : Item) (es : Ranked) → IsKnown r.path made → AreKnown es → AreKnown (insert_entry rank_cmp es r made)
+known_inserted r made [] known all = (known, tt)
+known_inserted r made (e ∷ es) known all = by (rank_cmp r e.0) refl (known_inserted r made es known all.1)
+  where
+    by : (o : Ordering) → rank_cmp r e.0 ≡ o → AreKnown (insert_entry rank_cmp es r made) → AreKnown (match_ordering o ((r, made) ∷ e ∷ es) ((e.0, made) ∷ es) (e ∷ insert_entry rank_cmp es r made))
+    by Less is rest = (known, all)
+    by Equal is rest = (subst (λ p. IsKnown p made) (path_tied r e.0 is) known, all.1)
+    by Greater is rest = (all.0, rest)
+
+module _ (config : Config) (scopes : List Scope) (now : ℤ) (future : Bool) where
+  with_known : (k : Kind) (path : List ℕ) (made : Option Item) (es : Ranked) → ((item : Item) → made ≡ Some item → IsKnown path item) → AreKnown es → AreKnown (with_item config k path made es)
+  with_known k path None es known all = all
+  with_known k path (Some item) es known all =
+      known_inserted (rank config k path item.moment) item es (subst (λ p. IsKnown p item) (sym (rank_path config k path item.moment)) (known item refl)) all
+
+  add_known : (f : File) (k : Option Kind) (made more : Ranked) → sites.add_kind config scopes now future f k made ≡ Ok more → AreKnown made → AreKnown more
+  add_known f None made more e all = subst AreKnown (found_value made more e) all
+  add_known f (Some k) made more e all =
+      let read = found_before (in_file f.0 (of.item config scopes now future k f.0 f.1)) _ more e in
+      let is = file_found f.0 (of.item config scopes now future k f.0 f.1) read.0 read.1 in
+      subst AreKnown (found_value _ more read.2)
+      (with_known k f.0 read.0 made (λ item some. item_known config now future k f.0 item scopes f.1 (is ∙ ap Ok some)) all)
+
+neighbours_known : (documents : ℕ) (rank : Rank) (before behind : Option Rank) (address : List ℕ) (vars : Pairs) → Known rank.path address vars → Known rank.path address (with_neighbours documents rank before behind vars)
+neighbours_known documents rank before behind address vars known = by (nat_lt rank.group documents)
+  where
+    by : (b : Bool) → Known rank.path address (if b then set (codes "previous") (neighbour rank before) (set (codes "next") (neighbour rank behind) vars) else vars)
+    by true =
+        keeps rank.path address (codes "previous") (neighbour rank before) _ (other_key (codes "previous") refl refl refl refl)
+        (keeps rank.path address (codes "next") (neighbour rank behind) vars (other_key (codes "next") refl refl refl refl) known)
+    by false = known
+
+knows_itself : (documents : ℕ) (rank : Rank) (before behind : Option Rank) (made : Item) → IsKnown rank.path made → KnowsItself (site_item_of documents rank before behind made)
+knows_itself documents rank before behind made is =
+    let known = neighbours_known documents rank before behind made.url made.vars is in
+    record {
+      path = ap (λ o. unwrap_or o nil) known.its_path;
+      relative_path = ap (λ o. unwrap_or o nil) known.its_relative_path;
+      url = ap (λ o. unwrap_or o nil) known.its_url;
+      ext = ap (λ o. unwrap_or o nil) known.its_ext;
+    }
+
+all_know : (documents : ℕ) (before : Option Rank) (es : Ranked) → AreKnown es → AllByRecursion KnowsItself (site_items documents before es)
+unfolding site_items
+all_know documents before [] all = tt
+all_know documents before (e ∷ es) all = (knows_itself documents e.0 before _ e.1 all.0, all_know documents (Some e.0) es all.1)
+
+pub items_know : (scopes : List Scope) (config : Config) (now : ℤ) (future : Bool) (files : List Placed) (made : List SiteItem) → sites.items_by scopes config now future files ≡ Ok made → All KnowsItself made
+items_know scopes config now future files made e =
+    let ranked = found_before (each (sites.add_item config scopes now future) files []) (sites.items_in_order config) made e in
+    let known : AreKnown ranked.0 =
+    each_keeps (sites.add_item config scopes now future) AreKnown (λ f before more is all. add_known config scopes now future f.1 (as_item f) before more is all) files [] ranked.0 ranked.1 tt in
+    subst (All KnowsItself) (found_value (site_items (length config.collections) None ranked.0) made ranked.2)
+    (All-from_recursion KnowsItself _ (all_know (length config.collections) None ranked.0 known))
