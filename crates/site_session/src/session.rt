@@ -145,7 +145,7 @@ impl Session {
         ensures answers { (given : Given) → S.files source.old ≡ Some given.source → Holds (O.contents out.old) self.old.belief given.output →
             IfOk result (λ reply. Answers given self.old number line reply self.new) }
         ensures belief { (first : Files) → Holds (O.contents out.old) self.old.belief first → Holds (O.contents out.new) self.new.belief first }
-        // Where memory is wanting, the output and all but what is believed of it are as before.
+        // Where memory is wanting, the output's files and all but what is believed of them are as before.
         ensures err { OnErr result (O.contents out.new ≡ O.contents out.old) }
         ensures kept { OnErr result ((self.new.files ≡ self.old.files) × (self.new.moment ≡ self.old.moment) × (self.new.settings ≡ self.old.settings)) }
         ensures leaves { (first : Files) → Holds (O.contents out.old) self.old.belief first →
