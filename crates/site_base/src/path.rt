@@ -60,10 +60,17 @@ impl SitePath {
         if let Some(refusal) = refusal(text.as_bytes()) {
             return Err(refusal);
         }
-        match Text::copy(alloc, text) {
+        match Text::shared(alloc, text) {
             Ok(text) => Ok(SitePath { text }),
             Err(Memory) => Err(PathError::Memory),
         }
+    }
+
+    /// The path as a text that can be shared.
+    pub fn as_text(&self) -> &Text
+        ensures { result.now ≡ self.now }
+    {
+        &self.text
     }
 
     pub fn text(&self) -> &str
@@ -79,10 +86,11 @@ impl SitePath {
         self.text.as_bytes()
     }
 
+    /// A further holder of the path, whose bytes are not copied.
     pub fn copy(&self, alloc: Global) -> Result<SitePath, Memory>
         ensures { IfOk result (λ path. path ≡ self.now) }
     {
-        match Text::copy(alloc, self.text()) {
+        match self.text.share(alloc) {
             Ok(text) => Ok(SitePath { text }),
             Err(Memory) => Err(Memory),
         }

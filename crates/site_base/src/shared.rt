@@ -4,20 +4,21 @@ ghost use Rattle.std.specs.Prelude.{◌≡◌, IfOk, length};
 use crate::{FileBytes, Memory};
 use std::alloc::Global;
 use std::marker::Model;
-use std::rc::Rc;
+use std::sync::Arc;
 
 /// The bytes of a file, which held files, a tree, a plan and a belief share without a copy.
 #[derive(Drop)]
 pub struct SharedBytes {
-    bytes: Rc<FileBytes>,
+    bytes: Arc<FileBytes>,
 }
 
 impl Model for SharedBytes {
+    ghost use Rattle.std.specs.Arc.{arc_value};
     ghost use Rattle.std.specs.Prelude.{List, ℕ};
 
     ghost Value = { List ℕ };
 
-    ghost view = { λ shared. shared.bytes.value };
+    ghost view = { λ shared. arc_value shared.bytes };
 }
 
 impl SharedBytes {
@@ -25,7 +26,7 @@ impl SharedBytes {
     pub fn from_vec(alloc: Global, bytes: Vec<u8>) -> Result<SharedBytes, Memory>
         ensures { IfOk result (λ shared. shared ≡ bytes.items) }
     {
-        match Rc::new(alloc, FileBytes::from_vec(bytes)) {
+        match Arc::new(alloc, FileBytes::from_vec(bytes)) {
             Ok(bytes) => Ok(SharedBytes { bytes }),
             Err(_) => Err(Memory),
         }

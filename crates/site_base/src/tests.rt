@@ -1,7 +1,7 @@
 // What the calls answer for rows of values.
 use crate::{
-    ByteSink, ByteSource, Failed, MemoryInput, MemorySink, PathError, PathMap, SitePath, Text,
-    Words,
+    ByteSink, ByteSource, Failed, MemoryInput, MemorySink, PathError, PathMap, SharedBytes,
+    SitePath, Text, Words,
 };
 use std::test::Fail;
 
@@ -110,5 +110,43 @@ fn joins_texts_and_words(rt: HostRuntime) -> Result<(), Fail> {
     words.push(alloc, "more")?;
     assert_eq!(rt; words.len(), 2);
     assert_eq!(rt; words.at(1), "more");
+    Ok(())
+}
+
+const LONG: &str = "a text of more bytes than fourteen";
+
+#[test]
+fn holders_share_a_text(rt: HostRuntime) -> Result<(), Fail> {
+    let alloc = rt.alloc();
+    for text in ["", "fourteen bytes", LONG] {
+        for first in [
+            Text::copy(alloc, text)?,
+            Text::shared(alloc, text)?,
+            Text::copy(alloc, text)?.into_shared()?,
+        ] {
+            let mut second = first.share(alloc)?;
+            second.push_str(" and more")?;
+            assert_eq!(rt; first.as_str(), text);
+            assert_eq!(rt; second.len(), text.len() + 9, "at {text}");
+            assert!(rt; second.as_str().starts_with(text), "at {text}");
+            assert_eq!(rt;
+                first.share(alloc)?.into_bytes()?.as_slice(),
+                text.as_bytes()
+            );
+        }
+    }
+    Ok(())
+}
+
+#[test]
+fn texts_share_the_bytes_of_a_file(rt: HostRuntime) -> Result<(), Fail> {
+    let alloc = rt.alloc();
+    let file = SharedBytes::from_vec(alloc, LONG.as_bytes().to_vec(alloc)?)?;
+    let text = Text::end_of(alloc, &file, 0, LONG)?;
+    let mut more = text.share(alloc)?;
+    more.push_str("!")?;
+    assert_eq!(rt; text.as_str(), LONG);
+    assert_eq!(rt; more.as_str().strip_suffix("!"), Some(LONG));
+    assert_eq!(rt; text.into_bytes()?.as_slice(), file.as_slice());
     Ok(())
 }

@@ -1,17 +1,19 @@
 // Texts, of which most are short.
-ghost use Rattle.std.specs.Prelude.{◌≡◌, ◌≤◌, ◌+◌, ◌↔◌, IsTrue, ◌++◌, [], IfOk, OnOk, OnErr, length};
+ghost use Rattle.std.specs.Prelude.{◌≡◌, ◌≤◌, ◌+◌, ◌↔◌, IsTrue, ◌++◌, [], IfOk, OnOk, OnErr, drop, length};
 ghost use Rattle.std.specs.String.{string_bytes};
 ghost use Rattle.site_base.specs.Texts.{text_at};
 
-use crate::Memory;
+use crate::{Memory, SharedBytes};
 use std::alloc::Global;
 use std::marker::Model;
 use std::str;
+use std::sync::Arc;
 
 /// How many bytes a text may have that stands in the value itself.
 const MOST_LETTERS: usize = 14;
 
 /// A text, which clauses see as its bytes in UTF-8. It has sixteen bytes, and one of at most 14 bytes takes no memory besides.
+/// Of one that was made by `shared`, and of the end of a file, further holders take little more.
 pub struct Text {
     place: Place,
     alloc: Global,
@@ -24,6 +26,9 @@ const _: () = prove!(size_of::<Text>() == 16);
 enum Place {
     Inside(Letters),
     Outside(Box<String>),
+    // With other holders, perhaps.
+    Shared(Arc<String>),
+    End(Box<FileEnd>),
 }
 
 // The bytes of a text of at most 14, which clauses see as these bytes.
@@ -31,6 +36,23 @@ enum Place {
 struct Letters {
     len: u8,
     bytes: [u8; MOST_LETTERS],
+}
+
+// The bytes of a file from a place on, which are UTF-8. The file's holders share them.
+#[derive(Drop)]
+struct FileEnd {
+    file: SharedBytes,
+    start: usize,
+}
+
+impl Model for FileEnd {
+    ghost use Rattle.std.specs.Prelude.{List, ℕ, ◌≤◌, drop, length, IsUtf8};
+
+    ghost Value = { List ℕ };
+
+    ghost view = { λ end. drop end.start end.file };
+
+    ghost invariant = { λ end. (end.start ≤ length end.file) × ∥ IsUtf8 (drop end.start end.file) ∥₁ };
 }
 
 impl Model for Text {
@@ -92,12 +114,65 @@ impl Text {
         })
     }
 
+    /// A copy that further holders can share.
+    pub fn shared(alloc: Global, text: &str) -> Result<Text, Memory>
+        ensures { IfOk result (λ copy. copy ≡ text.now) }
+    {
+        Text::copy(alloc, text)?.into_shared()
+    }
+
+    /// The text, which further holders can share now; no byte is copied.
+    pub fn into_shared(self) -> Result<Text, Memory>
+        ensures { IfOk result (λ shared. shared ≡ self) }
+    {
+        let Text { place, alloc } = self;
+        let place = match place {
+            Place::Outside(text) => Place::shared(alloc, Box::into_inner(text))?,
+            place => place,
+        };
+        Ok(Text { place, alloc })
+    }
+
+    /// The bytes of a file from a place on. Where there are more than 14, they are not copied, but shared with the file.
+    pub fn end_of(
+        alloc: Global,
+        file: &SharedBytes,
+        start: usize,
+        end: &str,
+    ) -> Result<Text, Memory>
+        requires place { start ≤ length file.now }
+        requires end { drop start file.now ≡ end.now }
+        ensures { IfOk result (λ text. text ≡ end.now) }
+    {
+        let place = if end.len() <= MOST_LETTERS {
+            Place::Inside(Letters::copy(end))
+        } else {
+            let file = file.share()?;
+            Place::end(alloc, FileEnd { file, start })?
+        };
+        Ok(Text { place, alloc })
+    }
+
+    /// A further holder of the text. What can be shared is not copied.
+    pub fn share(&self, alloc: Global) -> Result<Text, Memory>
+        ensures { IfOk result (λ shared. shared ≡ self.now) }
+    {
+        let place = match &self.place {
+            Place::Shared(text) => Place::Shared(text.clone()?),
+            Place::End(end) => Place::end(alloc, end.share()?)?,
+            Place::Inside(_) | Place::Outside(_) => Place::copy(alloc, self.as_str())?,
+        };
+        Ok(Text { place, alloc })
+    }
+
     pub fn as_str(&self) -> &str
         ensures { result.now ≡ self.now }
     {
         match &self.place {
             Place::Inside(letters) => letters.as_str(),
             Place::Outside(text) => text.as_str(),
+            Place::Shared(text) => text.as_str(),
+            Place::End(end) => end.as_str(),
         }
     }
 
@@ -107,6 +182,8 @@ impl Text {
         match &self.place {
             Place::Inside(letters) => letters.as_bytes(),
             Place::Outside(text) => text.as_bytes(),
+            Place::Shared(text) => text.as_bytes(),
+            Place::End(end) => end.as_bytes(),
         }
     }
 
@@ -134,11 +211,17 @@ impl Text {
                 self.place = place;
             }
             Place::Outside(long) => long.push_str(text)?,
+            // Other holders keep theirs.
+            Place::Shared(_) | Place::End(_) => {
+                let mut whole = String::from_str(self.alloc, self.as_str())?;
+                whole.push_str(text)?;
+                self.place = Place::outside(self.alloc, whole)?;
+            }
         }
         Ok(())
     }
 
-    /// The bytes themselves; where there are more than 14, they are not copied.
+    /// The bytes themselves. Where there are more than 14, and they cannot be shared, they are not copied.
     pub fn into_bytes(self) -> Result<Vec<u8>, Memory>
         ensures { IfOk result (λ bytes. bytes.items ≡ self) }
     {
@@ -146,6 +229,8 @@ impl Text {
         match place {
             Place::Inside(letters) => Ok(letters.as_bytes().to_vec(alloc)?),
             Place::Outside(text) => Ok(Box::into_inner(text).into_bytes()),
+            Place::Shared(text) => Ok(text.as_bytes().to_vec(alloc)?),
+            Place::End(end) => Ok(end.as_bytes().to_vec(alloc)?),
         }
     }
 }
@@ -168,6 +253,48 @@ impl Place {
             Ok(text) => Ok(Place::Outside(text)),
             Err(_) => Err(Memory),
         }
+    }
+
+    fn shared(alloc: Global, text: String) -> Result<Place, Memory>
+        ensures { IfOk result (λ place. text_at place ≡ string_bytes text) }
+    {
+        match Arc::new(alloc, text) {
+            Ok(text) => Ok(Place::Shared(text)),
+            Err(_) => Err(Memory),
+        }
+    }
+
+    fn end(alloc: Global, end: FileEnd) -> Result<Place, Memory>
+        ensures { IfOk result (λ place. text_at place ≡ end) }
+    {
+        match Box::new(alloc, end) {
+            Ok(end) => Ok(Place::End(end)),
+            Err(_) => Err(Memory),
+        }
+    }
+}
+
+impl FileEnd {
+    fn share(&self) -> Result<FileEnd, Memory>
+        ensures { IfOk result (λ end. end ≡ self.now) }
+    {
+        Ok(FileEnd {
+            file: self.file.share()?,
+            start: self.start,
+        })
+    }
+
+    fn as_bytes(&self) -> &[u8]
+        ensures { result.now ≡ self.now }
+    {
+        self.as_str().as_bytes()
+    }
+
+    fn as_str(&self) -> &str
+        ensures { result.now ≡ self.now }
+    {
+        // They are UTF-8, and not read for that again at each call.
+        unsafe { str::from_utf8_unchecked(&self.file.as_slice()[self.start..]) }
     }
 }
 

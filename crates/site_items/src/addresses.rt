@@ -25,7 +25,7 @@ use std::alloc::Global;
 pub(crate) struct Sought<'a> {
     pub config: &'a Config,
     pub kind: Kind,
-    pub path: &'a str,
+    pub path: &'a SitePath,
     /// The extension of its output.
     pub ext: &'a str,
     pub moment: Option<i64>,
@@ -161,14 +161,14 @@ impl NameParts {
     fn of(alloc: Global, item: &Sought, slug: &Text, categories: &Hash) -> Result<NameParts, Memory>
         ensures { IfOk result (λ made. made ≡ name_parts item.now.config.now item.now.kind item.now.path.now item.now.ext.now slug.now (key_list categories.now)) }
     {
-        let name = stem(file_name(item.path));
+        let name = stem(file_name(item.path.text()));
         Ok(NameParts {
             title: item.of_document(Text::copy(alloc, slug.as_str())?),
             slug: item.of_document(slugify(alloc, slug.as_str())?),
             categories: item.of_post(slashed(alloc, categories)?),
             name: Some(slugify(alloc, name)?),
             basename: Some(Text::copy(alloc, name)?),
-            path: Some(Text::copy(alloc, path_part(item.config, item.kind, item.path))?),
+            path: Some(Text::copy(alloc, path_part(item.config, item.kind, item.path.text()))?),
             collection: item.of_document(Text::copy(
                 alloc,
                 item.kind.collection_name(item.config),

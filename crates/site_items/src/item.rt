@@ -19,7 +19,7 @@ use crate::lookup::variable;
 use crate::matter::{body, own_variables};
 use crate::names::{categories, names_value, set_names, slug_of, tags};
 use crate::templates::template;
-use site_base::{Hash, Memory, SitePath, Text, Value};
+use site_base::{Hash, Memory, SharedBytes, SitePath, Text, Value};
 use site_config::{Config, Scope};
 use site_files::{extension, file_name, stem};
 use std::alloc::Global;
@@ -55,6 +55,7 @@ pub struct Rules<'a> {
 
 impl Item {
     /// The item that a file of a kind is; `None` where it is left out, since it is not published, or its date is later.
+    /// Its body shares the bytes of the file, and its variables share its path.
     ///
     /// `Fault` comes exactly where the file has a fault before it is known to be left out, and names the first: it is no
     /// UTF-8 (`NotUtf8`), its front matter is no mapping (`Yaml`, with its line), its variable `published` is neither nil
@@ -64,28 +65,31 @@ impl Item {
         alloc: Global,
         rules: &Rules,
         kind: Kind,
-        path: &str,
-        bytes: &[u8],
+        path: &SitePath,
+        bytes: &SharedBytes,
     ) -> Result<Option<Item>, ItemError>
         requires offset { IsOffset rules.now.config.now.timezone }
         requires now { IsMoment rules.now.now }
         ensures { let found = ruled_item rules.entry.now kind path.now bytes.now in
             MatchResult result (λ made. found ≡ Ok made) (IsFault found) }
     {
-        match str::from_utf8(bytes) {
-            Ok(text) => text_item(alloc, rules, kind, path, text),
+        match str::from_utf8(bytes.as_slice()) {
+            Ok(text) => text_item(alloc, rules, kind, path, bytes, text),
             Err(_) => Err(utf8_fault()),
         }
     }
 }
 
+// The item of a file whose bytes are this text.
 fn text_item(
     alloc: Global,
     rules: &Rules,
     kind: Kind,
-    path: &str,
+    path: &SitePath,
+    bytes: &SharedBytes,
     text: &str,
 ) -> Result<Option<Item>, ItemError>
+    requires text { bytes.now ≡ text.now }
     requires offset { IsOffset rules.now.config.now.timezone }
     requires now { IsMoment rules.now.now }
     ensures { let found = ruled_text rules.entry.now kind path.now text.now in
@@ -95,11 +99,12 @@ fn text_item(
     let vars = variables(
         alloc,
         rules.scopes,
-        path,
+        path.text(),
         kind.type_name(rules.config),
         &own,
     )?;
-    item_with(alloc, rules, kind, path, body(text), vars)
+    let body = body(alloc, bytes, text)?;
+    item_with(alloc, rules, kind, path, body, vars)
 }
 
 // An item whose variables these are.
@@ -107,13 +112,13 @@ fn item_with(
     alloc: Global,
     rules: &Rules,
     kind: Kind,
-    path: &str,
-    body: &str,
+    path: &SitePath,
+    body: Text,
     vars: Hash,
 ) -> Result<Option<Item>, ItemError>
     requires offset { IsOffset rules.now.config.now.timezone }
     requires now { IsMoment rules.now.now }
-    ensures { let found = ruled_with rules.entry.now kind path.now body.now vars in
+    ensures { let found = ruled_with rules.entry.now kind path.now body vars in
         MatchResult result (λ made. found ≡ Ok made) (IsFault found) }
 {
     if !is_published(variable(&vars, "published"))? && !rules.config.unpublished {
@@ -139,22 +144,22 @@ fn dated_item(
     alloc: Global,
     rules: &Rules,
     kind: Kind,
-    path: &str,
-    body: &str,
+    path: &SitePath,
+    body: Text,
     vars: Hash,
     given: Option<i64>,
 ) -> Result<Option<Item>, ItemError>
     requires offset { IsOffset rules.now.config.now.timezone }
     requires now { IsMoment rules.now.now }
     requires given { IfSome given IsMoment }
-    ensures { let found = ruled_dated rules.entry.now kind path.now vars body.now given in
+    ensures { let found = ruled_dated rules.entry.now kind path.now vars body given in
         MatchResult result (λ made. found ≡ Ok made) (IsFault found) }
 {
     let moment = item_date(
         rules.config.timezone,
         rules.now,
         kind,
-        stem(file_name(path)),
+        stem(file_name(path.text())),
         given,
     );
     if is_left_out(rules, moment) {
@@ -177,17 +182,17 @@ fn named_item(
     alloc: Global,
     config: &Config,
     kind: Kind,
-    path: &str,
-    body: &str,
+    path: &SitePath,
+    body: Text,
     mut vars: Hash,
     moment: Option<i64>,
 ) -> Result<Option<Item>, ItemError>
     requires offset { IsOffset config.now.timezone }
     requires moment { IfSome moment IsMoment }
-    ensures { let found = named_item config.now kind path.now moment vars body.now in
+    ensures { let found = named_item config.now kind path.now moment vars body in
         MatchResult result (λ made. found ≡ Ok made) (IsFault found) }
 {
-    let name = file_name(path);
+    let name = file_name(path.text());
     set_names(alloc, &mut vars, config.timezone, kind, stem(name))?;
     let sought = Sought {
         config,
@@ -204,23 +209,23 @@ fn built_item(
     alloc: Global,
     sought: &Sought,
     vars: Hash,
-    body: &str,
+    body: Text,
 ) -> Result<Option<Item>, ItemError>
     requires offset { IsOffset sought.now.config.now.timezone }
     requires moment { IfSome sought.now.moment IsMoment }
-    ensures { let found = sought_item sought.now vars body.now in
+    ensures { let found = sought_item sought.now vars body in
         MatchResult result (λ made. found ≡ Ok made) (IsFault found) }
 {
     let template = template_of(alloc, sought, &vars)?;
-    let url = address(alloc, sought, template.as_str(), &vars)?;
+    let url = address(alloc, sought, template.as_str(), &vars)?.into_shared()?;
     let dest = dest_of(alloc, sought.config, sought.kind, url.as_str(), sought.ext)?;
-    let vars = set_variables(alloc, sought, url.as_str(), vars)?;
+    let vars = set_variables(alloc, sought, &url, vars)?;
     Ok(Some(Item {
         moment: sought.moment,
         url,
         dest,
         vars,
-        body: Text::copy(alloc, body)?,
+        body,
     }))
 }
 
@@ -232,7 +237,7 @@ fn template_of(alloc: Global, sought: &Sought, vars: &Hash) -> Result<Text, Item
         alloc,
         sought.config,
         sought.ext,
-        stem(file_name(sought.path)),
+        stem(file_name(sought.path.text())),
         sought.kind,
         variable(vars, "permalink"),
     )
@@ -245,34 +250,34 @@ fn address(alloc: Global, sought: &Sought, template: &str, vars: &Hash) -> Resul
         MatchResult result (λ text. found ≡ Ok text) (IsFault found) }
 {
     let slug = slug_of(alloc, vars)?;
-    let categories = categories(alloc, sought.kind, sought.path, vars)?;
+    let categories = categories(alloc, sought.kind, sought.path.text(), vars)?;
     url_of(alloc, template, sought, &slug, &categories)
 }
 
 // The variables that stand over the item's own.
-fn set_variables(alloc: Global, sought: &Sought, url: &str, mut vars: Hash) -> Result<Hash, Memory>
+fn set_variables(alloc: Global, sought: &Sought, url: &Text, mut vars: Hash) -> Result<Hash, Memory>
     requires offset { IsOffset sought.now.config.now.timezone }
     requires moment { IfSome sought.now.moment IsMoment }
     ensures { IfOk result (λ made. made ≡ all_variables sought.now url.now vars) }
 {
     set_placed(alloc, &mut vars, sought.path, url)?;
     if sought.kind.is_page() {
-        set_page_variables(alloc, &mut vars, sought.path, url)?;
+        set_page_variables(alloc, &mut vars, sought.path.text(), url.as_str())?;
         vars.fit(0)?;
         return Ok(vars);
     }
-    set_document_variables(alloc, &mut vars, sought, url)?;
+    set_document_variables(alloc, &mut vars, sought, url.as_str())?;
     vars.fit(NEIGHBOURS)?;
     Ok(vars)
 }
 
-fn set_placed(alloc: Global, vars: &mut Hash, path: &str, url: &str) -> Result<(), Memory>
+fn set_placed(alloc: Global, vars: &mut Hash, path: &SitePath, url: &Text) -> Result<(), Memory>
     ensures { OnOk result (vars.new ≡ placed path.now url.now vars.old) }
 {
-    set_text(alloc, vars, "path", path)?;
-    set_text(alloc, vars, "relative_path", path)?;
-    set_text(alloc, vars, "url", url)?;
-    set_text(alloc, vars, "ext", extension(file_name(path)))
+    set_shared(alloc, vars, "path", path.as_text())?;
+    set_shared(alloc, vars, "relative_path", path.as_text())?;
+    set_shared(alloc, vars, "url", url)?;
+    set_text(alloc, vars, "ext", extension(file_name(path.text())))
 }
 
 fn set_page_variables(alloc: Global, vars: &mut Hash, path: &str, url: &str) -> Result<(), Memory>
@@ -292,7 +297,7 @@ fn set_document_variables(
     requires moment { IfSome sought.now.moment IsMoment }
     ensures { OnOk result (vars.new ≡ document_variables sought.now.config.now sought.now.kind sought.now.path.now url.now sought.now.moment vars.old) }
 {
-    let categories = categories(alloc, sought.kind, sought.path, vars)?;
+    let categories = categories(alloc, sought.kind, sought.path.text(), vars)?;
     let tags = tags(alloc, vars)?;
     let slug = slug_of(alloc, vars)?;
     set_text(
@@ -349,6 +354,12 @@ fn has_end(url: &str) -> bool
         return false;
     }
     url.ends_with("/")
+}
+
+fn set_shared(alloc: Global, vars: &mut Hash, name: &str, value: &Text) -> Result<(), Memory>
+    ensures { OnOk result (vars.new ≡ set name.now (text value.now) vars.old) }
+{
+    set(alloc, vars, name, Value::Text(value.share(alloc)?))
 }
 
 fn set_text(alloc: Global, vars: &mut Hash, name: &str, value: &str) -> Result<(), Memory>

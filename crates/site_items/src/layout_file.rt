@@ -6,7 +6,7 @@ ghost use Rattle.site_items.specs.Outcomes.{IsFault};
 use crate::folders::{behind, without_extension};
 use crate::item_error::{ItemError, utf8_fault};
 use crate::matter::{body, own_variables};
-use site_base::{SitePath, Text, Value};
+use site_base::{SharedBytes, SitePath, Text, Value};
 use std::alloc::Global;
 use std::str;
 
@@ -22,21 +22,32 @@ pub struct LayoutFile {
 }
 
 impl LayoutFile {
-    /// The layout that a file below `_layouts` is.
+    /// The layout that a file below `_layouts` is. Its body shares the bytes of the file.
     ///
     /// `Fault` comes exactly where the file is no UTF-8 (`NotUtf8`), or else its front matter is no mapping (`Yaml`, with
     /// its line).
-    pub fn read(alloc: Global, path: &SitePath, bytes: &[u8]) -> Result<LayoutFile, ItemError>
+    pub fn read(
+        alloc: Global,
+        path: &SitePath,
+        bytes: &SharedBytes,
+    ) -> Result<LayoutFile, ItemError>
         ensures { MatchResult result (λ made. layout path.now bytes.now ≡ Ok made) (IsFault (layout path.now bytes.now)) }
     {
-        match str::from_utf8(bytes) {
-            Ok(text) => layout_of(alloc, path, text),
+        match str::from_utf8(bytes.as_slice()) {
+            Ok(text) => layout_of(alloc, path, bytes, text),
             Err(_) => Err(utf8_fault()),
         }
     }
 }
 
-fn layout_of(alloc: Global, path: &SitePath, text: &str) -> Result<LayoutFile, ItemError>
+// The layout of a file whose bytes are this text.
+fn layout_of(
+    alloc: Global,
+    path: &SitePath,
+    bytes: &SharedBytes,
+    text: &str,
+) -> Result<LayoutFile, ItemError>
+    requires { bytes.now ≡ text.now }
     ensures { let found = layout_of_text path.now text.now in
         MatchResult result (λ made. found ≡ Ok made) (IsFault found) }
 {
@@ -46,6 +57,6 @@ fn layout_of(alloc: Global, path: &SitePath, text: &str) -> Result<LayoutFile, I
         name: Text::copy(alloc, name)?,
         path: path.copy(alloc)?,
         vars: Value::Hash(own),
-        body: Text::copy(alloc, body(text))?,
+        body: body(alloc, bytes, text)?,
     })
 }

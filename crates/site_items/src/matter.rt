@@ -1,11 +1,11 @@
 // Front matter, and the body behind it.
-ghost use Rattle.std.specs.Prelude.{◌≡◌, MatchResult};
+ghost use Rattle.std.specs.Prelude.{◌≡◌, IfOk, MatchResult};
 ghost use Rattle.site_items.specs.Matter.{body, error_in_file, own_variables};
 ghost use Rattle.site_items.specs.Outcomes.{IsFault};
 
 use crate::item_error::{ItemError, LineFault};
 use front_yaml::{Front, YamlError, read_mapping, split_front};
-use site_base::{FaultKind, Hash};
+use site_base::{FaultKind, Hash, Memory, SharedBytes, Text};
 use std::alloc::Global;
 
 /// The variables that the front matter of a text sets, in their order; none where it has no front matter, or one that is
@@ -39,12 +39,14 @@ fn in_file(error: YamlError) -> ItemError
     }
 }
 
-/// What stands behind the front matter of a text, and all of it where it has none, or one that is not closed.
-pub fn body(text: &str) -> &str
-    ensures { result.now ≡ body text.now }
+/// What stands behind the front matter of a file, and all of it where it has none, or one that is not closed. The text is
+/// that of the file's bytes, which the body shares.
+pub fn body(alloc: Global, bytes: &SharedBytes, text: &str) -> Result<Text, Memory>
+    requires { bytes.now ≡ text.now }
+    ensures { IfOk result (λ made. made ≡ body text.now) }
 {
     match split_front(text.as_bytes()) {
-        Front::Page { body, .. } => &text[body..],
-        Front::Open | Front::Plain => text,
+        Front::Page { body, .. } => Text::end_of(alloc, bytes, body, &text[body..]),
+        Front::Open | Front::Plain => Text::end_of(alloc, bytes, 0, text),
     }
 }

@@ -5,7 +5,7 @@ use crate::{
     IncludeFile, Item, ItemError, Kind, LayoutFile, LineFault, Rules, StaticFile, by_strength,
     title, variable,
 };
-use site_base::{FaultKind, SitePath, YamlKind, code};
+use site_base::{FaultKind, Memory, SharedBytes, SitePath, YamlKind, code};
 use site_config::{Config, read_config};
 use std::alloc::Global;
 use std::process::Abort;
@@ -13,6 +13,10 @@ use std::str;
 
 // 2024-01-01T00:00:00Z
 const NOW: i64 = 1_704_067_200;
+
+fn shared(alloc: Global, file: &[u8]) -> Result<SharedBytes, Memory> {
+    SharedBytes::from_vec(alloc, file.to_vec(alloc)?)
+}
 
 fn read(
     rt: &impl Abort,
@@ -24,6 +28,10 @@ fn read(
 ) -> Result<Option<Item>, ItemError>
     requires { IsOffset config.now.timezone }
 {
+    let (Ok(path), Ok(file)) = (SitePath::read(alloc, path), shared(alloc, file)) else {
+        assert!(rt; false, "no path, or no memory: {path}");
+        return Err(ItemError::Memory);
+    };
     match by_strength(alloc, config.defaults.as_slice()) {
         Ok(scopes) => Item::read(
             alloc,
@@ -34,8 +42,8 @@ fn read(
                 future: config.future,
             },
             kind,
-            path,
-            file,
+            &path,
+            &file,
         ),
         Err(error) => {
             assert!(rt; false, "no memory for the scopes");
@@ -546,12 +554,29 @@ fn check_layout(rt: &impl Abort, alloc: Global, path: &str, file: &[u8], want: (
     let Ok(path) = SitePath::read(alloc, path) else {
         return assert!(rt; false, "no path: {path}");
     };
-    match LayoutFile::read(alloc, &path, file) {
+    let Ok(file) = shared(alloc, file) else {
+        return assert!(rt; false, "no memory");
+    };
+    match LayoutFile::read(alloc, &path, &file) {
         Ok(layout) => {
             assert_eq!(rt; layout.name.as_str(), want.0);
             assert_eq!(rt; layout.body.as_str(), want.1);
         }
         Err(_) => assert!(rt; false, "a fault"),
+    }
+}
+
+// The body of an include, where it has one.
+fn check_include(rt: &impl Abort, alloc: Global, file: &[u8], want: Option<&str>) {
+    let Ok(file) = shared(alloc, file) else {
+        return assert!(rt; false, "no memory");
+    };
+    match IncludeFile::read(alloc, "_includes/a/n.html", &file) {
+        Ok(include) => {
+            assert_eq!(rt; include.name.as_str(), "a/n.html");
+            assert_eq!(rt; Some(include.body.as_str()), want);
+        }
+        Err(_) => assert!(rt; want.is_none(), "a fault"),
     }
 }
 
@@ -574,15 +599,14 @@ fn layouts_and_includes_have_names(rt: HostRuntime) {
         ("gone", "[{{ content }}]"),
     );
     check_layout(&rt, a, "_layouts/x.html", b"---\na: 1", ("x", "---\na: 1"));
-    match IncludeFile::read(a, "_includes/a/n.html", b"---\n---\nx") {
-        Ok(include) => {
-            assert_eq!(rt; include.name.as_str(), "a/n.html");
-            assert_eq!(rt; include.body.as_str(), "---\n---\nx");
-        }
-        Err(_) => assert!(rt; false, "a fault"),
+    for (file, want) in [
+        (b"---\n---\nx".as_slice(), Some("---\n---\nx")),
+        (
+            b"some more than fourteen bytes",
+            Some("some more than fourteen bytes"),
+        ),
+        (b"\xff", None),
+    ] {
+        check_include(&rt, a, file, want);
     }
-    assert!(rt;
-        IncludeFile::read(a, "_includes/a", b"\xff").is_err(),
-        "no UTF-8"
-    );
 }

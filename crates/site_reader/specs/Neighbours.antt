@@ -1,10 +1,9 @@
 -- Items with their neighbours: the document before and the one behind in the same collection, as `next` and `previous` of Jekyll 4's manual, "Variables".
-use Rattle.std.specs.Prelude.{ℕ, ◌==◌, nat_lt, List, [], ◌∷◌, ◌++◌, codes, Option, Some, None, if◌then◌else◌}
+use Rattle.std.specs.Prelude.{ℕ, ◌==◌, nat_lt, List, [], ◌∷◌, codes, Option, Some, None, if◌then◌else◌}
 use Rattle.site_base.specs.Plain.{Plain, nil, site_item, Pairs, set}
 use Rattle.site_base.specs.declared.value.Value.TheVariants as value
 use Rattle.site_items.specs.declared.item.Item.{Item}
 use Rattle.site_reader.specs.Ranks.{Ranked}
-use Rattle.site_reader.specs.declared.neighbours.Row.{Row}
 use Rattle.site_reader.specs.declared.rank.Rank.{Rank}
 use Rattle.site_reader.specs.declared.site_item.SiteItem.{SiteItem}
 
@@ -37,12 +36,3 @@ first_rank (e ∷ es) = Some e.0
 unfoldable pub site_items : ℕ → Option Rank → Ranked → List SiteItem
 site_items documents before [] = []
 site_items documents before (e ∷ es) = site_item_of documents e.0 before (first_rank es) e.1 ∷ site_items documents (Some e.0) es
-
--- ---- items as the code puts them one behind another
-
-abbrev pub with_last : Option (Rank × Item) → Ranked → Ranked
-with_last None es = es
-with_last (Some e) es = e ∷ es
-
-abbrev pub row_items : ℕ → Row → Ranked → List SiteItem
-row_items documents row rest = row.done.items ++ site_items documents row.before (with_last row.last rest)

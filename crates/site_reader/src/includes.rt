@@ -7,7 +7,7 @@ ghost use Rattle.site_reader.specs.Sites.{add_include, includes, read_include};
 use crate::placing::PlacedFile;
 use crate::sequence::Sequence;
 use crate::site_error::{SiteError, error_at};
-use site_base::SitePath;
+use site_base::{SharedBytes, SitePath};
 use site_files::Place;
 use site_items::IncludeFile;
 use std::alloc::Global;
@@ -54,7 +54,7 @@ fn add_include(
 fn read_include(
     alloc: Global,
     path: &SitePath,
-    bytes: &[u8],
+    bytes: &SharedBytes,
     includes: &mut Vec<IncludeFile>,
 ) -> Result<(), SiteError>
     ensures { let found = read_include (path.now, bytes.now) includes.old.items in

@@ -14,7 +14,7 @@ use crate::rank::Rank;
 use crate::sequence::Sequence;
 use crate::site_error::{SiteError, error_at};
 use crate::site_item::SiteItem;
-use site_base::{Memory, SitePath};
+use site_base::{Memory, SharedBytes, SitePath};
 use site_config::Config;
 use site_items::{Item, Kind, Rules};
 use std::alloc::Global;
@@ -76,7 +76,7 @@ fn add_kind(
     rules: &Rules,
     kind: Kind,
     path: &SitePath,
-    bytes: &[u8],
+    bytes: &SharedBytes,
     ranked: &mut BTreeMap<Rank, Item>,
 ) -> Result<(), SiteError>
     requires offset { IsOffset rules.now.config.now.timezone }
@@ -84,7 +84,7 @@ fn add_kind(
     ensures { let found = ruled_kind rules.entry.now kind (path.now, bytes.now) ranked.old.entries in
         MatchResult result (λ _. found ≡ Ok ranked.new.entries) (IsFirst found) }
 {
-    match Item::read(alloc, rules, kind, path.text(), bytes) {
+    match Item::read(alloc, rules, kind, path, bytes) {
         Ok(made) => Ok(put_item(alloc, rules.config, kind, path, made, ranked)?),
         Err(error) => Err(error_at(alloc, path, error)),
     }

@@ -8,7 +8,7 @@ use crate::name::Name;
 use crate::placing::PlacedFile;
 use crate::sequence::{Sequence, values};
 use crate::site_error::{SiteError, error_at};
-use site_base::{Memory, SitePath};
+use site_base::{Memory, SharedBytes, SitePath};
 use site_files::Place;
 use site_items::LayoutFile;
 use std::alloc::Global;
@@ -59,7 +59,7 @@ fn add_layout(
 fn read_layout(
     alloc: Global,
     path: &SitePath,
-    bytes: &[u8],
+    bytes: &SharedBytes,
     layouts: &mut BTreeMap<Name, LayoutFile>,
 ) -> Result<(), SiteError>
     ensures { let found = read_layout (path.now, bytes.now) layouts.old.entries in

@@ -3,8 +3,7 @@ ghost use Rattle.std.specs.Prelude.{◌≡◌, ◌∷◌, ◌++◌, [], IfOk, No
 ghost use Rattle.std.specs.Option.{option_copied};
 ghost use Rattle.site_base.specs.Plain.{set};
 ghost use Rattle.site_base.specs.View.{plain};
-ghost use Rattle.site_reader.specs.Neighbours.{neighbour, row_items, site_item_of, site_items};
-ghost use Rattle.site_reader.specs.Ranks.{Ranked};
+ghost use Rattle.site_reader.specs.Neighbours.{first_rank, neighbour, site_item_of, site_items};
 
 use crate::rank::{Rank, document_groups};
 use crate::sequence::Sequence;
@@ -19,91 +18,35 @@ use std::collections::BTreeMap;
 pub(crate) fn site_items(
     alloc: Global,
     config: &Config,
-    ranked: BTreeMap<Rank, Item>,
+    mut ranked: BTreeMap<Rank, Item>,
 ) -> Result<Sequence<SiteItem>, Memory>
     ensures { IfOk result (λ made. made ≡ site_items (length config.now.collections) None ranked.entries) }
 {
     let documents = document_groups(config);
-    let mut row = Row {
-        done: Vec::with_capacity(alloc, ranked.len())?,
-        before: None,
-        last: None,
-    };
-    for (rank, item) in ranked {
-        row = put_behind(alloc, documents, row, rank, item)?;
+    let mut done = Vec::with_capacity(alloc, ranked.len())?;
+    let mut before = None;
+    // Each leaves the map before the next is made, so that no item stands twice in memory.
+    while let Some((rank, item)) = ranked.pop_first() {
+        push_item(
+            alloc,
+            documents,
+            &mut done,
+            &rank,
+            before.as_ref(),
+            first_rank(&ranked),
+            item,
+        )?;
+        before = Some(rank);
     }
-    Ok(Sequence::from_vec(finished(alloc, documents, row)?))
+    Ok(Sequence::from_vec(done))
 }
 
-// Items one behind another. Of the last the next is not known yet.
-#[derive(Drop)]
-struct Row {
-    done: Vec<SiteItem>,
-    before: Option<Rank>,
-    last: Option<(Rank, Item)>,
-}
-
-fn put_behind(
-    alloc: Global,
-    documents: u64,
-    row: Row,
-    rank: Rank,
-    item: Item,
-) -> Result<Row, Memory>
-    ensures { IfOk result (λ made. (rest : Ranked) → row_items documents made rest ≡ row_items documents row ((rank, item) ∷ rest)) }
+fn first_rank(ranked: &BTreeMap<Rank, Item>) -> Option<&Rank>
+    ensures { option_copied result ≡ first_rank ranked.now.entries }
 {
-    let Row {
-        mut done,
-        before,
-        last,
-    } = row;
-    match last {
-        None => Ok(Row {
-            done,
-            before,
-            last: Some((rank, item)),
-        }),
-        Some((own, made)) => {
-            push_item(
-                alloc,
-                documents,
-                &mut done,
-                &own,
-                before.as_ref(),
-                Some(&rank),
-                made,
-            )?;
-            Ok(Row {
-                done,
-                before: Some(own),
-                last: Some((rank, item)),
-            })
-        }
-    }
-}
-
-fn finished(alloc: Global, documents: u64, row: Row) -> Result<Vec<SiteItem>, Memory>
-    ensures { IfOk result (λ made. made.items ≡ row_items documents row []) }
-{
-    let Row {
-        mut done,
-        before,
-        last,
-    } = row;
-    match last {
-        None => Ok(done),
-        Some((own, made)) => {
-            push_item(
-                alloc,
-                documents,
-                &mut done,
-                &own,
-                before.as_ref(),
-                None,
-                made,
-            )?;
-            Ok(done)
-        }
+    match ranked.first_key_value() {
+        Some((rank, _)) => Some(rank),
+        None => None,
     }
 }
 

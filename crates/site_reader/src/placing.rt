@@ -7,7 +7,7 @@ ghost use Rattle.site_reader.specs.Placing.{as_copy, as_item, builds_drafts, bui
 ghost use Rattle.source_tree.specs.Limits.{CanBeHeld};
 
 use front_yaml::{Front, split_front};
-use site_base::{Memory, Settings, SitePath};
+use site_base::{Memory, Settings, SharedBytes, SitePath};
 use site_config::Config;
 use site_files::Place;
 use site_items::Kind;
@@ -19,7 +19,7 @@ use std::alloc::Global;
 pub(crate) struct PlacedFile<'a> {
     pub(crate) place: Place,
     pub(crate) path: &'a SitePath,
-    pub(crate) bytes: &'a [u8],
+    pub(crate) bytes: &'a SharedBytes,
 }
 
 /// The held files in the order of their paths, each with its place.
@@ -47,7 +47,7 @@ fn placed_file<'a>(held: &'a Held, number: u32, config: &Config, drafts: bool) -
     ensures file { (seen result).1 ≡ slice_index_or (finite.entries held.entry.now) number (seen result).1 }
     ensures place { seen result ≡ placed config.now drafts (seen result).1 }
 {
-    let (path, bytes) = held.at(number);
+    let (path, bytes) = held.shared_at(number);
     let place = Place::of(config, drafts, path.text());
     PlacedFile { place, path, bytes }
 }
@@ -57,7 +57,7 @@ impl PlacedFile<'_> {
     pub(crate) fn as_item(&self) -> Option<Kind>
         ensures { result ≡ as_item (seen self.now) }
     {
-        if has_matter(self.bytes) {
+        if has_matter(self.bytes.as_slice()) {
             item_kind(self.place)
         } else {
             None
@@ -68,7 +68,7 @@ impl PlacedFile<'_> {
     pub(crate) fn as_copy(&self) -> Option<Kind>
         ensures { result ≡ as_copy (seen self.now) }
     {
-        if has_matter(self.bytes) {
+        if has_matter(self.bytes.as_slice()) {
             None
         } else {
             copied_kind(self.place)
