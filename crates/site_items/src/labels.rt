@@ -82,7 +82,7 @@ pub(crate) fn add_name(names: &mut GrowingHash, name: Text) -> Result<(), Memory
 pub(crate) fn name_list(alloc: Global, names: &Hash) -> Result<List, Memory>
     ensures { IfOk result (λ list. list ≡ text_items (key_list names.now)) }
 {
-    let mut list = List::new(alloc);
+    let mut list = List::with_capacity(alloc, names.as_slice().len())?;
     for pair in names.as_slice() {
         list.push(Value::Text(Text::copy(alloc, pair.key.as_str())?))?;
     }

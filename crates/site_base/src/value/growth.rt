@@ -20,6 +20,15 @@ impl List {
         }
     }
 
+    /// The empty list, with room for so many values: it takes no more memory until there are more.
+    pub fn with_capacity(alloc: Global, values: usize) -> Result<List, Memory>
+        ensures { IfOk result (λ list. list ≡ no_items) }
+    {
+        Ok(List {
+            items: Vec::with_capacity(alloc, values)?,
+        })
+    }
+
     /// Adds a value at the end.
     #[tactic(auto, using(crate::proofs::ValueLaws::items_append))]
     pub fn push(&mut self, value: Value) -> Result<(), Memory>
