@@ -1,3 +1,4 @@
+mod Collected
 mod ConfigurationLaws
 mod DataLaws
 mod Differing
@@ -7,6 +8,7 @@ mod ItemLaws
 mod LawfulSites
 mod LayoutLaws
 mod NeighbourLaws
+mod RankOrder
 mod RisingLaws
 mod VariableLaws
 mod Weights

@@ -1,10 +1,9 @@
 -- The variables by which an item is known.
 use Rattle.std.proofs.Common.{◌≡◌, ℕ, Bool, true, false, ◌||◌, List, [], ◌∷◌, codes, length, nat_lt, Option, Some, None, Ok, Err, Less, Equal, Greater, Ordering, if◌then◌else◌, All, refl, sym, ap, subst, ◌∙◌}
 use Rattle.std.specs.BTreeMap.{insert_entry}
-use Rattle.std.specs.Cmp.Lexicographic.{slice_cmp}
 use Rattle.std.specs.List.{AllByRecursion}
 use Rattle.std.specs.Option.{unwrap_or}
-use Rattle.std.specs.Ordering.{bool_cmp, int_cmp, match_ordering, nat_cmp, ordering_then}
+use Rattle.std.specs.Ordering.{match_ordering}
 use Rattle.std.specs.Prelude.{ℤ}
 use Rattle.std.specs.Str.{bytes_eq, is_utf8}
 use Rattle.std.proofs.lemmas.List.Elements.{All-from_recursion}
@@ -32,8 +31,8 @@ use Rattle.site_reader.specs.Ranks.{Ranked, rank, rank_cmp, with_item}
 use Rattle.site_reader.specs.Sites as sites
 use Rattle.site_reader.specs.declared.rank.Rank.{Rank}
 use Rattle.site_reader.specs.declared.site_item.SiteItem.{SiteItem}
-use Rattle.site_reader.proofs.Differing.{tied}
 use Rattle.site_reader.proofs.ItemLaws.{rank_path}
+use Rattle.site_reader.proofs.RankOrder.{rank_same}
 use Rattle.site_reader.proofs.Weights.{each_keeps, file_found, found_before, found_value, outcome_before, outcome_value}
 
 -- ---- what stands at a key
@@ -197,13 +196,8 @@ module _ (config : Config) (now : ℤ) (future : Bool) (k : Kind) (path : List �
 
 -- ---- the items in their order
 
-later : (a b : Ordering) → ordering_then a b ≡ Equal → b ≡ Equal
-later Less b e = absurd (cc (e))
-later Equal b e = e
-later Greater b e = absurd (cc (e))
-
 path_tied : (a b : Rank) → rank_cmp a b ≡ Equal → a.path ≡ b.path
-path_tied a b e = tied a.path b.path (later (slice_cmp nat_cmp a.name b.name) _ (later (int_cmp a.moment b.moment) _ (later (bool_cmp a.undated b.undated) _ (later (nat_cmp a.group b.group) _ e))))
+path_tied a b e = ap (λ (r : Rank). r.path) (rank_same a b e)
 
 abbrev AreKnown : Ranked → Type 0
 AreKnown es = AllByRecursion (λ e. IsKnown e.0.path e.1) es

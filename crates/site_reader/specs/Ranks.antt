@@ -1,5 +1,5 @@
 -- The order in which items are rendered: by collections, then pages; documents by their date, those without one last, and pages by file name; then by path. Jekyll names no order for documents without a date; that they stand last is this project's own.
-use Rattle.std.specs.Prelude.{ℕ, ℤ, pos, true, false, List, [], length, Option, Some, None}
+use Rattle.std.specs.Prelude.{ℕ, ℤ, pos, true, false, List, [], fold, length, Option, Some, None}
 use Rattle.std.specs.BTreeMap.{insert_entry}
 use Rattle.std.specs.Cmp.Lexicographic.{slice_cmp}
 use Rattle.std.specs.Ordering.{bool_cmp, int_cmp, nat_cmp, ordering_then}
@@ -41,3 +41,12 @@ Ranked = List (Rank × Item)
 abbrev pub with_item : Config → Kind → List ℕ → Option Item → Ranked → Ranked
 with_item config k path None items = items
 with_item config k path (Some made) items = insert_entry rank_cmp items (rank config k path made.moment) made
+
+-- ---- items in the order of their paths, as the code keeps them until they are sorted
+
+abbrev pub put_in : Ranked → Rank × Item → Ranked
+put_in items e = insert_entry rank_cmp items e.0 e.1
+
+-- the same items in their order
+abbrev pub in_order : List (Rank × Item) → Ranked
+in_order made = fold put_in [] made

@@ -1,11 +1,10 @@
 // The items of a site.
-ghost use Rattle.std.specs.Prelude.{◌≡◌, MatchResult, Ok, OnOk, map};
-ghost use Rattle.std.specs.BTreeMap.{insert_entry};
+ghost use Rattle.std.specs.Prelude.{◌≡◌, IfOk, MatchResult, Ok, OnOk, map};
 ghost use Rattle.site_dates.specs.Moment.{IsMoment};
 ghost use Rattle.site_dates.specs.Offset.{IsOffset};
 ghost use Rattle.site_reader.specs.Found.{IsFirst};
 ghost use Rattle.site_reader.specs.Placing.{seen};
-ghost use Rattle.site_reader.specs.Ranks.{rank_cmp, with_item};
+ghost use Rattle.site_reader.specs.Ranks.{in_order, with_item};
 ghost use Rattle.site_reader.specs.Ruled.{ruled_item, ruled_items, ruled_kind, ruled_ranks};
 
 use crate::neighbours::site_items;
@@ -37,6 +36,7 @@ pub(crate) fn items(
     }
 }
 
+// They are sorted once, when all are read: a map that grows would take twice the room.
 fn ranked_items(
     alloc: Global,
     rules: &Rules,
@@ -47,26 +47,49 @@ fn ranked_items(
     ensures { let found = ruled_ranks rules.entry.now (map seen files.entry.now) in
         MatchResult result (λ made. found ≡ Ok made.entries) (IsFirst found) }
 {
-    let mut ranked = BTreeMap::new(alloc);
-    for file in files {
-        add_item(alloc, rules, file, &mut ranked)?;
+    match read_items(alloc, rules, files) {
+        Ok(items) => Ok(sorted(alloc, items)?),
+        Err(error) => Err(error),
     }
-    Ok(ranked)
+}
+
+fn sorted(alloc: Global, items: Vec<(Rank, Item)>) -> Result<BTreeMap<Rank, Item>, Memory>
+    ensures { IfOk result (λ made. made.entries ≡ in_order items.items) }
+{
+    Ok(items.into_iter().collect(alloc)?)
+}
+
+// The items in the order of their paths.
+fn read_items(
+    alloc: Global,
+    rules: &Rules,
+    files: &[PlacedFile],
+) -> Result<Vec<(Rank, Item)>, SiteError>
+    requires offset { IsOffset rules.now.config.now.timezone }
+    requires now { IsMoment rules.now.now }
+    ensures { let found = ruled_ranks rules.entry.now (map seen files.entry.now) in
+        MatchResult result (λ made. found ≡ Ok (in_order made.items)) (IsFirst found) }
+{
+    let mut items = Vec::with_capacity(alloc, files.len())?;
+    for file in files {
+        add_item(alloc, rules, file, &mut items)?;
+    }
+    Ok(items)
 }
 
 fn add_item(
     alloc: Global,
     rules: &Rules,
     file: &PlacedFile,
-    ranked: &mut BTreeMap<Rank, Item>,
+    items: &mut Vec<(Rank, Item)>,
 ) -> Result<(), SiteError>
     requires offset { IsOffset rules.now.config.now.timezone }
     requires now { IsMoment rules.now.now }
-    ensures { let found = ruled_item rules.entry.now (seen file.entry.now) ranked.old.entries in
-        MatchResult result (λ _. found ≡ Ok ranked.new.entries) (IsFirst found) }
+    ensures { let found = ruled_item rules.entry.now (seen file.entry.now) (in_order items.old.items) in
+        MatchResult result (λ _. found ≡ Ok (in_order items.new.items)) (IsFirst found) }
 {
     match file.as_item() {
-        Some(kind) => add_kind(alloc, rules, kind, file.path, file.bytes, ranked),
+        Some(kind) => add_kind(alloc, rules, kind, file.path, file.bytes, items),
         None => Ok(()),
     }
 }
@@ -77,44 +100,35 @@ fn add_kind(
     kind: Kind,
     path: &SitePath,
     bytes: &SharedBytes,
-    ranked: &mut BTreeMap<Rank, Item>,
+    items: &mut Vec<(Rank, Item)>,
 ) -> Result<(), SiteError>
     requires offset { IsOffset rules.now.config.now.timezone }
     requires now { IsMoment rules.now.now }
-    ensures { let found = ruled_kind rules.entry.now kind (path.now, bytes.now) ranked.old.entries in
-        MatchResult result (λ _. found ≡ Ok ranked.new.entries) (IsFirst found) }
+    ensures { let found = ruled_kind rules.entry.now kind (path.now, bytes.now) (in_order items.old.items) in
+        MatchResult result (λ _. found ≡ Ok (in_order items.new.items)) (IsFirst found) }
 {
     match Item::read(alloc, rules, kind, path, bytes) {
-        Ok(made) => Ok(put_item(alloc, rules.config, kind, path, made, ranked)?),
+        Ok(made) => Ok(put_item(alloc, rules.config, kind, path, made, items)?),
         Err(error) => Err(error_at(alloc, path, error)),
     }
 }
 
-// Puts an item at its place; one that is left out has none.
+// Adds an item; one that is left out is none.
 fn put_item(
     alloc: Global,
     config: &Config,
     kind: Kind,
     path: &SitePath,
     made: Option<Item>,
-    ranked: &mut BTreeMap<Rank, Item>,
+    items: &mut Vec<(Rank, Item)>,
 ) -> Result<(), Memory>
-    ensures { OnOk result (ranked.new.entries ≡ with_item config.now kind path.now made ranked.old.entries) }
+    ensures { OnOk result (in_order items.new.items ≡ with_item config.now kind path.now made (in_order items.old.items)) }
 {
     match made {
         Some(item) => {
             let rank = Rank::of(alloc, config, kind, path, item.moment)?;
-            put_ranked(ranked, rank, item)
+            Ok(items.push((rank, item))?)
         }
         None => Ok(()),
-    }
-}
-
-fn put_ranked(ranked: &mut BTreeMap<Rank, Item>, rank: Rank, item: Item) -> Result<(), Memory>
-    ensures { OnOk result (ranked.new.entries ≡ insert_entry rank_cmp ranked.old.entries rank item) }
-{
-    match ranked.insert(rank, item) {
-        Ok(_) => Ok(()),
-        Err(_) => Err(Memory),
     }
 }
