@@ -12,7 +12,7 @@ use Rattle.site_items.specs.Defaults.{by_strength}
 use Rattle.site_items.specs.declared.static_file.StaticFile.{StaticFile}
 use Rattle.site_reader.specs.Data.{data_tree}
 use Rattle.site_reader.specs.Found.{IsFirst}
-use Rattle.site_reader.specs.Lawful.{Differ, IsLawful}
+use Rattle.site_reader.specs.Lawful.{Differ, HasVariables, IsLawful, KnowsItself}
 use Rattle.site_reader.specs.Placing.{Placed, builds_drafts, builds_future, placed}
 use Rattle.site_reader.specs.Sites as sites
 use Rattle.site_reader.specs.declared.site.Site.{Site}
@@ -23,7 +23,7 @@ use Rattle.site_reader.proofs.ConfigurationLaws.{IsFormed, config_formed}
 use Rattle.site_reader.proofs.Differing.{differ, each_named, file_held, file_once, named}
 use Rattle.site_reader.proofs.IncludeLaws.{includes_differ}
 use Rattle.site_reader.proofs.ItemLaws.{copies_add, files_placed, items_by_add}
-use Rattle.site_reader.proofs.LayoutLaws.{layouts_differ}
+use Rattle.site_reader.proofs.LayoutLaws.{layouts_differ, layouts_have}
 use Rattle.site_reader.proofs.VariableLaws.{items_know}
 use Rattle.site_reader.proofs.Weights.{found_before, found_value, weight, weight_length}
 
@@ -103,13 +103,18 @@ module _ {files : Files} {now : ℤ} {settings : Settings} {config : Config} {ma
   formed : IsFormed made.config
   formed = subst IsFormed here.config_is (config_formed files config given.config_read)
 
+  items_have : All (λ (item : SiteItem). KnowsItself item × HasVariables config item) made.items
+  items_have = items_know config (by_strength config.defaults) now (builds_future config settings) (map (placed config (builds_drafts config settings)) (entries files)) made.items here.items
+
   lawful : IsLawful files made
   lawful = record {
     few = omega (arith, weight_length made.items, weight_length (entries files), len-entries files, items_weigh (λ path. 1));
     items_differ = items_differ;
     layouts_differ = layouts_differ (map (placed config (builds_drafts config settings)) (entries files)) made.layouts here.layouts;
     includes_differ = includes_differ files config (builds_drafts config settings) made.includes here.includes;
-    items_known = items_know (by_strength config.defaults) config now (builds_future config settings) (map (placed config (builds_drafts config settings)) (entries files)) made.items here.items;
+    items_known = λ place other inside. (items_have place other inside).0;
+    variables = subst (λ c. All (HasVariables c) made.items) here.config_is (λ place other inside. (items_have place other inside).1);
+    layout_variables = layouts_have (map (placed config (builds_drafts config settings)) (entries files)) made.layouts here.layouts;
     copies_differ = copies_differ;
     copies_held = copies_held;
     moment = subst IsMoment here.moment given.moment;

@@ -1,5 +1,5 @@
 -- The names of layouts rise, since those with one name take one place.
-use Rattle.std.proofs.Common.{◌≡◌, ℕ, List, [], ◌∷◌, Less, Equal, Greater, Ordering, Ok, arith, refl, ap, subst, ◌∙◌}
+use Rattle.std.proofs.Common.{◌≡◌, ℕ, All, Bool, true, false, Err, if◌then◌else◌, List, [], ◌∷◌, Less, Equal, Greater, Ordering, Ok, arith, refl, ap, subst, ◌∙◌}
 use Rattle.std.specs.BTreeMap.{insert_entry}
 use Rattle.std.specs.Cmp.{IsTotalOrder}
 use Rattle.std.specs.Cmp.Lexicographic.{nat_list_cmp_total}
@@ -8,16 +8,20 @@ use Rattle.std.specs.List.Sorted.{IsStrictlySortedBy}
 use Rattle.std.specs.Map.{keys_of, values_of}
 use Rattle.std.specs.Ordering.{match_ordering, ordering_reverse}
 use Rattle.std.proofs.lemmas.Map.Keys.{IsDistinct-from_sorted}
+use Rattle.std.specs.Str.{is_utf8}
+use Rattle.std.proofs.lemmas.List.Elements.{All-from_recursion}
 use Rattle.site_base.specs.Places.{path_cmp}
+use Rattle.site_base.specs.declared.faults.FaultKind.TheVariants as fault
 use Rattle.site_files.specs.declared.place.Place.TheVariants as place
 use Rattle.site_items.specs.Files as file
+use Rattle.site_items.specs.Matter.{own_variables}
 use Rattle.site_items.specs.declared.layout_file.LayoutFile.{LayoutFile}
 use Rattle.site_reader.specs.Found.{each, in_file}
-use Rattle.site_reader.specs.Lawful.{Differ}
+use Rattle.site_reader.specs.Lawful.{Differ, HasHash}
 use Rattle.site_reader.specs.Placing.{File, Placed}
 use Rattle.site_reader.specs.Sites as sites
 use Rattle.site_reader.proofs.Differing.{differ, named, once_in, tied}
-use Rattle.site_reader.proofs.Weights.{each_keeps, found_before, found_value, weight}
+use Rattle.site_reader.proofs.Weights.{each_keeps, file_found, found_before, found_value, outcome_before, outcome_value, weight}
 
 order : IsTotalOrder path_cmp
 order = nat_list_cmp_total
@@ -71,18 +75,46 @@ names_inserted made (e ∷ es) all = by (path_cmp made.name e.0) refl (names_ins
     by Equal is rest = (tied made.name e.0 is, all.1)
     by Greater is rest = (all.0, rest)
 
+abbrev HaveHashes : Layouts → Type 0
+HaveHashes es = AllByRecursion (λ e. HasHash e.1) es
+
+hashes_inserted : (made : LayoutFile) (es : Layouts) → HasHash made → HaveHashes es → HaveHashes (sites.with_layout made es)
+hashes_inserted made [] has all = (has, tt)
+hashes_inserted made (e ∷ es) has all = by (path_cmp made.name e.0) (hashes_inserted made es has all.1)
+  where
+    by : (r : Ordering) → HaveHashes (insert_entry path_cmp es made.name made)
+        → HaveHashes (match_ordering r ((made.name, made) ∷ e ∷ es) ((e.0, made) ∷ es) (e ∷ insert_entry path_cmp es made.name made))
+    by Less rest = (has, all)
+    by Equal rest = (has, all.1)
+    by Greater rest = (all.0, rest)
+
+-- the layout of a file has the variables of its front matter
+has_hash : (path bytes : List ℕ) (made : LayoutFile) → file.layout path bytes ≡ Ok made → HasHash made
+has_hash path bytes made e = by (is_utf8 bytes) e
+  where
+    by : (b : Bool) → (if b then file.layout_of_text path bytes else Err (0, fault.NotUtf8)) ≡ Ok made → HasHash made
+    by true is =
+        let own = outcome_before (own_variables bytes) _ made is in
+        subst HasHash (outcome_value (file.layout_with path bytes own.0) made own.2) (own.0, refl)
+    by false is = absurd (cc (is))
+
 record InOrder (es : Layouts) : Type 0 where
   rise : IsStrictlySortedBy path_cmp (keys_of es)
   names : AreNamed es
+  hashes : HaveHashes es
 
 none_yet : InOrder []
 unfolding IsStrictlySortedBy
-none_yet = record { rise = tt; names = tt }
+none_yet = record { rise = tt; names = tt; hashes = tt }
 
 read_layout : (f : File) (made more : Layouts) → sites.read_layout f made ≡ Ok more → InOrder made → InOrder more
 read_layout f made more e is =
     let read = found_before (in_file f.0 (file.layout f.0 f.1)) _ more e in
-    subst InOrder (found_value _ more read.2) (record { rise = rises_inserted read.0.name read.0 made is.rise; names = names_inserted read.0 made is.names })
+    subst InOrder (found_value _ more read.2) (record {
+      rise = rises_inserted read.0.name read.0 made is.rise;
+      names = names_inserted read.0 made is.names;
+      hashes = hashes_inserted read.0 made (has_hash f.0 f.1 read.0 (file_found f.0 (file.layout f.0 f.1) read.0 read.1)) is.hashes;
+    })
 
 add_layout : (f : Placed) (made more : Layouts) → sites.add_layout f made ≡ Ok more → InOrder made → InOrder more
 add_layout (place.Layout, f) made more e is = read_layout f made more e is
@@ -92,9 +124,21 @@ values_named : (q : List ℕ) (es : Layouts) → AreNamed es → weight (λ l. n
 values_named q [] all = refl
 values_named q (e ∷ es) all = omega (arith, ap (named q) all.0, values_named q es all.1)
 
-pub layouts_differ : (files : List Placed) (made : List LayoutFile) → sites.layouts files ≡ Ok made → Differ (λ l. l.name) made
-layouts_differ files made e =
-    let all = found_before (each sites.add_layout files []) _ made e in
-    let is : InOrder all.0 = each_keeps sites.add_layout InOrder add_layout files [] all.0 all.1 none_yet in
-    subst (Differ (λ (l : LayoutFile). l.name)) (found_value (values_of all.0) made all.2)
-    (differ (λ l. l.name) (values_of all.0) (λ q. omega (arith, values_named q all.0 is.names, once_in all.0 (IsDistinct-from_sorted path_cmp (keys_of all.0) is.rise) q)))
+values_have : (es : Layouts) → HaveHashes es → AllByRecursion HasHash (values_of es)
+values_have [] all = tt
+values_have (e ∷ es) all = (all.0, values_have es all.1)
+
+module _ (files : List Placed) (made : List LayoutFile) (e : sites.layouts files ≡ Ok made) where
+  found : (all : Layouts) × (each sites.add_layout files [] ≡ Ok all) × (values_of all ≡ made)
+  found = let all = found_before (each sites.add_layout files []) _ made e in (all.0, all.1, found_value (values_of all.0) made all.2)
+
+  in_order : InOrder found.0
+  in_order = each_keeps sites.add_layout InOrder add_layout files [] found.0 found.1 none_yet
+
+  pub layouts_differ : Differ (λ l. l.name) made
+  layouts_differ =
+      subst (Differ (λ (l : LayoutFile). l.name)) found.2
+      (differ (λ l. l.name) (values_of found.0) (λ q. omega (arith, values_named q found.0 in_order.names, once_in found.0 (IsDistinct-from_sorted path_cmp (keys_of found.0) in_order.rise) q)))
+
+  pub layouts_have : All HasHash made
+  layouts_have = subst (All HasHash) found.2 (All-from_recursion HasHash (values_of found.0) (values_have found.0 in_order.hashes))

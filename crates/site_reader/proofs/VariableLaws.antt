@@ -4,10 +4,11 @@ use Rattle.std.specs.BTreeMap.{insert_entry}
 use Rattle.std.specs.List.{AllByRecursion}
 use Rattle.std.specs.Option.{unwrap_or}
 use Rattle.std.specs.Ordering.{match_ordering}
-use Rattle.std.specs.Prelude.{ℤ}
+use Rattle.std.specs.Prelude.{ℤ, ◌==◌}
+use Rattle.std.proofs.Common.{inl, inr}
 use Rattle.std.specs.Str.{bytes_eq, is_utf8}
 use Rattle.std.proofs.lemmas.List.Elements.{All-from_recursion}
-use Rattle.site_base.specs.Plain.{Plain, nil, bool, text, Pairs, no_pairs, pair, get, set}
+use Rattle.site_base.specs.Plain.{Plain, nil, bool, hash, site_item, text, Pairs, no_pairs, pair, get, set}
 use Rattle.site_base.specs.declared.faults.FaultKind.TheVariants as fault
 use Rattle.site_base.proofs.Entries.{same_text, text_same}
 use Rattle.site_config.specs.declared.config.Config.{Config}
@@ -24,7 +25,7 @@ use Rattle.site_items.specs.declared.item.Item.{Item}
 use Rattle.site_items.specs.declared.kind.Kind.{Kind}
 use Rattle.site_items.specs.declared.kind.Kind.TheVariants as kind
 use Rattle.site_reader.specs.Found.{each, in_file}
-use Rattle.site_reader.specs.Lawful.{KnowsItself}
+use Rattle.site_reader.specs.Lawful.{HasVariables, IsNeighbour, KnowsItself}
 use Rattle.site_reader.specs.Neighbours.{neighbour, site_item_of, site_items, with_neighbours}
 use Rattle.site_reader.specs.Placing.{File, Placed, as_item}
 use Rattle.site_reader.specs.Ranks.{Ranked, rank, rank_cmp, with_item}
@@ -139,58 +140,69 @@ module _ (path address : List ℕ) where
 
 -- ---- an item that is found
 
-abbrev IsKnown : List ℕ → Item → Type 0
-IsKnown path made = Known path made.url made.vars
+-- its variables are those that are given, and over them those of its kind
+record IsMade (config : Config) (path : List ℕ) (made : Item) : Type 0 where
+  kind : Kind
+  given : Pairs
+  moment : Option ℤ
+  are : made.vars ≡ of.kind_variables config kind path made.url moment (of.placed path made.url (of.kind_named config.timezone kind (stem (file_name path)) given))
+
+abbrev IsKnown : Config → List ℕ → Item → Type 0
+IsKnown config path made = Known path made.url made.vars × IsMade config path made
 
 module _ (config : Config) (now : ℤ) (future : Bool) (k : Kind) (path : List ℕ) (made : Item) where
   abbrev Makes : Outcome (Option Item) → Type 0
   Makes found = found ≡ Ok (Some made)
 
+  abbrev Named : Pairs → Pairs
+  Named given = of.kind_named config.timezone k (stem (file_name path)) given
+
   nothing : ◌≡◌ {A = Outcome (Option Item)} (Ok None) (Ok (Some made)) → ⊥
   nothing e = absurd (cc (outcome_value None (Some made) e))
 
-  at_address : (moment : Option ℤ) (vars : Pairs) (text_body ext address : List ℕ) → Makes (of.item_at config k path moment vars text_body ext address) → IsKnown path made
-  at_address moment vars text_body ext address e =
+  at_address : (moment : Option ℤ) (given : Pairs) (text_body ext address : List ℕ) → Makes (of.item_at config k path moment (Named given) text_body ext address) → IsKnown config path made
+  at_address moment given text_body ext address e =
       let dest = outcome_before (dest_of config k address ext) _ (Some made) e in
       let is = ap (λ (o : Option Item). unwrap_or o made) (outcome_value _ (Some made) dest.2) in
-      subst (IsKnown path) is (known_kind path address config k moment (of.placed path address vars) (known_placed path address vars))
+      let own = of.placed path address (Named given) in
+      subst (IsKnown config path) is (known_kind path address config k moment own (known_placed path address (Named given)), record { kind = k; given = given; moment = moment; are = refl })
 
-  built : (moment : Option ℤ) (text_body ext : List ℕ) (vars : Pairs) → Makes (of.built_with config k path moment text_body ext vars) → IsKnown path made
-  built moment text_body ext vars e =
-      let t = outcome_before (template config ext (stem (file_name path)) k (variable (codes "permalink") vars)) _ (Some made) e in
-      let address = outcome_before (found_url _) (of.item_at config k path moment vars text_body ext) (Some made) t.2 in
-      at_address moment vars text_body ext address.0 address.2
+  built : (moment : Option ℤ) (text_body ext : List ℕ) (given : Pairs) → Makes (of.built_with config k path moment text_body ext (Named given)) → IsKnown config path made
+  built moment text_body ext given e =
+      let t = outcome_before (template config ext (stem (file_name path)) k (variable (codes "permalink") (Named given))) _ (Some made) e in
+      let address = outcome_before (found_url _) (of.item_at config k path moment (Named given) text_body ext) (Some made) t.2 in
+      at_address moment given text_body ext address.0 address.2
 
-  dated : (vars : Pairs) (text_body : List ℕ) (given : Option ℤ) → Makes (of.dated_item config now future k path vars text_body given) → IsKnown path made
+  dated : (vars : Pairs) (text_body : List ℕ) (given : Option ℤ) → Makes (of.dated_item config now future k path vars text_body given) → IsKnown config path made
   dated vars text_body given e = by (of.is_left_out now future moment) e
     where
       moment : Option ℤ
       moment = of.document_date config.timezone now k (stem (file_name path)) given
 
-      by : (b : Bool) → Makes (if b then Ok None else of.named_item config k path moment vars text_body) → IsKnown path made
+      by : (b : Bool) → Makes (if b then Ok None else of.named_item config k path moment vars text_body) → IsKnown config path made
       by true is = absurd (nothing is)
-      by false is = built moment text_body (output_ext config.markdown_ext (extension (file_name path))) (of.kind_named config.timezone k (stem (file_name path)) vars) is
+      by false is = built moment text_body (output_ext config.markdown_ext (extension (file_name path))) vars is
 
-  published : (vars : Pairs) (text_body : List ℕ) (told : Bool) → Makes (of.published_item config now future k path vars text_body told) → IsKnown path made
+  published : (vars : Pairs) (text_body : List ℕ) (told : Bool) → Makes (of.published_item config now future k path vars text_body told) → IsKnown config path made
   published vars text_body told e = by (told || config.unpublished) e
     where
-      by : (b : Bool) → Makes (if b then given_date config.timezone (variable (codes "date") vars) >>= of.dated_item config now future k path vars text_body else Ok None) → IsKnown path made
+      by : (b : Bool) → Makes (if b then given_date config.timezone (variable (codes "date") vars) >>= of.dated_item config now future k path vars text_body else Ok None) → IsKnown config path made
       by true is =
           let given = outcome_before (given_date config.timezone (variable (codes "date") vars)) (of.dated_item config now future k path vars text_body) (Some made) is in
           dated vars text_body given.0 given.2
       by false is = absurd (nothing is)
 
-  in_text : (scopes : List Scope) (s : List ℕ) → Makes (of.text_item config scopes now future k path s) → IsKnown path made
+  in_text : (scopes : List Scope) (s : List ℕ) → Makes (of.text_item config scopes now future k path s) → IsKnown config path made
   in_text scopes s e =
       let own = outcome_before (matter.own_variables s) _ (Some made) e in
       let vars = variables scopes path (of.type_name config k) own.0 in
       let told = outcome_before (of.is_published (variable (codes "published") vars)) (of.published_item config now future k path vars (matter.body s)) (Some made) own.2 in
       published vars (matter.body s) told.0 told.2
 
-  item_known : (scopes : List Scope) (bytes : List ℕ) → Makes (of.item config scopes now future k path bytes) → IsKnown path made
+  item_known : (scopes : List Scope) (bytes : List ℕ) → Makes (of.item config scopes now future k path bytes) → IsKnown config path made
   item_known scopes bytes e = by (is_utf8 bytes) e
     where
-      by : (b : Bool) → Makes (if b then of.text_item config scopes now future k path bytes else Err (0, fault.NotUtf8)) → IsKnown path made
+      by : (b : Bool) → Makes (if b then of.text_item config scopes now future k path bytes else Err (0, fault.NotUtf8)) → IsKnown config path made
       by true is = in_text scopes bytes is
       by false is = absurd (cc (is))
 
@@ -199,30 +211,30 @@ module _ (config : Config) (now : ℤ) (future : Bool) (k : Kind) (path : List �
 path_tied : (a b : Rank) → rank_cmp a b ≡ Equal → a.path ≡ b.path
 path_tied a b e = ap (λ (r : Rank). r.path) (rank_same a b e)
 
-abbrev AreKnown : Ranked → Type 0
-AreKnown es = AllByRecursion (λ e. IsKnown e.0.path e.1) es
+abbrev AreKnown : Config → Ranked → Type 0
+AreKnown config es = AllByRecursion (λ e. IsKnown config e.0.path e.1) es
 
-known_inserted : (r : Rank) (made : Item) (es : Ranked) → IsKnown r.path made → AreKnown es → AreKnown (insert_entry rank_cmp es r made)
-known_inserted r made [] known all = (known, tt)
-known_inserted r made (e ∷ es) known all = by (rank_cmp r e.0) refl (known_inserted r made es known all.1)
+known_inserted : (config : Config) (r : Rank) (made : Item) (es : Ranked) → IsKnown config r.path made → AreKnown config es → AreKnown config (insert_entry rank_cmp es r made)
+known_inserted config r made [] known all = (known, tt)
+known_inserted config r made (e ∷ es) known all = by (rank_cmp r e.0) refl (known_inserted config r made es known all.1)
   where
-    by : (o : Ordering) → rank_cmp r e.0 ≡ o → AreKnown (insert_entry rank_cmp es r made) → AreKnown (match_ordering o ((r, made) ∷ e ∷ es) ((e.0, made) ∷ es) (e ∷ insert_entry rank_cmp es r made))
+    by : (o : Ordering) → rank_cmp r e.0 ≡ o → AreKnown config (insert_entry rank_cmp es r made) → AreKnown config (match_ordering o ((r, made) ∷ e ∷ es) ((e.0, made) ∷ es) (e ∷ insert_entry rank_cmp es r made))
     by Less is rest = (known, all)
-    by Equal is rest = (subst (λ p. IsKnown p made) (path_tied r e.0 is) known, all.1)
+    by Equal is rest = (subst (λ p. IsKnown config p made) (path_tied r e.0 is) known, all.1)
     by Greater is rest = (all.0, rest)
 
 module _ (config : Config) (scopes : List Scope) (now : ℤ) (future : Bool) where
-  with_known : (k : Kind) (path : List ℕ) (made : Option Item) (es : Ranked) → ((item : Item) → made ≡ Some item → IsKnown path item) → AreKnown es → AreKnown (with_item config k path made es)
+  with_known : (k : Kind) (path : List ℕ) (made : Option Item) (es : Ranked) → ((item : Item) → made ≡ Some item → IsKnown config path item) → AreKnown config es → AreKnown config (with_item config k path made es)
   with_known k path None es known all = all
   with_known k path (Some item) es known all =
-      known_inserted (rank config k path item.moment) item es (subst (λ p. IsKnown p item) (sym (rank_path config k path item.moment)) (known item refl)) all
+      known_inserted config (rank config k path item.moment) item es (subst (λ p. IsKnown config p item) (sym (rank_path config k path item.moment)) (known item refl)) all
 
-  add_known : (f : File) (k : Option Kind) (made more : Ranked) → sites.add_kind config scopes now future f k made ≡ Ok more → AreKnown made → AreKnown more
-  add_known f None made more e all = subst AreKnown (found_value made more e) all
+  add_known : (f : File) (k : Option Kind) (made more : Ranked) → sites.add_kind config scopes now future f k made ≡ Ok more → AreKnown config made → AreKnown config more
+  add_known f None made more e all = subst (AreKnown config) (found_value made more e) all
   add_known f (Some k) made more e all =
       let read = found_before (in_file f.0 (of.item config scopes now future k f.0 f.1)) _ more e in
       let is = file_found f.0 (of.item config scopes now future k f.0 f.1) read.0 read.1 in
-      subst AreKnown (found_value _ more read.2)
+      subst (AreKnown config) (found_value _ more read.2)
       (with_known k f.0 read.0 made (λ item some. item_known config now future k f.0 item scopes f.1 (is ∙ ap Ok some)) all)
 
 neighbours_known : (documents : ℕ) (rank : Rank) (before behind : Option Rank) (address : List ℕ) (vars : Pairs) → Known rank.path address vars → Known rank.path address (with_neighbours documents rank before behind vars)
@@ -234,25 +246,52 @@ neighbours_known documents rank before behind address vars known = by (nat_lt ra
         (keeps rank.path address (codes "next") (neighbour rank behind) vars (other_key (codes "next") refl refl refl refl) known)
     by false = known
 
-knows_itself : (documents : ℕ) (rank : Rank) (before behind : Option Rank) (made : Item) → IsKnown rank.path made → KnowsItself (site_item_of documents rank before behind made)
-knows_itself documents rank before behind made is =
-    let known = neighbours_known documents rank before behind made.url made.vars is in
-    record {
-      path = ap (λ o. unwrap_or o nil) known.its_path;
-      relative_path = ap (λ o. unwrap_or o nil) known.its_relative_path;
-      url = ap (λ o. unwrap_or o nil) known.its_url;
-      ext = ap (λ o. unwrap_or o nil) known.its_ext;
-    }
+is_neighbour : (rank : Rank) (other : Option Rank) → IsNeighbour (neighbour rank other)
+is_neighbour rank None = inl refl
+is_neighbour rank (Some other) = by (other.group == rank.group)
+  where
+    by : (b : Bool) → IsNeighbour (if b then site_item other.path 0 else nil)
+    by true = inr (other.path, refl)
+    by false = inl refl
 
-all_know : (documents : ℕ) (before : Option Rank) (es : Ranked) → AreKnown es → AllByRecursion KnowsItself (site_items documents before es)
-unfolding site_items
-all_know documents before [] all = tt
-all_know documents before (e ∷ es) all = (knows_itself documents e.0 before _ e.1 all.0, all_know documents (Some e.0) es all.1)
+module _ (config : Config) where
+  abbrev documents : ℕ
+  documents = length config.collections
 
-pub items_know : (scopes : List Scope) (config : Config) (now : ℤ) (future : Bool) (files : List Placed) (made : List SiteItem) → sites.items_by scopes config now future files ≡ Ok made → All KnowsItself made
-items_know scopes config now future files made e =
-    let ranked = found_before (each (sites.add_item config scopes now future) files []) (sites.items_in_order config) made e in
-    let known : AreKnown ranked.0 =
-    each_keeps (sites.add_item config scopes now future) AreKnown (λ f before more is all. add_known config scopes now future f.1 (as_item f) before more is all) files [] ranked.0 ranked.1 tt in
-    subst (All KnowsItself) (found_value (site_items (length config.collections) None ranked.0) made ranked.2)
-    (All-from_recursion KnowsItself _ (all_know (length config.collections) None ranked.0 known))
+  -- what is said of each item
+  abbrev Has : SiteItem → Type 0
+  Has item = KnowsItself item × HasVariables config item
+
+  knows_itself : (rank : Rank) (before behind : Option Rank) (made : Item) → IsKnown config rank.path made → Has (site_item_of documents rank before behind made)
+  knows_itself rank before behind made is =
+      let known = neighbours_known documents rank before behind made.url made.vars is.0 in
+      let itself : KnowsItself (site_item_of documents rank before behind made) = record {
+        path = ap (λ o. unwrap_or o nil) known.its_path;
+        relative_path = ap (λ o. unwrap_or o nil) known.its_relative_path;
+        url = ap (λ o. unwrap_or o nil) known.its_url;
+        ext = ap (λ o. unwrap_or o nil) known.its_ext;
+      } in
+      let variables : HasVariables config (site_item_of documents rank before behind made) = record {
+        kind = is.1.kind;
+        given = is.1.given;
+        moment = is.1.moment;
+        previous = neighbour rank before;
+        next = neighbour rank behind;
+        previous_is = is_neighbour rank before;
+        next_is = is_neighbour rank behind;
+        are = ap (λ vars. hash (with_neighbours documents rank before behind vars)) is.1.are;
+        paginator = refl;
+      } in
+      (itself, variables)
+
+  all_know : (before : Option Rank) (es : Ranked) → AreKnown config es → AllByRecursion Has (site_items documents before es)
+  unfolding site_items
+  all_know before [] all = tt
+  all_know before (e ∷ es) all = (knows_itself e.0 before _ e.1 all.0, all_know (Some e.0) es all.1)
+
+  pub items_know : (scopes : List Scope) (now : ℤ) (future : Bool) (files : List Placed) (made : List SiteItem) → sites.items_by scopes config now future files ≡ Ok made → All Has made
+  items_know scopes now future files made e =
+      let ranked = found_before (each (sites.add_item config scopes now future) files []) (sites.items_in_order config) made e in
+      let known : AreKnown config ranked.0 =
+      each_keeps (sites.add_item config scopes now future) (AreKnown config) (λ f before more is all. add_known config scopes now future f.1 (as_item f) before more is all) files [] ranked.0 ranked.1 tt in
+      subst (All Has) (found_value (site_items documents None ranked.0) made ranked.2) (All-from_recursion Has _ (all_know None ranked.0 known))

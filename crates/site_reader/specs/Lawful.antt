@@ -1,14 +1,18 @@
 -- When a site is lawful with the files that it was read from.
-use Rattle.std.specs.Prelude.{◌≡◌, ◌≢◌, ◌≤◌, true, List, codes, length, All, AllPairs, None}
+use Rattle.std.specs.Prelude.{◌≡◌, ◌≢◌, ◌≤◌, ◌⊎◌, ℕ, ℤ, Bool, true, nat_lt, if◌then◌else◌, List, codes, length, All, AllPairs, Option, None}
 use Rattle.std.specs.FinMap.{contains_key, len}
 use Rattle.site_base.specs.Places.{Files}
-use Rattle.site_base.specs.Plain.{hash, text}
+use Rattle.site_base.specs.Plain.{Pairs, Plain, hash, nil, set, site_item, text}
 use Rattle.site_base.specs.View.{plain}
 use Rattle.site_config.specs.Config.{config}
 use Rattle.site_config.specs.Forms.{setting}
 use Rattle.site_config.specs.Table.{wrong_key}
+use Rattle.site_config.specs.declared.config.Config.{Config}
 use Rattle.site_dates.specs.Moment.{IsMoment}
-use Rattle.site_files.specs.Names.{extension, file_name}
+use Rattle.site_files.specs.Names.{extension, file_name, stem}
+use Rattle.site_items.specs.Items.{kind_named, kind_variables, placed}
+use Rattle.site_items.specs.declared.kind.Kind.{Kind}
+use Rattle.site_items.specs.declared.layout_file.LayoutFile.{LayoutFile}
 use Rattle.site_reader.specs.declared.site.Site.{Site}
 use Rattle.site_reader.specs.declared.site_item.SiteItem.{SiteItem}
 
@@ -23,6 +27,33 @@ pub record KnowsItself (item : SiteItem) : Type 0 where
   pub url : setting (codes "url") (plain item.vars) ≡ text item.url
   pub ext : setting (codes "ext") (plain item.vars) ≡ text (extension (file_name item.name.path))
 
+-- an item of the site by its name, or nothing
+abbrev pub IsNeighbour : Plain → Type 0
+IsNeighbour v = (v ≡ nil) ⊎ ((path : List ℕ) × (v ≡ site_item path 0))
+
+abbrev pub between : Bool → Plain → Plain → Pairs → Pairs
+between document previous next vars = if document then set (codes "previous") previous (set (codes "next") next vars) else vars
+
+-- the variables of an item have their forms: over those that front matter and defaults give it stand those of its kind, and of a document the two neighbours
+pub record HasVariables (config : Config) (item : SiteItem) : Type 0 where
+  pub kind : Kind
+  pub given : Pairs
+  pub moment : Option ℤ
+  pub previous : Plain
+  pub next : Plain
+  pub previous_is : IsNeighbour previous
+  pub next_is : IsNeighbour next
+  pub are :
+      let path = item.name.path in
+      let own = placed path item.url (kind_named config.timezone kind (stem (file_name path)) given) in
+      plain item.vars ≡ hash (between (nat_lt item.group (length config.collections)) previous next (kind_variables config kind path item.url moment own))
+  -- no page of a pagination is built
+  pub paginator : plain item.paginator ≡ nil
+
+-- the variables of a layout are a hash
+abbrev pub HasHash : LayoutFile → Type 0
+HasHash layout = (pairs : Pairs) × (plain layout.vars ≡ hash pairs)
+
 pub record IsLawful (files : Files) (site : Site) : Type 0 where
   -- there are no more items than files
   pub few : length site.items ≤ len files
@@ -30,8 +61,10 @@ pub record IsLawful (files : Files) (site : Site) : Type 0 where
   pub items_differ : Differ (λ item. item.name) site.items
   pub layouts_differ : Differ (λ layout. layout.name) site.layouts
   pub includes_differ : Differ (λ include. include.name) site.includes
-  -- the variables of each item say which it is
+  -- the variables of each item say which it is, and have their forms, as those of layouts have
   pub items_known : All KnowsItself site.items
+  pub variables : All (HasVariables site.config) site.items
+  pub layout_variables : All HasHash site.layouts
   -- the files that are copied have different paths, and each is held
   pub copies_differ : Differ (λ copy. copy.path) site.statics
   pub copies_held : All (λ copy. contains_key files copy.path ≡ true) site.statics
