@@ -11,7 +11,7 @@ use Rattle.site_items.specs.declared.static_file.StaticFile.{StaticFile}
 use Rattle.site_reader.specs.Found.{each, in_file}
 use Rattle.site_reader.specs.Neighbours.{site_items}
 use Rattle.site_reader.specs.Placing.{File, Placed, as_copy, as_item, placed}
-use Rattle.site_reader.specs.Ranks.{Ranked, rank, rank_cmp, with_item}
+use Rattle.site_reader.specs.Ranks.{Ranked, group_of, rank, rank_cmp, with_item}
 use Rattle.site_reader.specs.Sites as sites
 use Rattle.site_reader.specs.declared.rank.Rank.{Rank}
 use Rattle.site_reader.specs.declared.site_item.SiteItem.{SiteItem}
@@ -25,6 +25,15 @@ rank_path config kind.Draft path (Some moment) = refl
 rank_path config kind.Draft path None = refl
 rank_path config (kind.Document n) path (Some moment) = refl
 rank_path config (kind.Document n) path None = refl
+
+pub rank_group : (config : Config) (k : Kind) (path : List ℕ) (moment : Option ℤ) → (rank config k path moment).group ≡ group_of config k
+rank_group config kind.Page path moment = refl
+rank_group config kind.Post path (Some moment) = refl
+rank_group config kind.Post path None = refl
+rank_group config kind.Draft path (Some moment) = refl
+rank_group config kind.Draft path None = refl
+rank_group config (kind.Document n) path (Some moment) = refl
+rank_group config (kind.Document n) path None = refl
 
 module _ (w : List ℕ → ℕ) where
   abbrev ranks : Ranked → ℕ

@@ -28,11 +28,11 @@ use Rattle.site_reader.specs.Found.{each, in_file}
 use Rattle.site_reader.specs.Lawful.{HasVariables, IsNeighbour, KnowsItself}
 use Rattle.site_reader.specs.Neighbours.{neighbour, site_item_of, site_items, with_neighbours}
 use Rattle.site_reader.specs.Placing.{File, Placed, as_item}
-use Rattle.site_reader.specs.Ranks.{Ranked, rank, rank_cmp, with_item}
+use Rattle.site_reader.specs.Ranks.{Ranked, group_of, rank, rank_cmp, with_item}
 use Rattle.site_reader.specs.Sites as sites
 use Rattle.site_reader.specs.declared.rank.Rank.{Rank}
 use Rattle.site_reader.specs.declared.site_item.SiteItem.{SiteItem}
-use Rattle.site_reader.proofs.ItemLaws.{rank_path}
+use Rattle.site_reader.proofs.ItemLaws.{rank_group, rank_path}
 use Rattle.site_reader.proofs.RankOrder.{rank_same}
 use Rattle.site_reader.proofs.Weights.{each_keeps, file_found, found_before, found_value, outcome_before, outcome_value}
 
@@ -141,14 +141,15 @@ module _ (path address : List ℕ) where
 -- ---- an item that is found
 
 -- its variables are those that are given, and over them those of its kind
-record IsMade (config : Config) (path : List ℕ) (made : Item) : Type 0 where
+record IsMade (config : Config) (group : ℕ) (path : List ℕ) (made : Item) : Type 0 where
   kind : Kind
+  in_group : group_of config kind ≡ group
   given : Pairs
   moment : Option ℤ
   are : made.vars ≡ of.kind_variables config kind path made.url moment (of.placed path made.url (of.kind_named config.timezone kind (stem (file_name path)) given))
 
-abbrev IsKnown : Config → List ℕ → Item → Type 0
-IsKnown config path made = Known path made.url made.vars × IsMade config path made
+abbrev IsKnown : Config → ℕ → List ℕ → Item → Type 0
+IsKnown config group path made = Known path made.url made.vars × IsMade config group path made
 
 module _ (config : Config) (now : ℤ) (future : Bool) (k : Kind) (path : List ℕ) (made : Item) where
   abbrev Makes : Outcome (Option Item) → Type 0
@@ -160,74 +161,72 @@ module _ (config : Config) (now : ℤ) (future : Bool) (k : Kind) (path : List �
   nothing : ◌≡◌ {A = Outcome (Option Item)} (Ok None) (Ok (Some made)) → ⊥
   nothing e = absurd (cc (outcome_value None (Some made) e))
 
-  at_address : (moment : Option ℤ) (given : Pairs) (text_body ext address : List ℕ) → Makes (of.item_at config k path moment (Named given) text_body ext address) → IsKnown config path made
+  at_address : (moment : Option ℤ) (given : Pairs) (text_body ext address : List ℕ) → Makes (of.item_at config k path moment (Named given) text_body ext address) → IsKnown config (group_of config k) path made
   at_address moment given text_body ext address e =
       let dest = outcome_before (dest_of config k address ext) _ (Some made) e in
       let is = ap (λ (o : Option Item). unwrap_or o made) (outcome_value _ (Some made) dest.2) in
       let own = of.placed path address (Named given) in
-      subst (IsKnown config path) is (known_kind path address config k moment own (known_placed path address (Named given)), record { kind = k; given = given; moment = moment; are = refl })
+      subst (IsKnown config (group_of config k) path) is (known_kind path address config k moment own (known_placed path address (Named given)), record { kind = k; in_group = refl; given = given; moment = moment; are = refl })
 
-  built : (moment : Option ℤ) (text_body ext : List ℕ) (given : Pairs) → Makes (of.built_with config k path moment text_body ext (Named given)) → IsKnown config path made
+  built : (moment : Option ℤ) (text_body ext : List ℕ) (given : Pairs) → Makes (of.built_with config k path moment text_body ext (Named given)) → IsKnown config (group_of config k) path made
   built moment text_body ext given e =
       let t = outcome_before (template config ext (stem (file_name path)) k (variable (codes "permalink") (Named given))) _ (Some made) e in
       let address = outcome_before (found_url _) (of.item_at config k path moment (Named given) text_body ext) (Some made) t.2 in
       at_address moment given text_body ext address.0 address.2
 
-  dated : (vars : Pairs) (text_body : List ℕ) (given : Option ℤ) → Makes (of.dated_item config now future k path vars text_body given) → IsKnown config path made
+  dated : (vars : Pairs) (text_body : List ℕ) (given : Option ℤ) → Makes (of.dated_item config now future k path vars text_body given) → IsKnown config (group_of config k) path made
   dated vars text_body given e = by (of.is_left_out now future moment) e
     where
       moment : Option ℤ
       moment = of.document_date config.timezone now k (stem (file_name path)) given
 
-      by : (b : Bool) → Makes (if b then Ok None else of.named_item config k path moment vars text_body) → IsKnown config path made
+      by : (b : Bool) → Makes (if b then Ok None else of.named_item config k path moment vars text_body) → IsKnown config (group_of config k) path made
       by true is = absurd (nothing is)
       by false is = built moment text_body (output_ext config.markdown_ext (extension (file_name path))) vars is
 
-  published : (vars : Pairs) (text_body : List ℕ) (told : Bool) → Makes (of.published_item config now future k path vars text_body told) → IsKnown config path made
+  published : (vars : Pairs) (text_body : List ℕ) (told : Bool) → Makes (of.published_item config now future k path vars text_body told) → IsKnown config (group_of config k) path made
   published vars text_body told e = by (told || config.unpublished) e
     where
-      by : (b : Bool) → Makes (if b then given_date config.timezone (variable (codes "date") vars) >>= of.dated_item config now future k path vars text_body else Ok None) → IsKnown config path made
+      by : (b : Bool) → Makes (if b then given_date config.timezone (variable (codes "date") vars) >>= of.dated_item config now future k path vars text_body else Ok None) → IsKnown config (group_of config k) path made
       by true is =
           let given = outcome_before (given_date config.timezone (variable (codes "date") vars)) (of.dated_item config now future k path vars text_body) (Some made) is in
           dated vars text_body given.0 given.2
       by false is = absurd (nothing is)
 
-  in_text : (scopes : List Scope) (s : List ℕ) → Makes (of.text_item config scopes now future k path s) → IsKnown config path made
+  in_text : (scopes : List Scope) (s : List ℕ) → Makes (of.text_item config scopes now future k path s) → IsKnown config (group_of config k) path made
   in_text scopes s e =
       let own = outcome_before (matter.own_variables s) _ (Some made) e in
       let vars = variables scopes path (of.type_name config k) own.0 in
       let told = outcome_before (of.is_published (variable (codes "published") vars)) (of.published_item config now future k path vars (matter.body s)) (Some made) own.2 in
       published vars (matter.body s) told.0 told.2
 
-  item_known : (scopes : List Scope) (bytes : List ℕ) → Makes (of.item config scopes now future k path bytes) → IsKnown config path made
+  item_known : (scopes : List Scope) (bytes : List ℕ) → Makes (of.item config scopes now future k path bytes) → IsKnown config (group_of config k) path made
   item_known scopes bytes e = by (is_utf8 bytes) e
     where
-      by : (b : Bool) → Makes (if b then of.text_item config scopes now future k path bytes else Err (0, fault.NotUtf8)) → IsKnown config path made
+      by : (b : Bool) → Makes (if b then of.text_item config scopes now future k path bytes else Err (0, fault.NotUtf8)) → IsKnown config (group_of config k) path made
       by true is = in_text scopes bytes is
       by false is = absurd (cc (is))
 
 -- ---- the items in their order
 
-path_tied : (a b : Rank) → rank_cmp a b ≡ Equal → a.path ≡ b.path
-path_tied a b e = ap (λ (r : Rank). r.path) (rank_same a b e)
-
 abbrev AreKnown : Config → Ranked → Type 0
-AreKnown config es = AllByRecursion (λ e. IsKnown config e.0.path e.1) es
+AreKnown config es = AllByRecursion (λ e. IsKnown config e.0.group e.0.path e.1) es
 
-known_inserted : (config : Config) (r : Rank) (made : Item) (es : Ranked) → IsKnown config r.path made → AreKnown config es → AreKnown config (insert_entry rank_cmp es r made)
+known_inserted : (config : Config) (r : Rank) (made : Item) (es : Ranked) → IsKnown config r.group r.path made → AreKnown config es → AreKnown config (insert_entry rank_cmp es r made)
 known_inserted config r made [] known all = (known, tt)
 known_inserted config r made (e ∷ es) known all = by (rank_cmp r e.0) refl (known_inserted config r made es known all.1)
   where
     by : (o : Ordering) → rank_cmp r e.0 ≡ o → AreKnown config (insert_entry rank_cmp es r made) → AreKnown config (match_ordering o ((r, made) ∷ e ∷ es) ((e.0, made) ∷ es) (e ∷ insert_entry rank_cmp es r made))
     by Less is rest = (known, all)
-    by Equal is rest = (subst (λ p. IsKnown config p made) (path_tied r e.0 is) known, all.1)
+    by Equal is rest = (subst (λ (q : Rank). IsKnown config q.group q.path made) (rank_same r e.0 is) known, all.1)
     by Greater is rest = (all.0, rest)
 
 module _ (config : Config) (scopes : List Scope) (now : ℤ) (future : Bool) where
-  with_known : (k : Kind) (path : List ℕ) (made : Option Item) (es : Ranked) → ((item : Item) → made ≡ Some item → IsKnown config path item) → AreKnown config es → AreKnown config (with_item config k path made es)
+  with_known : (k : Kind) (path : List ℕ) (made : Option Item) (es : Ranked) → ((item : Item) → made ≡ Some item → IsKnown config (group_of config k) path item) → AreKnown config es → AreKnown config (with_item config k path made es)
   with_known k path None es known all = all
   with_known k path (Some item) es known all =
-      known_inserted config (rank config k path item.moment) item es (subst (λ p. IsKnown config p item) (sym (rank_path config k path item.moment)) (known item refl)) all
+      known_inserted config (rank config k path item.moment) item es
+      (subst (λ g. IsKnown config g (rank config k path item.moment).path item) (sym (rank_group config k path item.moment)) (subst (λ p. IsKnown config (group_of config k) p item) (sym (rank_path config k path item.moment)) (known item refl))) all
 
   add_known : (f : File) (k : Option Kind) (made more : Ranked) → sites.add_kind config scopes now future f k made ≡ Ok more → AreKnown config made → AreKnown config more
   add_known f None made more e all = subst (AreKnown config) (found_value made more e) all
@@ -262,7 +261,7 @@ module _ (config : Config) where
   abbrev Has : SiteItem → Type 0
   Has item = KnowsItself item × HasVariables config item
 
-  knows_itself : (rank : Rank) (before behind : Option Rank) (made : Item) → IsKnown config rank.path made → Has (site_item_of documents rank before behind made)
+  knows_itself : (rank : Rank) (before behind : Option Rank) (made : Item) → IsKnown config rank.group rank.path made → Has (site_item_of documents rank before behind made)
   knows_itself rank before behind made is =
       let known = neighbours_known documents rank before behind made.url made.vars is.0 in
       let itself : KnowsItself (site_item_of documents rank before behind made) = record {
@@ -273,6 +272,7 @@ module _ (config : Config) where
       } in
       let variables : HasVariables config (site_item_of documents rank before behind made) = record {
         kind = is.1.kind;
+        in_group = is.1.in_group;
         given = is.1.given;
         moment = is.1.moment;
         previous = neighbour rank before;

@@ -13,6 +13,7 @@ use Rattle.site_files.specs.Names.{extension, file_name, stem}
 use Rattle.site_items.specs.Items.{kind_named, kind_variables, placed}
 use Rattle.site_items.specs.declared.kind.Kind.{Kind}
 use Rattle.site_items.specs.declared.layout_file.LayoutFile.{LayoutFile}
+use Rattle.site_reader.specs.Ranks.{group_of}
 use Rattle.site_reader.specs.declared.site.Site.{Site}
 use Rattle.site_reader.specs.declared.site_item.SiteItem.{SiteItem}
 
@@ -37,6 +38,7 @@ between document previous next vars = if document then set (codes "previous") pr
 -- the variables of an item have their forms: over those that front matter and defaults give it stand those of its kind, and of a document the two neighbours
 pub record HasVariables (config : Config) (item : SiteItem) : Type 0 where
   pub kind : Kind
+  pub in_group : group_of config kind ≡ item.group
   pub given : Pairs
   pub moment : Option ℤ
   pub previous : Plain
