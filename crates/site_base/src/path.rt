@@ -86,7 +86,7 @@ impl SitePath {
         self.text.as_bytes()
     }
 
-    /// A further holder of the path, whose bytes are not copied.
+    /// A further holder of the path. Where it has more than 14 bytes, they are not copied.
     pub fn copy(&self, alloc: Global) -> Result<SitePath, Memory>
         ensures { IfOk result (λ path. path ≡ self.now) }
     {

@@ -6,7 +6,7 @@ use std::alloc::Global;
 use std::marker::Model;
 use std::sync::Arc;
 
-/// The bytes of a file, which held files, a tree, a plan and a belief share without a copy.
+/// The bytes of a file, which held files, bodies of a site, a tree, a plan and a belief share without a copy.
 #[derive(Drop)]
 pub struct SharedBytes {
     bytes: Arc<FileBytes>,

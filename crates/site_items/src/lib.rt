@@ -31,7 +31,7 @@ pub use item_error::{ItemError, LineFault};
 pub use kind::Kind;
 pub use layout_file::LayoutFile;
 pub use lookup::variable;
-pub use matter::{body, own_variables};
+pub use matter::own_variables;
 pub use static_file::StaticFile;
 pub use titles::title;
 

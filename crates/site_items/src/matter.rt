@@ -41,7 +41,7 @@ fn in_file(error: YamlError) -> ItemError
 
 /// What stands behind the front matter of a file, and all of it where it has none, or one that is not closed. The text is
 /// that of the file's bytes, which the body shares.
-pub fn body(alloc: Global, bytes: &SharedBytes, text: &str) -> Result<Text, Memory>
+pub(crate) fn body(alloc: Global, bytes: &SharedBytes, text: &str) -> Result<Text, Memory>
     requires { bytes.now ≡ text.now }
     ensures { IfOk result (λ made. made ≡ body text.now) }
 {
