@@ -1,5 +1,5 @@
 -- When an end outside the program may fail, and what byte ends tell of their bytes.
-use Rattle.std.specs.Prelude.{◌≡◌, ◌⊎◌, ◌≤◌, ◌+◌, ◌-◌, ◌^◌, min, ℕ, List, ◌++◌, take, Result, Option, Some, OnErr, OnOk, IfOk, drop, length, [], ◌<◌, Contains, IsErr, IsErrOf}
+use Rattle.std.specs.Prelude.{◌≡◌, ◌⊎◌, ◌≤◌, ◌+◌, ◌-◌, ◌^◌, min, ℕ, List, ◌++◌, take, Result, Option, Some, OnErr, OnOk, IfOk, IfErr, drop, length, [], ◌<◌, Contains, IsErr, IsErrOf}
 
 -- a sink in memory: the bytes taken, the calls at which it fails, and counts of calls, of faults and of wants of memory
 pub record SinkState : Type 0 where
@@ -20,10 +20,11 @@ pub record InputState : Type 0 where
 abbrev pub Rose : ℕ → ℕ → Type 0
 Rose before now = min (before + 1) (2 ^ 64 - 1) ≤ now
 
--- a count does not fall, and an error comes only where it rose
+-- a count of faults rises where the call fails, and stays where it does not
 pub record HasCause {T E : Type 0} (before now : ℕ) (result : Result T E) : Type 0 where
   pub later : before ≤ now
   pub failed : OnErr result (Rose before now)
+  pub same : OnOk result (now ≡ before)
 
 -- where the end tells its bytes, a write adds these, and one that fails a prefix of them
 pub record Takes {T E : Type 0} (old new : Option (List ℕ)) (bytes : List ℕ) (result : Result T E) : Type 0 where
@@ -36,10 +37,12 @@ pub record FailsAsListed {T E : Type 0} (fail : List ℕ) (call short_before sho
   pub besides : OnErr result (Contains fail call ⊎ (short_now ≡ min (short_before + 1) (2 ^ 64 - 1)))
   pub same : OnOk result (short_now ≡ short_before)
 
--- a count does not fall, and this error comes only where it rose
+-- a count of faults rises where this error is answered, and stays at every other answer
 pub record HasCauseOf {T E : Type 0} (error : E) (before now : ℕ) (result : Result T E) : Type 0 where
   pub later : before ≤ now
   pub failed : IsErrOf result error → Rose before now
+  pub same : OnOk result (now ≡ before)
+  pub others : IfErr result (λ e. (e ≡ error) ⊎ (now ≡ before))
 
 -- where the end tells its bytes, a read moves the first of them into the front of a slice, and no byte only at their end
 abbrev pub Gives : {E : Type 0} → Option (List ℕ) → Option (List ℕ) → List ℕ → Result ℕ E → Type 0

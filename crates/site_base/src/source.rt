@@ -1,5 +1,5 @@
 // Where bytes come from.
-ghost use Rattle.std.specs.Prelude.{◌≡◌, ◌+◌, ◌-◌, ◌^◌, ◌≤◌, min, ℕ, List, [], Option, Some, length, drop, take, IfOk, IsErr, Contains, ◌↔◌};
+ghost use Rattle.std.specs.Prelude.{◌≡◌, ◌+◌, ◌-◌, ◌^◌, ◌≤◌, min, ℕ, List, [], Option, Some, length, drop, take, IfOk, OnErr, IsErr, Contains, ◌↔◌};
 ghost use Rattle.site_base.specs.Ends.{HasCause, Gives};
 
 use crate::Failed;
@@ -18,6 +18,8 @@ pub trait ByteSource {
     fn read(&mut self, into: &mut [u8]) -> Result<usize, Failed>
         ensures bound { IfOk result (λ count. count ≤ length into.new) }
         ensures gives { Gives (left self.old) (left self.new) into.new result }
+        // Where it fails, no byte is lost.
+        ensures kept { OnErr result (left self.new ≡ left self.old) }
         ensures cause { HasCause (faults self.old) (faults self.new) result };
 }
 
@@ -77,6 +79,7 @@ impl ByteSource for MemoryInput {
     fn read(&mut self, into: &mut [u8]) -> Result<usize, Failed>
         ensures bound { IfOk result (λ count. count ≤ length into.new) }
         ensures gives { Gives (Some self.old.left) (Some self.new.left) into.new result }
+        ensures kept { OnErr result (Some self.new.left ≡ Some self.old.left) }
         ensures cause { HasCause self.old.faults self.new.faults result }
         ensures listed { IsErr result ↔ Contains self.old.fail (min (self.old.calls + 1) (2 ^ 64 - 1)) }
         ensures calls { self.new.calls ≡ min (self.old.calls + 1) (2 ^ 64 - 1) }

@@ -1,8 +1,8 @@
 -- When a site is lawful with the files that it was read from.
-use Rattle.std.specs.Prelude.{◌≡◌, ◌≢◌, ◌≤◌, ◌⊎◌, ℕ, ℤ, Bool, true, nat_lt, if◌then◌else◌, List, codes, length, All, AllPairs, Option, None}
+use Rattle.std.specs.Prelude.{◌≡◌, ◌≢◌, ◌≤◌, ◌⊎◌, ℕ, ℤ, true, nat_lt, List, codes, length, All, AllPairs, Option, None}
 use Rattle.std.specs.FinMap.{contains_key, len}
 use Rattle.site_base.specs.Places.{Files}
-use Rattle.site_base.specs.Plain.{Pairs, Plain, hash, nil, set, site_item, text}
+use Rattle.site_base.specs.Plain.{Pairs, Plain, hash, nil, site_item, text}
 use Rattle.site_base.specs.View.{plain}
 use Rattle.site_config.specs.Config.{config}
 use Rattle.site_config.specs.Forms.{setting}
@@ -13,6 +13,7 @@ use Rattle.site_files.specs.Names.{extension, file_name, stem}
 use Rattle.site_items.specs.Items.{kind_named, kind_variables, placed}
 use Rattle.site_items.specs.declared.kind.Kind.{Kind}
 use Rattle.site_items.specs.declared.layout_file.LayoutFile.{LayoutFile}
+use Rattle.site_reader.specs.Neighbours.{between}
 use Rattle.site_reader.specs.Ranks.{group_of}
 use Rattle.site_reader.specs.declared.site.Site.{Site}
 use Rattle.site_reader.specs.declared.site_item.SiteItem.{SiteItem}
@@ -32,10 +33,7 @@ pub record KnowsItself (item : SiteItem) : Type 0 where
 abbrev pub IsNeighbour : Plain → Type 0
 IsNeighbour v = (v ≡ nil) ⊎ ((path : List ℕ) × (v ≡ site_item path 0))
 
-abbrev pub between : Bool → Plain → Plain → Pairs → Pairs
-between document previous next vars = if document then set (codes "previous") previous (set (codes "next") next vars) else vars
-
--- the variables of an item have their forms: over those that front matter and defaults give it stand those of its kind, and of a document the two neighbours
+-- the variables of an item have their forms: over those that front matter and defaults give it stand those of its kind, and of a document the two neighbours. After Jekyll 4's manual, "Variables"
 pub record HasVariables (config : Config) (item : SiteItem) : Type 0 where
   pub kind : Kind
   pub in_group : group_of config kind ≡ item.group

@@ -1,5 +1,5 @@
 -- Items with their neighbours: the document before and the one behind in the same collection, as `next` and `previous` of Jekyll 4's manual, "Variables".
-use Rattle.std.specs.Prelude.{ℕ, ◌==◌, nat_lt, List, [], ◌∷◌, codes, Option, Some, None, if◌then◌else◌}
+use Rattle.std.specs.Prelude.{ℕ, ◌==◌, nat_lt, Bool, List, [], ◌∷◌, codes, Option, Some, None, if◌then◌else◌}
 use Rattle.site_base.specs.Plain.{Plain, nil, site_item, Pairs, set}
 use Rattle.site_base.specs.declared.value.Value.TheVariants as value
 use Rattle.site_items.specs.declared.item.Item.{Item}
@@ -12,10 +12,14 @@ abbrev pub neighbour : Rank → Option Rank → Plain
 neighbour rank None = nil
 neighbour rank (Some other) = if other.group == rank.group then site_item other.path 0 else nil
 
+-- what a document has besides: the one before it and the one behind
+abbrev pub between : Bool → Plain → Plain → Pairs → Pairs
+between document previous next vars = if document then set (codes "previous") previous (set (codes "next") next vars) else vars
+
 -- documents know their neighbours; groups from this number on are of pages
 abbrev pub with_neighbours : ℕ → Rank → Option Rank → Option Rank → Pairs → Pairs
 with_neighbours documents rank before behind vars =
-    if nat_lt rank.group documents then set (codes "previous") (neighbour rank before) (set (codes "next") (neighbour rank behind) vars) else vars
+    between (nat_lt rank.group documents) (neighbour rank before) (neighbour rank behind) vars
 
 abbrev pub site_item_of : ℕ → Rank → Option Rank → Option Rank → Item → SiteItem
 site_item_of documents rank before behind item = record {

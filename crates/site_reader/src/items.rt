@@ -36,7 +36,7 @@ pub(crate) fn items(
     }
 }
 
-// They are sorted once, when all are read: a map that grows would take twice the room.
+// The items by their ranks. They are sorted once, when all are read: a map to which they are added in their order is half empty.
 fn ranked_items(
     alloc: Global,
     rules: &Rules,
@@ -53,6 +53,7 @@ fn ranked_items(
     }
 }
 
+// The items in their order.
 fn sorted(alloc: Global, items: Vec<(Rank, Item)>) -> Result<BTreeMap<Rank, Item>, Memory>
     ensures { IfOk result (λ made. made.entries ≡ in_order items.items) }
 {
