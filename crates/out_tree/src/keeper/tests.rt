@@ -144,7 +144,7 @@ fn makes_an_output_equal_to_a_tree(rt: HostRuntime) -> Result<(), Fail> {
         keeper.list_once(alloc, &mut out)?;
         assert!(rt; keeper.has_listed());
         keeper.list_once(alloc, &mut out)?;
-        let applied = keeper.make_equal(alloc, &tree, &keep, &Touched::anywhere(), &mut out)?;
+        let applied = keeper.make_equal(alloc, &tree, &keep, &mut out)?;
         assert_eq!(rt; applied.written, row.written, "written of row {number}");
         assert_eq!(rt; applied.removed, row.removed, "removed of row {number}");
         assert_eq!(rt;
