@@ -153,6 +153,7 @@ fn remove_empty_folders<R: Files>(rt: &R, place: &str) {
 #[cfg(test)]
 mod tests {
     use super::*;
+    use std::process::Abort;
     use std::test::Fail;
 
     // The paths that the output lists, each with a line end.
@@ -168,61 +169,110 @@ mod tests {
         Ok(text)
     }
 
-    #[test]
-    fn keeps_its_files_in_a_folder(rt: HostRuntime) -> Result<(), Fail> {
+    fn write<R: Files + AllocGlobal + Clone + Drop>(
+        alloc: Global,
+        out: &mut DiskOut<R>,
+        path: &str,
+        text: &str,
+    ) -> Result<bool, Fail> {
+        let path = SitePath::read(alloc, path)?;
+        Ok(out.write(&path, text.as_bytes()).is_ok())
+    }
+
+    fn remove<R: Files + AllocGlobal + Clone + Drop>(
+        alloc: Global,
+        out: &mut DiskOut<R>,
+        path: &str,
+    ) -> Result<bool, Fail> {
+        let path = SitePath::read(alloc, path)?;
+        Ok(out.remove(&path).is_ok())
+    }
+
+    // A destination that is not there has no files. A write makes the folders that it needs, and replaces what was there.
+    fn writes<R: Files + AllocGlobal + Clone + Drop + Abort>(
+        rt: &R,
+        out: &mut DiskOut<R>,
+    ) -> Result<(), Fail> {
         let alloc = rt.alloc();
-        let mut out = DiskOut::new(rt.clone()?);
-        let page = SitePath::read(alloc, "a/b/page.html")?;
-        let other = SitePath::read(alloc, "a/other.html")?;
-        let above = SitePath::read(alloc, "a")?;
-
-        // A destination that is not there has no files.
-        let _ = fs::remove_dir_all(&rt, DESTINATION);
-        assert_eq!(rt; listed(alloc, &mut out)?.as_str(), "");
-
-        // A write makes the folders that it needs, and replaces what was there.
-        out.write(&page, b"old")?;
-        out.write(&other, b"text")?;
-        out.write(&page, b"new")?;
+        assert_eq!(rt; listed(alloc, out)?.as_str(), "");
+        assert!(rt; write(alloc, out, "a/b/page.html", "old")?);
+        assert!(rt; write(alloc, out, "a/other.html", "text")?);
+        assert!(rt; write(alloc, out, "a/b/page.html", "new")?);
         assert_eq!(rt;
-            listed(alloc, &mut out)?.as_str(),
+            listed(alloc, out)?.as_str(),
             "a/b/page.html\na/other.html\n"
         );
         assert_eq!(rt;
-            fs::read_to_string(&rt, "_site/a/b/page.html")?.as_str(),
+            fs::read_to_string(rt, "_site/a/b/page.html")?.as_str(),
             "new"
         );
+        Ok(())
+    }
 
-        // A path that is a folder of a file, or lies below one, cannot be written.
-        assert!(rt; out.write(&above, b"text").is_err());
-        assert!(rt;
-            out.write(&SitePath::read(alloc, "a/other.html/c")?, b"text")
-                .is_err()
-        );
+    // A path that is a folder of a file, or lies below one, cannot be written.
+    fn refuses<R: Files + AllocGlobal + Clone + Drop + Abort>(
+        rt: &R,
+        out: &mut DiskOut<R>,
+    ) -> Result<(), Fail> {
+        let alloc = rt.alloc();
+        assert!(rt; !write(alloc, out, "a", "text")?);
+        assert!(rt; !write(alloc, out, "a/other.html/c", "text")?);
         assert_eq!(rt; out.faults, 2);
+        Ok(())
+    }
 
-        // A removal takes away the folders that it leaves empty, but not the destination.
-        out.remove(&page)?;
-        out.remove(&page)?;
-        assert!(rt; !fs::exists(&rt, "_site/a/b")?);
-        assert_eq!(rt; listed(alloc, &mut out)?.as_str(), "a/other.html\n");
-        out.remove(&other)?;
-        assert!(rt; !fs::exists(&rt, "_site/a")?);
-        assert!(rt; fs::exists(&rt, DESTINATION)?);
+    // A removal takes away the folders that it leaves empty, but not the destination.
+    fn removes<R: Files + AllocGlobal + Clone + Drop + Abort>(
+        rt: &R,
+        out: &mut DiskOut<R>,
+    ) -> Result<(), Fail> {
+        let alloc = rt.alloc();
+        assert!(rt; remove(alloc, out, "a/b/page.html")?);
+        assert!(rt; remove(alloc, out, "a/b/page.html")?);
+        assert!(rt; !fs::exists(rt, "_site/a/b")?);
+        assert_eq!(rt; listed(alloc, out)?.as_str(), "a/other.html\n");
+        assert!(rt; remove(alloc, out, "a/other.html")?);
+        assert!(rt; !fs::exists(rt, "_site/a")?);
+        assert!(rt; fs::exists(rt, DESTINATION)?);
+        Ok(())
+    }
 
-        // An empty folder does not stand in the way.
-        fs::create_dir(&rt, "_site/a")?;
-        out.write(&above, b"text")?;
-        assert_eq!(rt; listed(alloc, &mut out)?.as_str(), "a\n");
+    // An empty folder does not stand in the way.
+    fn replaces_a_folder<R: Files + AllocGlobal + Clone + Drop + Abort>(
+        rt: &R,
+        out: &mut DiskOut<R>,
+    ) -> Result<(), Fail> {
+        let alloc = rt.alloc();
+        fs::create_dir(rt, "_site/a")?;
+        assert!(rt; write(alloc, out, "a", "text")?);
+        assert_eq!(rt; listed(alloc, out)?.as_str(), "a\n");
+        Ok(())
+    }
 
-        // A name that makes no path is a failure, and so is a destination that is a file.
-        fs::write(&rt, "_site/\u{1}", b"text")?;
+    // A name that makes no path is a failure, and so is a destination that is a file.
+    fn fails_to_list<R: Files + AllocGlobal + Clone + Drop + Abort>(
+        rt: &R,
+        out: &mut DiskOut<R>,
+    ) -> Result<(), Fail> {
+        let alloc = rt.alloc();
+        fs::write(rt, "_site/\u{1}", b"text")?;
         assert_eq!(rt; out.list(alloc).err(), Some(ListError::Failed));
-        fs::remove_dir_all(&rt, DESTINATION)?;
-        fs::write(&rt, DESTINATION, b"text")?;
+        fs::remove_dir_all(rt, DESTINATION)?;
+        fs::write(rt, DESTINATION, b"text")?;
         assert_eq!(rt; out.list(alloc).err(), Some(ListError::Failed));
         assert_eq!(rt; out.faults, 4);
-        fs::remove_file(&rt, DESTINATION)?;
+        fs::remove_file(rt, DESTINATION)?;
         Ok(())
+    }
+
+    #[test]
+    fn keeps_its_files_in_a_folder(rt: HostRuntime) -> Result<(), Fail> {
+        let mut out = DiskOut::new(rt.clone()?);
+        let _ = fs::remove_dir_all(&rt, DESTINATION);
+        writes(&rt, &mut out)?;
+        refuses(&rt, &mut out)?;
+        removes(&rt, &mut out)?;
+        replaces_a_folder(&rt, &mut out)?;
+        fails_to_list(&rt, &mut out)
     }
 }
