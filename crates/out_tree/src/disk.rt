@@ -154,125 +154,150 @@ fn remove_empty_folders<R: Files>(rt: &R, place: &str) {
 mod tests {
     use super::*;
     use std::process::Abort;
-    use std::test::Fail;
 
     // The paths that the output lists, each with a line end.
     fn listed<R: Files + AllocGlobal + Clone + Drop>(
         alloc: Global,
         out: &mut DiskOut<R>,
-    ) -> Result<String, Fail> {
+    ) -> Option<String> {
         let mut text = String::new(alloc);
-        for path in out.list(alloc)? {
-            text.push_str(path.text())?;
-            text.push('\n')?;
+        for path in out.list(alloc).ok()? {
+            text.push_str(path.text()).ok()?;
+            text.push('\n').ok()?;
         }
-        Ok(text)
+        Some(text)
     }
 
-    fn write<R: Files + AllocGlobal + Clone + Drop>(
+    fn lists<R: Files + AllocGlobal + Clone + Drop>(
+        alloc: Global,
+        out: &mut DiskOut<R>,
+        paths: &str,
+    ) -> bool {
+        match listed(alloc, out) {
+            Some(text) => text.as_str() == paths,
+            None => false,
+        }
+    }
+
+    fn writes<R: Files + AllocGlobal + Clone + Drop>(
         alloc: Global,
         out: &mut DiskOut<R>,
         path: &str,
         text: &str,
-    ) -> Result<bool, Fail> {
-        let path = SitePath::read(alloc, path)?;
-        Ok(out.write(&path, text.as_bytes()).is_ok())
+    ) -> bool {
+        match SitePath::read(alloc, path) {
+            Ok(path) => out.write(&path, text.as_bytes()).is_ok(),
+            Err(_) => false,
+        }
     }
 
-    fn remove<R: Files + AllocGlobal + Clone + Drop>(
+    fn removes<R: Files + AllocGlobal + Clone + Drop>(
         alloc: Global,
         out: &mut DiskOut<R>,
         path: &str,
-    ) -> Result<bool, Fail> {
-        let path = SitePath::read(alloc, path)?;
-        Ok(out.remove(&path).is_ok())
+    ) -> bool {
+        match SitePath::read(alloc, path) {
+            Ok(path) => out.remove(&path).is_ok(),
+            Err(_) => false,
+        }
     }
 
-    // A destination that is not there has no files. A write makes the folders that it needs, and replaces what was there.
-    fn writes<R: Files + AllocGlobal + Clone + Drop + Abort>(
-        rt: &R,
-        out: &mut DiskOut<R>,
-    ) -> Result<(), Fail> {
-        let alloc = rt.alloc();
-        assert_eq!(rt; listed(alloc, out)?.as_str(), "");
-        assert!(rt; write(alloc, out, "a/b/page.html", "old")?);
-        assert!(rt; write(alloc, out, "a/other.html", "text")?);
-        assert!(rt; write(alloc, out, "a/b/page.html", "new")?);
-        assert_eq!(rt;
-            listed(alloc, out)?.as_str(),
-            "a/b/page.html\na/other.html\n"
-        );
-        assert_eq!(rt;
-            fs::read_to_string(rt, "_site/a/b/page.html")?.as_str(),
-            "new"
-        );
-        Ok(())
+    fn holds<R: Files + AllocGlobal>(rt: &R, place: &str, text: &str) -> bool {
+        match fs::read_to_string(rt, place) {
+            Ok(found) => found.as_str() == text,
+            Err(_) => false,
+        }
     }
 
-    // A path that is a folder of a file, or lies below one, cannot be written.
-    fn refuses<R: Files + AllocGlobal + Clone + Drop + Abort>(
-        rt: &R,
-        out: &mut DiskOut<R>,
-    ) -> Result<(), Fail> {
-        let alloc = rt.alloc();
-        assert!(rt; !write(alloc, out, "a", "text")?);
-        assert!(rt; !write(alloc, out, "a/other.html/c", "text")?);
-        assert_eq!(rt; out.faults, 2);
-        Ok(())
+    fn stands<R: Files>(rt: &R, place: &str) -> bool {
+        fs::symlink_metadata(rt, place).is_ok()
     }
 
-    // A removal takes away the folders that it leaves empty, but not the destination.
-    fn removes<R: Files + AllocGlobal + Clone + Drop + Abort>(
-        rt: &R,
-        out: &mut DiskOut<R>,
-    ) -> Result<(), Fail> {
-        let alloc = rt.alloc();
-        assert!(rt; remove(alloc, out, "a/b/page.html")?);
-        assert!(rt; remove(alloc, out, "a/b/page.html")?);
-        assert!(rt; !fs::exists(rt, "_site/a/b")?);
-        assert_eq!(rt; listed(alloc, out)?.as_str(), "a/other.html\n");
-        assert!(rt; remove(alloc, out, "a/other.html")?);
-        assert!(rt; !fs::exists(rt, "_site/a")?);
-        assert!(rt; fs::exists(rt, DESTINATION)?);
-        Ok(())
+    // What is done, or looked at, at a path.
+    #[derive(Clone, Copy)]
+    enum Step {
+        // the output lists these paths, each with a line end
+        Lists,
+        FailsToList,
+        Writes,
+        FailsToWrite,
+        Removes,
+        // the file has this text
+        Holds,
+        Stands,
+        Lacks,
+        // what others do
+        MakesFolder,
+        MakesFile,
+        RemovesFolder,
+        RemovesFile,
     }
 
-    // An empty folder does not stand in the way.
-    fn replaces_a_folder<R: Files + AllocGlobal + Clone + Drop + Abort>(
-        rt: &R,
-        out: &mut DiskOut<R>,
-    ) -> Result<(), Fail> {
-        let alloc = rt.alloc();
-        fs::create_dir(rt, "_site/a")?;
-        assert!(rt; write(alloc, out, "a", "text")?);
-        assert_eq!(rt; listed(alloc, out)?.as_str(), "a\n");
-        Ok(())
-    }
+    const STEPS: [(Step, &str, &str); 24] = [
+        // A destination that is not there has no files.
+        (Step::Lists, "", ""),
+        // A write makes the folders that it needs, and replaces what was there.
+        (Step::Writes, "a/b/page.html", "old"),
+        (Step::Writes, "a/other.html", "text"),
+        (Step::Writes, "a/b/page.html", "new"),
+        (Step::Lists, "", "a/b/page.html\na/other.html\n"),
+        (Step::Holds, "_site/a/b/page.html", "new"),
+        // A path that is a folder of a file, or lies below one, cannot be written.
+        (Step::FailsToWrite, "a", "text"),
+        (Step::FailsToWrite, "a/other.html/c", "text"),
+        // A removal takes away the folders that it leaves empty, but not the destination.
+        (Step::Removes, "a/b/page.html", ""),
+        (Step::Removes, "a/b/page.html", ""),
+        (Step::Lacks, "_site/a/b", ""),
+        (Step::Lists, "", "a/other.html\n"),
+        (Step::Removes, "a/other.html", ""),
+        (Step::Lacks, "_site/a", ""),
+        (Step::Stands, DESTINATION, ""),
+        // An empty folder does not stand in the way.
+        (Step::MakesFolder, "_site/a", ""),
+        (Step::Writes, "a", "text"),
+        (Step::Lists, "", "a\n"),
+        // A name that makes no path is a failure, and so is a destination that is a file.
+        (Step::MakesFile, "_site/\u{1}", "text"),
+        (Step::FailsToList, "", ""),
+        (Step::RemovesFolder, DESTINATION, ""),
+        (Step::MakesFile, DESTINATION, "text"),
+        (Step::FailsToList, "", ""),
+        (Step::RemovesFile, DESTINATION, ""),
+    ];
 
-    // A name that makes no path is a failure, and so is a destination that is a file.
-    fn fails_to_list<R: Files + AllocGlobal + Clone + Drop + Abort>(
+    // Whether the step comes out as its name says.
+    fn succeeds<R: Files + AllocGlobal + Clone + Drop>(
         rt: &R,
         out: &mut DiskOut<R>,
-    ) -> Result<(), Fail> {
-        let alloc = rt.alloc();
-        fs::write(rt, "_site/\u{1}", b"text")?;
-        assert_eq!(rt; out.list(alloc).err(), Some(ListError::Failed));
-        fs::remove_dir_all(rt, DESTINATION)?;
-        fs::write(rt, DESTINATION, b"text")?;
-        assert_eq!(rt; out.list(alloc).err(), Some(ListError::Failed));
-        assert_eq!(rt; out.faults, 4);
-        fs::remove_file(rt, DESTINATION)?;
-        Ok(())
+        step: Step,
+        path: &str,
+        text: &str,
+    ) -> bool {
+        match step {
+            Step::Lists => lists(rt.alloc(), out, text),
+            Step::FailsToList => out.list(rt.alloc()).err() == Some(ListError::Failed),
+            Step::Writes => writes(rt.alloc(), out, path, text),
+            Step::FailsToWrite => !writes(rt.alloc(), out, path, text),
+            Step::Removes => removes(rt.alloc(), out, path),
+            Step::Holds => holds(rt, path, text),
+            Step::Stands => stands(rt, path),
+            Step::Lacks => !stands(rt, path),
+            Step::MakesFolder => fs::create_dir(rt, path).is_ok(),
+            Step::MakesFile => fs::write(rt, path, text.as_bytes()).is_ok(),
+            Step::RemovesFolder => fs::remove_dir_all(rt, path).is_ok(),
+            Step::RemovesFile => fs::remove_file(rt, path).is_ok(),
+        }
     }
 
     #[test]
-    fn keeps_its_files_in_a_folder(rt: HostRuntime) -> Result<(), Fail> {
-        let mut out = DiskOut::new(rt.clone()?);
+    fn keeps_its_files_in_a_folder(rt: HostRuntime) -> io::Result<()> {
         let _ = fs::remove_dir_all(&rt, DESTINATION);
-        writes(&rt, &mut out)?;
-        refuses(&rt, &mut out)?;
-        removes(&rt, &mut out)?;
-        replaces_a_folder(&rt, &mut out)?;
-        fails_to_list(&rt, &mut out)
+        let mut out = DiskOut::new(rt.clone()?);
+        for (place, (step, path, text)) in STEPS.iter().enumerate() {
+            assert!(rt; succeeds(&rt, &mut out, *step, path, text), "step {place}");
+        }
+        assert_eq!(rt; out.faults, 4);
+        Ok(())
     }
 }
