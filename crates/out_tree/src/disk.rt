@@ -294,8 +294,11 @@ mod tests {
     fn keeps_its_files_in_a_folder(rt: HostRuntime) -> io::Result<()> {
         let _ = fs::remove_dir_all(&rt, DESTINATION);
         let mut out = DiskOut::new(rt.clone()?);
-        for (place, (step, path, text)) in STEPS.iter().enumerate() {
-            assert!(rt; succeeds(&rt, &mut out, *step, path, text), "step {place}");
+        for (step, path, text) in STEPS {
+            assert!(rt;
+                succeeds(&rt, &mut out, step, path, text),
+                "at {path} {text}"
+            );
         }
         assert_eq!(rt; out.faults, 4);
         Ok(())
