@@ -8,4 +8,3 @@ pub mod Paths
 pub mod Picked
 pub mod Trying
 pub mod ValuesLemmas
-pub mod Within

@@ -48,7 +48,17 @@ tried_none old told called before failed new same = record {
   failed_are = sym (append-nil failed);
   later = omega arith;
   rose = omega arith;
+  steady = λ _. refl;
 }
+
+-- both parts of a list that is empty are
+no_front : (xs ys : List (List ℕ)) → xs ++ ys ≡ [] → xs ≡ []
+no_front [] ys none = refl
+no_front (x ∷ xs) ys none = absurd (cc (none))
+
+no_back : (xs ys : List (List ℕ)) → xs ++ ys ≡ [] → ys ≡ []
+no_back [] ys none = none
+no_back (x ∷ xs) ys none = absurd (cc (none))
 
 -- first these steps, then those
 pub tried_then : (steps more : List Step) (first old new : Belief) (at_first told tells : Option Files) (called_first called calls : Option (List Call)) (start before now : ℕ) (failed_first failed failed_now : List (List ℕ))
@@ -69,6 +79,9 @@ tried_then steps more first old new at_first told tells called_first called call
       failed_are = u.failed_are ∙ ap (λ (l : List (List ℕ)). l ++ failed_paths u.tries) t.failed_are ∙ append_assoc failed_first (failed_paths t.tries) (failed_paths u.tries) ∙ ap (λ (l : List (List ℕ)). failed_first ++ l) (sym paths);
       later = omega (arith, t.later, u.later);
       rose = rose_then (length (failed_paths t.tries)) (length (failed_paths u.tries)) _ start before now t.rose u.rose (ap length paths ∙ length-append (failed_paths t.tries) (failed_paths u.tries));
+      steady = λ none.
+          let both = sym paths ∙ none in
+          u.steady (no_back (failed_paths t.tries) (failed_paths u.tries) both) ∙ t.steady (no_front (failed_paths t.tries) (failed_paths u.tries) both);
     }
 
 -- what one try does
@@ -78,11 +91,16 @@ pub record Adds (step : Step) (ok : Bool) (old new : Belief) (told tells : Optio
   pub calls_it : Calls called calls (Try step ∷ [])
   pub later : before ≤ now
   pub rose : ok ≡ false → min (before + 1) (2 ^ 64 - 1) ≤ now
+  pub steady : ok ≡ true → now ≡ before
   pub failed_is : failed_now ≡ failed ++ cond ok [] (path_of step ∷ [])
 
 rose_one : (step : Step) (ok : Bool) (before now : ℕ) → before ≤ now → (ok ≡ false → min (before + 1) (2 ^ 64 - 1) ≤ now) → RoseBy (length (failed_paths ((step, ok) ∷ []))) before now
 rose_one step true before now later rose = omega arith
 rose_one step false before now later rose = let up : min (before + 1) (2 ^ 64 - 1) ≤ now = rose refl in omega arith
+
+steady_one : (step : Step) (ok : Bool) (before now : ℕ) → (ok ≡ true → now ≡ before) → failed_paths ((step, ok) ∷ []) ≡ [] → now ≡ before
+steady_one step true before now steady none = steady refl
+steady_one step false before now steady none = absurd (cc (none))
 
 failed_one : (step : Step) (ok : Bool) → cond ok [] (path_of step ∷ []) ≡ failed_paths ((step, ok) ∷ [])
 failed_one step true = refl
@@ -101,6 +119,7 @@ tried_one step ok old new told tells called calls before now failed failed_now a
   failed_are = a.failed_is ∙ ap (λ (l : List (List ℕ)). failed ++ l) (failed_one step ok);
   later = a.later;
   rose = rose_one step ok before now a.later a.rose;
+  steady = steady_one step ok before now a.steady;
 }
 
 -- a step that a list of planned steps goes on by

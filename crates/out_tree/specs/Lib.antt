@@ -1,4 +1,3 @@
-pub mod Among
 pub mod Belief
 pub mod BeliefCode
 pub mod Device
@@ -8,6 +7,5 @@ pub mod Memory
 pub mod MemoryCode
 pub mod Plan
 pub mod PlanRoom
-pub mod Settled
 pub mod Tries
 pub mod Values

@@ -53,3 +53,4 @@ pub record Tried (steps : List Step) (old new : Belief) (told tells : Option Fil
   pub failed_are : failed_now ≡ failed ++ failed_paths tries
   pub later : before ≤ now
   pub rose : RoseBy (length (failed_paths tries)) before now
+  pub steady : failed_paths tries ≡ [] → now ≡ before

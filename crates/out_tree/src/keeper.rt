@@ -1,23 +1,21 @@
 // What is believed of an output, and how it is made equal to a tree.
-ghost use Rattle.std.specs.Prelude.{◌≡◌, ◌+◌, ◌≤◌, ◌<◌, ◌++◌, ◌∷◌, [], ℕ, List, map, length, is_some, true, false, IfOk, OnOk, OnErr, IsOk, IsSome, Some, None, Option, vec_len, vec_capacity, if◌then◌else◌};
+ghost use Rattle.std.specs.Prelude.{◌≡◌, ◌≤◌, ◌∷◌, [], ℕ, List, length, is_some, true, IfOk, OnOk, OnErr, IsOk, IsSome, Some, None, if◌then◌else◌};
 ghost use Rattle.std.specs.FinMap as finmap;
 ghost use Rattle.site_base.specs.Places.{Files, is_listed, AllDiffer};
-ghost use Rattle.site_base.specs.Ends.{HasCauseOf, Rose};
-ghost use Rattle.site_base.specs.PathMap.{as_map, room};
-ghost use Rattle.out_tree.specs.Device.{Tells, Calls, path_of};
-ghost use Rattle.out_tree.specs.Belief.{believed, all_marked, after_one, after, HoldsOf};
-ghost use Rattle.std.specs.Option.{option_copied};
-ghost use Rattle.out_tree.specs.Among.{is_removed, removals_at, wanted, writes_at};
-ghost use Rattle.out_tree.specs.Plan.{steps_of, plan_of, planned, removals, writes, is_known_as, is_surplus};
-ghost use Rattle.out_tree.specs.Tries.{Tried, InOrder, DoneBut, StaysTrue, CallsFor, RoseBy};
-ghost use Rattle.out_tree.specs.Exact.{IsExactly, MadeBut, MarksThose, Settles};
-ghost use Rattle.out_tree.specs.Settled.{Beyond, IsSettledBeyond, IsThere, Stays};
+ghost use Rattle.site_base.specs.Ends.{HasCauseOf};
+ghost use Rattle.site_base.specs.PathMap.{as_map};
+ghost use Rattle.out_tree.specs.Device.{Calls};
+ghost use Rattle.out_tree.specs.Belief.{believed, all_marked, after, HoldsOf};
+ghost use Rattle.out_tree.specs.Plan.{steps_of, plan_of, planned, removals, writes};
+ghost use Rattle.out_tree.specs.Tries.{InOrder, DoneBut, StaysTrue, CallsFor, RoseBy};
+ghost use Rattle.out_tree.specs.Exact.{MadeBut, MarksThose, Settles};
 ghost use Rattle.out_tree.specs.declared.state.State.TheVariants.{Marked};
 ghost use Rattle.out_tree.specs.declared.step.Call.TheVariants as call;
 
-use crate::plan::{Planned, push_step};
-use crate::{KeepList, OutTree, Plan, State, Step, Touched, Tree};
-use site_base::{ListError, Memory, PathList, PathMap, SharedBytes, SitePath};
+use crate::attempts::try_all;
+use crate::planning::plan_for;
+use crate::{KeepList, OutTree, Plan, State, Tree};
+use site_base::{ListError, Memory, PathList, PathMap, SitePath};
 use std::alloc::Global;
 use std::marker::Model;
 
@@ -107,39 +105,21 @@ impl OutKeeper {
         requires { IsSome self.now }
         ensures { IfOk result (λ plan. plan ≡ plan_of (believed self.now) tree.now keep.now) }
     {
-        self.plan_within(alloc, tree, keep, &Touched::anywhere())
-    }
-
-    /// The plan where the output differs from the tree at no path but the touched ones. It looks at these alone.
-    pub fn plan_within(
-        &self,
-        alloc: Global,
-        tree: &Tree,
-        keep: &KeepList,
-        touched: &Touched,
-    ) -> Result<Plan, Memory>
-        requires listed { IsSome self.now }
-        requires settled { IsSettledBeyond touched.now (believed self.now) tree.now keep.now }
-        ensures { IfOk result (λ plan. plan ≡ plan_of (believed self.now) tree.now keep.now) }
-    {
         match &self.belief {
-            Some(belief) => plan_for(alloc, belief, tree, keep, touched),
+            Some(belief) => plan_for(alloc, belief, tree, keep),
             None => unreachable!(),
         }
     }
 
-    /// Makes the output equal to the tree, kept paths aside, where it differs at no path but the touched ones. After
-    /// `Memory` nothing was done.
+    /// Makes the output equal to the tree, kept paths aside. After `Memory` nothing was done.
     pub fn make_equal<O: OutTree>(
         &mut self,
         alloc: Global,
         tree: &Tree,
         keep: &KeepList,
-        touched: &Touched,
         device: &mut O,
     ) -> Result<Applied, Memory>
-        requires listed { IsSome self.old }
-        requires beyond { IsSettledBeyond touched.now (believed self.old) tree.now keep.now }
+        requires { IsSome self.old }
         ensures err { OnErr result ((self.new ≡ self.old) × (device.new ≡ device.old)) }
         ensures written { IfOk result (λ applied.
             applied.written ≡ length (writes (believed self.old) tree.now)) }
@@ -159,6 +139,7 @@ impl OutKeeper {
         ensures cause { IfOk result (λ applied.
             RoseBy (length applied.failed) (O.faults device.old) (O.faults device.new)) }
         ensures later { O.faults device.old ≤ O.faults device.new }
+        ensures steady { IfOk result (λ applied. applied.failed ≡ [] → O.faults device.new ≡ O.faults device.old) }
         ensures idle { planned (believed self.old) tree.now keep.now ≡ [] → device.new ≡ device.old }
 
         // Where the belief was true of the output, it is now exactly the tree, but for the paths that failed.
@@ -170,7 +151,7 @@ impl OutKeeper {
         ensures settled { IfOk result (λ applied.
             Settles applied.failed (believed self.new) tree.now keep.now) }
     {
-        let plan = self.plan_within(alloc, tree, keep, touched)?;
+        let plan = self.plan(alloc, tree, keep)?;
         Ok(self.apply(device, plan))
     }
 
@@ -190,6 +171,7 @@ impl OutKeeper {
         ensures calls { CallsFor (steps_of plan) (O.calls device.old) (O.calls device.new) }
         ensures cause { RoseBy (length result.failed) (O.faults device.old) (O.faults device.new) }
         ensures later { O.faults device.old ≤ O.faults device.new }
+        ensures steady { result.failed ≡ [] → O.faults device.new ≡ O.faults device.old }
         ensures idle { steps_of plan ≡ [] → device.new ≡ device.old }
     {
         let Plan {
@@ -235,253 +217,6 @@ fn all_marked(alloc: Global, paths: Vec<SitePath>) -> Result<PathMap<State>, Mem
     match PathMap::from_entries(entries) {
         Some(belief) => Ok(belief),
         None => unreachable!(),
-    }
-}
-
-fn plan_for(
-    alloc: Global,
-    belief: &PathMap<State>,
-    tree: &Tree,
-    keep: &KeepList,
-    touched: &Touched,
-) -> Result<Plan, Memory>
-    requires { IsSettledBeyond touched.now (as_map belief.now) tree.now keep.now }
-    ensures { IfOk result (λ plan. plan ≡ plan_of (as_map belief.now) tree.now keep.now) }
-{
-    let removals = plan_removals(alloc, belief, tree, keep, touched)?;
-    let writes = plan_writes(alloc, belief, tree, touched)?;
-    let Some(steps) = removals.len().checked_add(writes.len()) else {
-        return Err(Memory);
-    };
-    let Some(most) = belief.len().checked_add(steps) else {
-        return Err(Memory);
-    };
-    let mut spare = PathMap::new(alloc);
-    spare.reserve(most)?;
-    let failed = match Vec::with_capacity(alloc, steps) {
-        Ok(failed) => failed,
-        Err(_) => return Err(Memory),
-    };
-    Ok(Plan {
-        removals,
-        writes,
-        believed: belief.len(),
-        spare,
-        failed,
-    })
-}
-
-fn plan_removals(
-    alloc: Global,
-    belief: &PathMap<State>,
-    tree: &Tree,
-    keep: &KeepList,
-    touched: &Touched,
-) -> Result<Vec<Planned>, Memory>
-    requires { Beyond touched.now (Stays (as_map belief.now) tree.now keep.now) }
-    ensures { IfOk result (λ steps.
-        map (λ p. p.step) steps.items ≡ removals (as_map belief.now) tree.now keep.now) }
-{
-    match touched.paths() {
-        Some(paths) => removals_among(alloc, belief, tree, keep, paths),
-        None => all_removals(alloc, belief, tree, keep),
-    }
-}
-
-fn all_removals(
-    alloc: Global,
-    belief: &PathMap<State>,
-    tree: &Tree,
-    keep: &KeepList,
-) -> Result<Vec<Planned>, Memory>
-    ensures { IfOk result (λ steps.
-        map (λ p. p.step) steps.items ≡ removals (as_map belief.now) tree.now keep.now) }
-{
-    let mut steps = Vec::new(alloc);
-    for place in 0..belief.len() {
-        let (path, _) = belief.at(place);
-        if is_surplus(tree, keep, path) {
-            push_step(
-                &mut steps,
-                Step::Remove(path.copy(alloc)?),
-                path.copy(alloc)?,
-            )?;
-        }
-    }
-    Ok(steps)
-}
-
-fn removals_among(
-    alloc: Global,
-    belief: &PathMap<State>,
-    tree: &Tree,
-    keep: &KeepList,
-    paths: &PathMap<()>,
-) -> Result<Vec<Planned>, Memory>
-    ensures { IfOk result (λ steps.
-        map (λ p. p.step) steps.items ≡ removals_at (as_map belief.now) tree.now keep.now (as_map paths.now)) }
-{
-    let mut steps = Vec::new(alloc);
-    for place in 0..paths.len() {
-        let (path, _) = paths.at(place);
-        if is_removed(belief, tree, keep, path) {
-            push_step(
-                &mut steps,
-                Step::Remove(path.copy(alloc)?),
-                path.copy(alloc)?,
-            )?;
-        }
-    }
-    Ok(steps)
-}
-
-fn plan_writes(
-    alloc: Global,
-    belief: &PathMap<State>,
-    tree: &Tree,
-    touched: &Touched,
-) -> Result<Vec<Planned>, Memory>
-    requires { Beyond touched.now (IsThere (as_map belief.now) tree.now) }
-    ensures { IfOk result (λ steps.
-        map (λ p. p.step) steps.items ≡ writes (as_map belief.now) tree.now) }
-{
-    match touched.paths() {
-        Some(paths) => writes_among(alloc, belief, tree, paths),
-        None => all_writes(alloc, belief, tree),
-    }
-}
-
-fn all_writes(alloc: Global, belief: &PathMap<State>, tree: &Tree) -> Result<Vec<Planned>, Memory>
-    ensures { IfOk result (λ steps.
-        map (λ p. p.step) steps.items ≡ writes (as_map belief.now) tree.now) }
-{
-    let mut steps = Vec::new(alloc);
-    for place in 0..tree.len() {
-        let (path, bytes) = tree.shared_at(place);
-        if !is_known(belief, path, bytes) {
-            let step = Step::Write(path.copy(alloc)?, bytes.share()?);
-            push_step(&mut steps, step, path.copy(alloc)?)?;
-        }
-    }
-    Ok(steps)
-}
-
-fn writes_among(
-    alloc: Global,
-    belief: &PathMap<State>,
-    tree: &Tree,
-    paths: &PathMap<()>,
-) -> Result<Vec<Planned>, Memory>
-    ensures { IfOk result (λ steps.
-        map (λ p. p.step) steps.items ≡ writes_at (as_map belief.now) tree.now (as_map paths.now)) }
-{
-    let mut steps = Vec::new(alloc);
-    for place in 0..paths.len() {
-        let (path, _) = paths.at(place);
-        if let Some(bytes) = wanted(belief, tree, path) {
-            let step = Step::Write(path.copy(alloc)?, bytes.share()?);
-            push_step(&mut steps, step, path.copy(alloc)?)?;
-        }
-    }
-    Ok(steps)
-}
-
-// Whether the path is believed, and surplus.
-fn is_removed(belief: &PathMap<State>, tree: &Tree, keep: &KeepList, path: &SitePath) -> bool
-    ensures { result ≡ is_removed (as_map belief.now) tree.now keep.now path.now }
-{
-    belief.get(path).is_some() && is_surplus(tree, keep, path)
-}
-
-// What is to be written at a path, if anything is.
-fn wanted<'a>(belief: &PathMap<State>, tree: &'a Tree, path: &SitePath) -> Option<&'a SharedBytes>
-    ensures { option_copied result ≡ wanted (as_map belief.now) tree.now path.now }
-{
-    match tree.get_shared(path) {
-        Some(bytes) => {
-            if is_known(belief, path, bytes) {
-                None
-            } else {
-                Some(bytes)
-            }
-        }
-        None => None,
-    }
-}
-
-// Whether no file of the tree has the path, and no entry keeps it.
-fn is_surplus(tree: &Tree, keep: &KeepList, path: &SitePath) -> bool
-    ensures { result ≡ is_surplus tree.now keep.now path.now }
-{
-    tree.get(path).is_none() && !keep.keeps(path)
-}
-
-// Whether the path is believed to have these bytes.
-fn is_known(belief: &PathMap<State>, path: &SitePath, bytes: &SharedBytes) -> bool
-    ensures { result ≡ is_known_as (finmap.get (as_map belief.now) path.now) bytes.now }
-{
-    match belief.get(path) {
-        Some(State::Known(known)) => known.as_slice() == bytes.as_slice(),
-        Some(State::Marked) => false,
-        None => false,
-    }
-}
-
-// Tries each step, and lists the paths of those that fail.
-fn try_all<O: OutTree>(
-    belief: &mut PathMap<State>,
-    device: &mut O,
-    steps: Vec<Planned>,
-    failed: &mut Vec<SitePath>,
-)
-    requires room { vec_len steps ≤ room belief.old }
-    requires failed_room { vec_len failed.old + vec_len steps ≤ vec_capacity failed.old }
-    ensures tried { Tried (map (λ p. p.step) steps.items) (as_map belief.old) (as_map belief.new)
-        (O.contents device.old) (O.contents device.new) (O.calls device.old) (O.calls device.new)
-        (O.faults device.old) (O.faults device.new) failed.old.items failed.new.items }
-    ensures room { room belief.old ≤ room belief.new + vec_len steps }
-    ensures failed_room { vec_len failed.new + vec_capacity failed.old ≤ vec_len failed.old + vec_len steps + vec_capacity failed.new }
-    ensures idle { steps.items ≡ [] → device.new ≡ device.old }
-{
-    for planned in steps {
-        let Planned { step, path } = planned;
-        if !try_step(belief, device, step) {
-            failed.push(path).unwrap();
-        }
-    }
-}
-
-// Tries one step on the output, and says whether it succeeded.
-fn try_step<O: OutTree>(belief: &mut PathMap<State>, device: &mut O, step: Step) -> bool
-    requires { 0 < room belief.old }
-    ensures belief { as_map belief.new ≡ after_one (as_map belief.old) step result }
-    ensures tells { Tells (O.contents device.old) (O.contents device.new) step result }
-    ensures calls { Calls (O.calls device.old) (O.calls device.new) (call.Try step ∷ []) }
-    ensures later { O.faults device.old ≤ O.faults device.new }
-    ensures rose { result ≡ false → Rose (O.faults device.old) (O.faults device.new) }
-    ensures room { room belief.old ≤ room belief.new + 1 }
-{
-    match step {
-        Step::Remove(path) => match device.remove(&path) {
-            Ok(()) => {
-                let _ = belief.remove(&path);
-                true
-            }
-            Err(_) => {
-                belief.put_in_room(path, State::Marked);
-                false
-            }
-        },
-        Step::Write(path, bytes) => match device.write(&path, bytes.as_slice()) {
-            Ok(()) => {
-                belief.put_in_room(path, State::Known(bytes));
-                true
-            }
-            Err(_) => {
-                belief.put_in_room(path, State::Marked);
-                false
-            }
-        },
     }
 }
 

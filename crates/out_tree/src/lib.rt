@@ -1,15 +1,16 @@
 //! The output of a site, what is believed of it, and how it is made equal to a tree of files.
 #![tactic(auto)]
 
+mod attempts;
 mod device;
 mod disk;
 mod keep;
 mod keeper;
 mod memory;
 mod plan;
+mod planning;
 mod state;
 mod step;
-mod touched;
 mod tree;
 
 pub use device::OutTree;
@@ -20,5 +21,4 @@ pub use memory::MemoryOut;
 pub use plan::Plan;
 pub use state::State;
 pub use step::{Call, Step};
-pub use touched::Touched;
 pub use tree::Tree;

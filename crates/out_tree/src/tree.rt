@@ -85,13 +85,6 @@ impl Tree {
         }
     }
 
-    // The holder of a file's bytes.
-    pub(crate) fn get_shared(&self, path: &SitePath) -> Option<&SharedBytes>
-        ensures { option_copied result ≡ map.get self.now path.now }
-    {
-        self.files.get(path)
-    }
-
     // The file at a place, with the holder of its bytes.
     pub(crate) fn shared_at(&self, place: usize) -> (&SitePath, &SharedBytes)
         requires { place < map.len self.now }

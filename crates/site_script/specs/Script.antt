@@ -1,5 +1,5 @@
 -- What the bytes of a session's script say, line by line.
-use Rattle.std.specs.Prelude.{◌≡◌, ◌⊎◌, ℕ, ◌+◌, Bool, true, false, not, ◌==◌, nat_lt, List, [], ◌∷◌, length, take, drop, nat_eq, codes, pos, Option, Some, is_some, if◌then◌else◌}
+use Rattle.std.specs.Prelude.{◌≡◌, ◌⊎◌, ◌≤◌, ℕ, ◌+◌, ◌++◌, Bool, true, false, not, ◌==◌, nat_lt, List, [], ◌∷◌, length, take, drop, nat_eq, codes, pos, Option, Some, is_some, if◌then◌else◌}
 use Rattle.std.specs.Option.{option_map_or}
 use Rattle.std.specs.List.{list_any, starts_with, before_first, after_first, before_last, after_last}
 use Rattle.std.specs.Io.BufRead.{strip_last}
@@ -104,13 +104,47 @@ abbrev pub is_bad : Line → Bool
 is_bad (Bad number kind) = true
 is_bad _ = false
 
--- the line read is this first line, and where it is not bad, this is left; what is left after a bad line is not said
-abbrev pub IsFirst : Line × List ℕ → Line → Option (List ℕ) → Type 0
-IsFirst first line left = (first.0 ≡ line) × (is_bad line ≡ false → left ≡ Some first.1)
+-- these bytes of a text were taken, and what follows them is left
+pub record HasRead (text bytes : List ℕ) (after : Option (List ℕ)) : Type 0 where
+  pub rest : List ℕ
+  pub left : after ≡ Some rest
+  pub whole : text ≡ bytes ++ rest
 
--- the same, unless the input failed or memory was wanting
-abbrev pub ReadsFirst : Line × List ℕ → Line → Option (List ℕ) → Type 0
-ReadsFirst first line left = (line ≡ Failed) ⊎ ((line ≡ Memory) ⊎ IsFirst first line left)
+-- the body that a head asks for is not whole
+abbrev pub lacks_body : Head → List ℕ → Bool
+lacks_body (head.Put path count) body = nat_lt (length body) count
+lacks_body head.Scan body = false
+lacks_body head.Build body = false
+lacks_body head.End body = false
+lacks_body (head.Delete path) body = false
+lacks_body (head.Time seconds) body = false
+lacks_body (head.Bad kind) body = false
+
+-- these bytes hold no whole line: neither an end nor too much for a line, or not all of the body that their line asks for
+abbrev pub is_cut_off : List ℕ → Bool
+is_cut_off bytes = if has_end bytes then lacks_body (head_of (content bytes)) (after_line bytes) else not (nat_lt 2049 (length bytes))
+
+-- the bytes taken of a text hold no whole line
+abbrev pub IsCutOff : List ℕ → Option (List ℕ) → Type 0
+IsCutOff text left = (bytes : List ℕ) × HasRead text bytes left × (is_cut_off bytes ≡ true)
+
+-- of a text that ends so, no byte of its end was taken
+abbrev pub Spares : List ℕ → List ℕ → Option (List ℕ) → Type 0
+Spares end text left = (bytes : List ℕ) × HasRead text bytes left × (length bytes + length end ≤ length text)
+
+-- of a text that begins with this line this line was read, and no byte behind it was taken; a line that is not bad was taken whole
+pub record IsFirst (first : Line × List ℕ) (text : List ℕ) (line : Line) (left : Option (List ℕ)) : Type 0 where
+  pub is : first.0 ≡ line
+  pub whole : is_bad line ≡ false → left ≡ Some first.1
+  pub part : is_bad line ≡ true → Spares first.1 text left
+
+-- the same, unless memory was wanting
+abbrev pub IsFirstOr : Line × List ℕ → List ℕ → Line → Option (List ℕ) → Type 0
+IsFirstOr first text line left = ((line ≡ Memory) × Spares first.1 text left) ⊎ IsFirst first text line left
+
+-- the first line of a text was read, unless memory was wanting, or the input failed before the line was whole
+abbrev pub ReadsFirst : ℕ → List ℕ → Line → Option (List ℕ) → Type 0
+ReadsFirst number text line left = ((line ≡ Failed) × IsCutOff text left) ⊎ IsFirstOr (first_line number text) text line left
 
 -- if the line is bad, it bears this number
 abbrev pub BearsNumber : ℕ → Line → Type 0

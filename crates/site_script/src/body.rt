@@ -1,8 +1,8 @@
 // The bytes that follow a put.
-ghost use Rattle.std.specs.Prelude.{◌≡◌, ◌≤◌, ◌<◌, ◌+◌, ℕ, List, Some, IfOk, length};
+ghost use Rattle.std.specs.Prelude.{◌≡◌, ◌≤◌, ◌<◌, ◌+◌, ℕ, List, Some, IfErr, IfOk, length};
 ghost use Rattle.std.specs.Option.{option_map};
 ghost use Rattle.site_base.specs.Ends.{HasCauseOf};
-ghost use Rattle.site_script.specs.Reading.{AddsFrom, IsBody};
+ghost use Rattle.site_script.specs.Reading.{AddsFrom, IsBody, IsPartOfBody, IsPartOfRead};
 
 use site_base::{ByteSource, Failed, ReadError};
 use std::alloc::Global;
@@ -18,6 +18,8 @@ pub(crate) fn read_body<I: ByteSource>(
 ) -> Result<Option<Vec<u8>>, ReadError>
     ensures ok { (text : List ℕ) → I.left input.old ≡ Some text →
         IfOk result (λ body. IsBody count text (option_map (λ bytes. bytes.items) body) (I.left input.new)) }
+    ensures part { (text : List ℕ) → I.left input.old ≡ Some text →
+        IfErr result (λ error. IsPartOfBody count text error (I.left input.new)) }
     ensures cause { HasCauseOf ReadError.Failed (I.faults input.old) (I.faults input.new) result }
 {
     let mut block = [0u8; BLOCK];
@@ -42,6 +44,8 @@ fn read_more<I: ByteSource>(
     requires { 0 < length block.old }
     ensures ok { (text : List ℕ) → I.left input.old ≡ Some text →
         IfOk result (λ count. AddsFrom text bytes.old.items bytes.new.items count (I.left input.new)) }
+    ensures part { (text : List ℕ) → I.left input.old ≡ Some text →
+        IfErr result (λ error. IsPartOfRead (length block.old) text error (I.left input.new)) }
     ensures longer { IfOk result (λ count. length bytes.new.items ≡ length bytes.old.items + count) }
     ensures within { IfOk result (λ count. count ≤ length block.old) }
     ensures cause { HasCauseOf ReadError.Failed (I.faults input.old) (I.faults input.new) result }

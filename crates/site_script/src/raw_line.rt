@@ -1,8 +1,8 @@
 // The bytes of a line.
-ghost use Rattle.std.specs.Prelude.{◌≡◌, ◌==◌, ℕ, List, length, false, Some, IfOk, if◌then◌else◌};
+ghost use Rattle.std.specs.Prelude.{◌≡◌, ◌==◌, ℕ, List, length, false, Some, IfErr, IfOk, OnErr, if◌then◌else◌};
 ghost use Rattle.std.specs.Io.BufRead.{strip_last};
 ghost use Rattle.site_base.specs.Ends.{HasCause, HasCauseOf};
-ghost use Rattle.site_script.specs.Reading.{IsNext, IsRawLine};
+ghost use Rattle.site_script.specs.Reading.{IsNext, IsPartOfLine, IsRawLine};
 
 use site_base::{ByteSource, Failed, ReadError};
 use std::alloc::Global;
@@ -44,6 +44,8 @@ pub(crate) fn read_raw_line<I: ByteSource>(
 ) -> Result<Option<RawLine>, ReadError>
     ensures ok { (text : List ℕ) → I.left input.old ≡ Some text →
         IfOk result (λ line. IsRawLine text line (I.left input.new)) }
+    ensures part { (text : List ℕ) → I.left input.old ≡ Some text →
+        IfErr result (λ error. IsPartOfLine text error (I.left input.new)) }
     ensures cause { HasCauseOf ReadError.Failed (I.faults input.old) (I.faults input.new) result }
 {
     let mut bytes = Vec::new(alloc);
@@ -72,6 +74,7 @@ pub(crate) fn read_raw_line<I: ByteSource>(
 // None at the input's end.
 fn next_byte<I: ByteSource>(input: &mut I) -> Result<Option<u8>, Failed>
     ensures byte { (text : List ℕ) → I.left input.old ≡ Some text → IfOk result (λ byte. IsNext text byte (I.left input.new)) }
+    ensures kept { OnErr result (I.left input.new ≡ I.left input.old) }
     ensures cause { HasCause (I.faults input.old) (I.faults input.new) result }
 {
     let mut one = [0u8; 1];

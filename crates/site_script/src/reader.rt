@@ -2,7 +2,8 @@
 ghost use Rattle.std.specs.Prelude.{◌≡◌, ◌≤◌, ℕ, List, Some, true, false};
 ghost use Rattle.site_base.specs.Ends.{Rose};
 ghost use Rattle.site_script.specs.Line.{line_number, ends, HasTime, IsInTime};
-ghost use Rattle.site_script.specs.Script.{first_line, whole_line, ReadsFirst, BearsNumber};
+ghost use Rattle.site_script.specs.Reading.{ReadsRest};
+ghost use Rattle.site_script.specs.Script.{ReadsFirst, BearsNumber};
 
 use crate::body::read_body;
 use crate::head::{Head, read_head};
@@ -47,11 +48,12 @@ impl ScriptReader {
 }
 
 /// Reads the next line, and nothing that follows it. After `End`, `Eof`, `Bad`, `Failed` and `Memory` it
-/// answers `Eof`. What is left of the input after `Bad`, `Failed` and `Memory` is not said.
+/// answers `Eof`. `Failed` comes only before the line is whole.
 pub fn next_line<I: ByteSource>(alloc: Global, reader: &mut ScriptReader, input: &mut I) -> Line
-    // Where the input tells its bytes, the line is the first of them, and what follows it is left.
+    // Where the input tells its bytes, the line is the first of them, and no byte behind it is taken. Where the input
+    // failed, the bytes taken hold no whole line.
     ensures line { (text : List ℕ) → reader.old.over ≡ false → I.left input.old ≡ Some text →
-        ReadsFirst (first_line (line_number reader.old.lines) text) result (I.left input.new) }
+        ReadsFirst (line_number reader.old.lines) text result (I.left input.new) }
     ensures number { reader.old.over ≡ false → reader.new.lines ≡ line_number reader.old.lines }
     ensures bad { BearsNumber reader.new.lines result }
     ensures time { IsInTime result }
@@ -86,7 +88,7 @@ fn is_last(line: &Line) -> bool
 // The line that comes next, which has this number.
 fn read_line<I: ByteSource>(alloc: Global, number: u64, input: &mut I) -> Line
     ensures line { (text : List ℕ) → I.left input.old ≡ Some text →
-        ReadsFirst (first_line number text) result (I.left input.new) }
+        ReadsFirst number text result (I.left input.new) }
     ensures bad { BearsNumber number result }
     ensures time { IsInTime result }
     ensures later { I.faults input.old ≤ I.faults input.new }
@@ -111,7 +113,7 @@ fn read_line<I: ByteSource>(alloc: Global, number: u64, input: &mut I) -> Line
 fn finish<I: ByteSource>(alloc: Global, number: u64, head: Head, input: &mut I) -> Line
     requires { HasTime head }
     ensures line { (text : List ℕ) → I.left input.old ≡ Some text →
-        ReadsFirst (whole_line number head text) result (I.left input.new) }
+        ReadsRest number head text result (I.left input.new) }
     ensures bad { BearsNumber number result }
     ensures time { IsInTime result }
     ensures later { I.faults input.old ≤ I.faults input.new }

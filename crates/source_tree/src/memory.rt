@@ -1,5 +1,5 @@
 // A source in memory.
-ghost use Rattle.std.specs.Prelude.{◌≡◌, ◌+◌, ◌-◌, ◌^◌, ◌↔◌, ◌≤◌, min, ℕ, List, Option, Some, Contains, IfOk, IsErrOf, IsTrue};
+ghost use Rattle.std.specs.Prelude.{false, ◌≡◌, ◌+◌, ◌-◌, ◌^◌, ◌↔◌, ◌≤◌, min, ℕ, List, Option, Some, Contains, IfOk, IsErrOf, IsTrue};
 ghost use Rattle.std.specs.FinMap as map;
 ghost use Rattle.site_base.specs.Clash.{ClashFree};
 ghost use Rattle.site_base.specs.Ends.{HasCauseOf, Rose};
@@ -83,6 +83,7 @@ impl MemorySource {
         ensures listed { IsTrue result ↔ Contains self.old.fail self.new.calls }
         ensures later { self.old.faults ≤ self.new.faults }
         ensures rose { IsTrue result → Rose self.old.faults self.new.faults }
+        ensures steady { result ≡ false → self.new.faults ≡ self.old.faults }
     {
         self.calls = self.calls.saturating_add(1);
         let fails = self.fail.contains(&self.calls);

@@ -161,7 +161,7 @@ fn builds(
     let Ok(()) = keeper.list_once(alloc, out) else {
         return false;
     };
-    match keeper.make_equal(alloc, tree, keep, &Touched::anywhere(), out) {
+    match keeper.make_equal(alloc, tree, keep, out) {
         Ok(applied) => {
             applied.written == row.written
                 && applied.removed == row.removed

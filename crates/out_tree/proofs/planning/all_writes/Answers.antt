@@ -4,8 +4,8 @@ use Rattle.site_base.specs.PathMap.{as_map}
 use Rattle.out_tree.specs.Plan.{is_wanting}
 use Rattle.out_tree.specs.declared.step.Step.TheVariants.{Write}
 use Rattle.out_tree.proofs.Picked.{picked_push, picked_skip, picked_all}
-use Rattle.out_tree.proofs.keeper.all_writes.Goals as goal
-use Rattle.out_tree.proofs.keeper.all_writes.Goals.{then-not-is_known+in_ok-copy+in_ok-share+in_ok-copy-2+in_ok-push_step, else-not-is_known}
+use Rattle.out_tree.proofs.planning.all_writes.Goals as goal
+use Rattle.out_tree.proofs.planning.all_writes.Goals.{then-not-is_known+in_ok-copy+in_ok-share+in_ok-copy-2+in_ok-push_step, else-not-is_known}
 
 pub loop-place-preserved : goal.loop-place-preserved
 loop-place-preserved c =

@@ -2,7 +2,7 @@ use Rattle.std.proofs.Common.{◌∙◌, sym, ap}
 use Rattle.std.specs.Result.{is_ok}
 use Rattle.out_tree.specs.declared.step.Step.TheVariants.{Write}
 use Rattle.out_tree.proofs.Trying.{tells_by}
-use Rattle.out_tree.proofs.keeper.try_step.Goals as goal
+use Rattle.out_tree.proofs.attempts.try_step.Goals as goal
 
 pub returns-in-Ok-clause-tells : goal.returns-in-Ok-clause-tells
 returns-in-Ok-clause-tells g c = tells_by _ _ _ _ _ _ c.in-Remove.is (ap is_ok c.in-Ok.is) c.remove.ensures.tells

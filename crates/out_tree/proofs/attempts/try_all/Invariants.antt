@@ -1,7 +1,7 @@
 use Rattle.std.proofs.Common.{◌≡◌, ◌≤◌, ◌+◌, ◌++◌, map, length, vec_len, vec_capacity, []}
 use Rattle.site_base.specs.PathMap.{as_map, room}
 use Rattle.out_tree.specs.Tries.{Tried}
-use Rattle.out_tree.proofs.keeper.try_all.Given as goal
+use Rattle.out_tree.proofs.attempts.try_all.Given as goal
 
 abbrev pub invariant-loop-planned : goal.invariant-loop-planned
 invariant-loop-planned g l = record {

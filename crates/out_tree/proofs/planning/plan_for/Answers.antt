@@ -3,7 +3,7 @@ use Rattle.std.proofs.lemmas.List.{length-map}
 use Rattle.site_base.specs.PathMap.{as_map}
 use Rattle.out_tree.specs.Device.{EachOnce}
 use Rattle.out_tree.proofs.Believed.{planned_once}
-use Rattle.out_tree.proofs.keeper.plan_for.Goals as goal
+use Rattle.out_tree.proofs.planning.plan_for.Goals as goal
 
 pub invariant_of-result : goal.invariant_of-result
 invariant_of-result c =

@@ -3,7 +3,7 @@ use Rattle.std.proofs.lemmas.List.{append-nil}
 use Rattle.std.specs.Result.{is_ok}
 use Rattle.out_tree.specs.Device.{path_of}
 use Rattle.out_tree.proofs.Trying.{tried_none, tried_next, all_tried, never_none}
-use Rattle.out_tree.proofs.keeper.try_all.Goals as goal
+use Rattle.out_tree.proofs.attempts.try_all.Goals as goal
 
 pub loop-planned-init : goal.loop-planned-init
 loop-planned-init g c =
@@ -39,6 +39,7 @@ loop-planned-preserved-then-not-try_step g c =
         calls_it = e.calls;
         later = e.later;
         rose = e.rose;
+        steady = e.steady;
         failed_is = pushed ∙ ap (λ b. c.loop-planned.failed.items ++ cond b [] (path_of p.step ∷ [])) (sym c.if-not-try_step.true);
       });
       room_left = omega (arith, i.room_left, ap length steps, e.room);
@@ -62,6 +63,7 @@ loop-planned-preserved g c =
         calls_it = e.calls;
         later = e.later;
         rose = e.rose;
+        steady = e.steady;
         failed_is = sym (append-nil c.loop-planned.failed.items) ∙ ap (λ b. c.loop-planned.failed.items ++ cond b [] (path_of p.step ∷ [])) (sym c.if-not-try_step.false);
       });
       room_left = omega (arith, i.room_left, ap length steps, e.room);

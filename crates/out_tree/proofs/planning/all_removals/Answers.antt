@@ -4,8 +4,8 @@ use Rattle.site_base.specs.PathMap.{as_map}
 use Rattle.out_tree.specs.Plan.{is_surplus}
 use Rattle.out_tree.specs.declared.step.Step.TheVariants.{Remove}
 use Rattle.out_tree.proofs.Picked.{picked_push, picked_skip, picked_all}
-use Rattle.out_tree.proofs.keeper.all_removals.Goals as goal
-use Rattle.out_tree.proofs.keeper.all_removals.Goals.{then-is_surplus+in_ok-copy+in_ok-copy-2+in_ok-push_step, else-is_surplus}
+use Rattle.out_tree.proofs.planning.all_removals.Goals as goal
+use Rattle.out_tree.proofs.planning.all_removals.Goals.{then-is_surplus+in_ok-copy+in_ok-copy-2+in_ok-push_step, else-is_surplus}
 
 pub loop-place-preserved : goal.loop-place-preserved
 loop-place-preserved c =
