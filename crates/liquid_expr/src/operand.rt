@@ -124,7 +124,6 @@ fn range(alloc: Global, tokens: Tokens, depth: u32, steps: &mut Vec<Step>) -> Re
 mod tests {
     use super::*;
     use crate::tokens::token_places;
-    use std::test::*;
 
     // How many tokens an operand at the front has.
     fn count(alloc: Global, text: &str) -> Option<usize> {
@@ -139,7 +138,7 @@ mod tests {
 
     #[test]
     fn reads_operands(rt: HostRuntime) {
-        let rows = [
+        for (text, len) in [
             ("a", Some(1)),
             ("a.nil", Some(3)),
             ("a.b[\"c\"][d.e]", Some(11)),
@@ -158,9 +157,8 @@ mod tests {
             ("contains", None),
             ("|", None),
             ("", None),
-        ];
-        for (text, len) in rows {
-            assert!(rt; count(rt.alloc(), text) == len, "at {text:?}");
+        ] {
+            assert!(rt; count(rt.alloc(), text) == len, "at {text}");
         }
     }
 }
