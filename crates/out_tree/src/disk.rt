@@ -233,7 +233,7 @@ mod tests {
         RemovesFile,
     }
 
-    const STEPS: [(Step, &str, &str); 24] = [
+    static STEPS: [(Step, &str, &str); 24] = [
         // A destination that is not there has no files.
         (Step::Lists, "", ""),
         // A write makes the folders that it needs, and replaces what was there.
@@ -294,9 +294,9 @@ mod tests {
     fn keeps_its_files_in_a_folder(rt: HostRuntime) -> io::Result<()> {
         let _ = fs::remove_dir_all(&rt, DESTINATION);
         let mut out = DiskOut::new(rt.clone()?);
-        for (step, path, text) in STEPS {
+        for (step, path, text) in &STEPS {
             assert!(rt;
-                succeeds(&rt, &mut out, step, path, text),
+                succeeds(&rt, &mut out, *step, path, text),
                 "at {path} {text}"
             );
         }

@@ -265,7 +265,7 @@ mod tests {
     use super::*;
 
     // Paths that are written one after another, and whether that succeeds.
-    const ROWS: [(&str, bool); 7] = [
+    static ROWS: [(&str, bool); 7] = [
         ("a/b", true),
         // A folder of a file, a path below a file, and the file itself.
         ("a", false),
@@ -313,8 +313,8 @@ mod tests {
             return assert!(rt; false, "no output");
         };
         assert!(rt; out.is_empty());
-        for (path, succeeds) in ROWS {
-            assert!(rt; writes(alloc, &mut out, path) == succeeds, "at {path}");
+        for (path, succeeds) in &ROWS {
+            assert!(rt; writes(alloc, &mut out, path) == *succeeds, "at {path}");
         }
         assert!(rt; out.len() == 3 && listed(alloc, &mut out) == 3);
         assert!(rt; removes(alloc, &mut out, "a/b") && writes(alloc, &mut out, "a/b/c"));

@@ -34,7 +34,7 @@ const NOTHING: Row = Row {
     left_then: &[],
 };
 
-const ROWS: [Row; 6] = [
+static ROWS: [Row; 6] = [
     NOTHING,
     // What an entry keeps stays.
     Row {
