@@ -303,7 +303,8 @@ mod tests {
     fn output(alloc: Global) -> Option<MemoryOut> {
         let mut fail = Vec::new(alloc);
         fail.push(7).ok()?;
-        Some(MemoryOut::new(alloc, Vec::new(alloc), fail))
+        let out = MemoryOut::new(alloc, Vec::new(alloc), fail);
+        Some(out)
     }
 
     #[test]
