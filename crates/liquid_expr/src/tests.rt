@@ -26,67 +26,75 @@ fn params_error(alloc: Global, text: &str) -> Option<ReadExprError> {
     read_params(alloc, text).err()
 }
 
+const EXPRESSIONS: &[&str] = &[
+    "a",
+    "a.b[\"c\"][d.e]",
+    "'x\"y' | f",
+    "\"it's\"",
+    "a | f: 1, -2 | g",
+    "(1..a.b)",
+    "a-1 | f",
+    "9223372036854775807",
+    "-9223372036854775808",
+    "1.5",
+];
+
 #[test]
 fn reads_expressions(rt: HostRuntime) {
-    for text in [
-        "a",
-        "a.b[\"c\"][d.e]",
-        "'x\"y' | f",
-        "\"it's\"",
-        "a | f: 1, -2 | g",
-        "(1..a.b)",
-        "a-1 | f",
-        "9223372036854775807",
-        "-9223372036854775808",
-        "1.5",
-    ] {
+    for text in EXPRESSIONS {
         assert!(rt; expr_error(rt.alloc(), text) == READ, "at {text}");
     }
 }
 
+const REFUSED: &[(&str, Option<ReadExprError>)] = &[
+    ("9223372036854775808", OVERFLOW),
+    ("-9223372036854775809", OVERFLOW),
+    ("a | f: 99999999999999999999", OVERFLOW),
+    ("99999999999999999999 |", SYNTAX),
+    ("", SYNTAX),
+    ("a |", SYNTAX),
+    ("a | f:", SYNTAX),
+    ("a | f: 1,", SYNTAX),
+    ("a b", SYNTAX),
+    ("and", SYNTAX),
+    ("nil.a", SYNTAX),
+    ("'a", SYNTAX),
+    ("a == b", SYNTAX),
+];
+
 #[test]
 fn refuses_texts_that_are_no_expressions(rt: HostRuntime) {
-    for (text, error) in [
-        ("9223372036854775808", OVERFLOW),
-        ("-9223372036854775809", OVERFLOW),
-        ("a | f: 99999999999999999999", OVERFLOW),
-        ("99999999999999999999 |", SYNTAX),
-        ("", SYNTAX),
-        ("a |", SYNTAX),
-        ("a | f:", SYNTAX),
-        ("a | f: 1,", SYNTAX),
-        ("a b", SYNTAX),
-        ("and", SYNTAX),
-        ("nil.a", SYNTAX),
-        ("'a", SYNTAX),
-        ("a == b", SYNTAX),
-    ] {
-        assert!(rt; expr_error(rt.alloc(), text) == error, "at {text}");
+    for (text, error) in REFUSED {
+        assert!(rt; expr_error(rt.alloc(), text) == *error, "at {text}");
     }
 }
 
+const CONDITIONS: &[(&str, Option<ReadExprError>)] = &[
+    ("a", READ),
+    ("a == 'x' and b or c contains 1", READ),
+    ("a ==", SYNTAX),
+    ("a and", SYNTAX),
+    ("a < b < c", SYNTAX),
+    ("a | size", SYNTAX),
+    ("a > 9223372036854775808", OVERFLOW),
+];
+
+const PARAMETERS: &[(&str, Option<ReadExprError>)] = &[
+    (" ", READ),
+    ("x=1 y = 'a' | f: 2, 3 z=b", READ),
+    ("x=", SYNTAX),
+    ("x", SYNTAX),
+    ("=1", SYNTAX),
+    ("x=9223372036854775808", OVERFLOW),
+];
+
 #[test]
 fn refuses_other_texts(rt: HostRuntime) {
-    for (text, error) in [
-        ("a", READ),
-        ("a == 'x' and b or c contains 1", READ),
-        ("a ==", SYNTAX),
-        ("a and", SYNTAX),
-        ("a < b < c", SYNTAX),
-        ("a | size", SYNTAX),
-        ("a > 9223372036854775808", OVERFLOW),
-    ] {
-        assert!(rt; condition_error(rt.alloc(), text) == error, "at {text}");
+    for (text, error) in CONDITIONS {
+        assert!(rt; condition_error(rt.alloc(), text) == *error, "at {text}");
     }
-    for (text, error) in [
-        (" ", READ),
-        ("x=1 y = 'a' | f: 2, 3 z=b", READ),
-        ("x=", SYNTAX),
-        ("x", SYNTAX),
-        ("=1", SYNTAX),
-        ("x=9223372036854775808", OVERFLOW),
-    ] {
-        assert!(rt; params_error(rt.alloc(), text) == error, "at {text}");
+    for (text, error) in PARAMETERS {
+        assert!(rt; params_error(rt.alloc(), text) == *error, "at {text}");
     }
 }
 

@@ -81,16 +81,18 @@ fn takes_defaults(rt: HostRuntime) {
     assert!(rt; config.collections.as_slice().len() == 1);
 }
 
+const WRONG: &[(&str, &str)] = &[
+    ("paginate: x", "paginate"),
+    ("timezone: Europe/Paris\npaginate: 0\n", "paginate"),
+    ("paginate_path: /page", "paginate_path"),
+    ("collections: [a b]", "collections"),
+    ("exclude: 1", "exclude"),
+    ("- a", "not a mapping"),
+];
+
 #[test]
 fn names_the_first_wrong_key(rt: HostRuntime) {
-    for (yaml, want) in [
-        ("paginate: x", "paginate"),
-        ("timezone: Europe/Paris\npaginate: 0\n", "paginate"),
-        ("paginate_path: /page", "paginate_path"),
-        ("collections: [a b]", "collections"),
-        ("exclude: 1", "exclude"),
-        ("- a", "not a mapping"),
-    ] {
+    for (yaml, want) in WRONG {
         assert!(rt; is_refused(rt.alloc(), yaml, want), "at {yaml}");
     }
 }
