@@ -1,169 +1,151 @@
 // The values of texts: the examples of RFC 8259, section 13, and of RFC 4180, section 2.
 use crate::{DataError, Refusal, read_csv, read_data, read_json, read_tsv};
-use site_base::{SitePath, Value, YamlKind, code};
+use front_yaml::YamlFault;
+use site_base::{SitePath, Value, YamlKind, same_code};
 use std::alloc::Global;
-use std::process::Abort;
-use std::test::Fail;
 
-fn check(
-    rt: &impl Abort,
-    alloc: Global,
-    read: Result<Value, Refusal>,
-    written: &str,
-) -> Result<(), Fail> {
-    let value = match read {
-        Ok(value) => value,
-        Err(_) => Err("no value")?,
-    };
-    assert_eq!(rt; code(alloc, &value)?.as_slice(), written.as_bytes());
-    Ok(())
+// Whether a value was read, and has this code.
+fn has_code(read: Result<Value, Refusal>, written: &str) -> bool {
+    match read {
+        Ok(value) => same_code(&value, written.as_bytes()),
+        Err(_) => false,
+    }
 }
 
-#[test]
-fn reads_json(rt: HostRuntime) -> Result<(), Fail> {
-    let alloc = rt.alloc();
-    check(
-        &rt,
-        alloc,
-        read_json(alloc, "\"Hello world!\""),
-        "s12:Hello world!",
-    )?;
-    check(&rt, alloc, read_json(alloc, "42"), "i42;")?;
-    check(
-        &rt,
-        alloc,
-        read_json(alloc, " [true , null,false]\n"),
-        "l3:tnf",
-    )?;
-    check(
-        &rt,
-        alloc,
-        read_json(alloc, "-9223372036854775808"),
-        "i-9223372036854775808;",
-    )?;
-    check(
-        &rt,
-        alloc,
-        read_json(
-            alloc,
-            "{\"Width\": 800, \"Height\": 600, \"Title\": \"View from 15th Floor\", \"IDs\": [116, 943, 234, 38793]}",
-        ),
+fn is_refused(read: Result<Value, Refusal>) -> bool {
+    match read {
+        Ok(_) => false,
+        Err(refusal) => match refusal {
+            Refusal::Refused => true,
+            Refusal::Memory => false,
+        },
+    }
+}
+
+const JSON: &[(&str, &str)] = &[
+    ("\"Hello world!\"", "s12:Hello world!"),
+    ("42", "i42;"),
+    (" [true , null,false]\n", "l3:tnf"),
+    ("-9223372036854775808", "i-9223372036854775808;"),
+    (
+        "{\"Width\": 800, \"Height\": 600, \"Title\": \"View from 15th Floor\", \"IDs\": [116, 943, 234, 38793]}",
         "h4:s6:Heighti600;s3:IDsl4:i116;i943;i234;i38793;s5:Titles20:View from 15th Floors5:Widthi800;",
-    )?;
-    check(
-        &rt,
-        alloc,
-        read_json(alloc, "{\"a\": 1, \"a\": 2}"),
-        "h1:s1:ai2;",
-    )?;
+    ),
+    ("{\"a\": 1, \"a\": 2}", "h1:s1:ai2;"),
     // A number that no value has counts for nothing where its key comes again.
-    check(
-        &rt,
-        alloc,
-        read_json(alloc, "{\"b\": [1.5], \"a\": {}, \"b\": []}"),
-        "h2:s1:ah0:s1:bl0:",
-    )?;
-    check(
-        &rt,
-        alloc,
-        read_json(alloc, "\"\\ud834\\udd1e\""),
-        "s4:\u{1d11e}",
-    )
+    ("{\"b\": [1.5], \"a\": {}, \"b\": []}", "h2:s1:ah0:s1:bl0:"),
+    ("\"\\ud834\\udd1e\"", "s4:\u{1d11e}"),
+];
+
+#[test]
+fn reads_json(rt: HostRuntime) {
+    for (text, written) in JSON {
+        assert!(rt; has_code(read_json(rt.alloc(), text), written), "at {text}");
+    }
+}
+
+const REFUSED_JSON: &[&str] = &[
+    "",
+    "1.5",
+    "1e2",
+    "-0",
+    "01",
+    "9223372036854775808",
+    "[1,]",
+    "{\"a\" 1}",
+    "\"\\x\"",
+    "nul",
+    "[37.7668]",
+    "{\"a\": 1, \"a\": 2.5}",
+    "{\"a\": 1e999, \"a\": 2}",
+];
+
+#[test]
+fn refuses_json(rt: HostRuntime) {
+    for text in REFUSED_JSON {
+        assert!(rt; is_refused(read_json(rt.alloc(), text)), "at {text}");
+    }
+}
+
+const TWO_RECORDS: &str =
+    "l2:h3:s3:aaas3:zzzs3:bbbs3:yyys3:cccs3:xxxh3:s3:aaas1:1s3:bbbs0:s3:cccs3:a b";
+
+const TABLES: &[(&str, &str)] = &[
+    ("aaa,bbb,ccc\r\nzzz,yyy,xxx\r\n1,,a b", TWO_RECORDS),
+    (
+        "\"aaa\",cca\r\n\"b\r\nbb\",\"b\"\"b\"\r\n",
+        "l1:h2:s3:aaas5:b\r\nbbs3:ccas3:b\"b",
+    ),
+    ("a,a\n1,2\n", "l1:h1:s1:as1:2"),
+    ("a,b,a\n1,2,3\n", "l1:h2:s1:as1:3s1:bs1:2"),
+    ("", "l0:"),
+    ("a,b\n", "l0:"),
+];
+
+#[test]
+fn reads_tables(rt: HostRuntime) {
+    for (text, written) in TABLES {
+        assert!(rt; has_code(read_csv(rt.alloc(), text), written), "at {text}");
+    }
+    let tabs = "aaa\tbbb\tccc\nzzz\tyyy\txxx\n1\t\ta b\n";
+    assert!(rt; has_code(read_tsv(rt.alloc(), tabs), TWO_RECORDS));
 }
 
 #[test]
-fn refuses_json(rt: HostRuntime) -> Result<(), Fail> {
-    let alloc = rt.alloc();
-    for text in [
-        "",
-        "1.5",
-        "1e2",
-        "-0",
-        "01",
-        "9223372036854775808",
-        "[1,]",
-        "{\"a\" 1}",
-        "\"\\x\"",
-        "nul",
-        "[37.7668]",
-        "{\"a\": 1, \"a\": 2.5}",
-        "{\"a\": 1e999, \"a\": 2}",
-    ] {
-        assert!(rt;
-            matches!(read_json(alloc, text), Err(Refusal::Refused)),
-            "at {text}"
-        );
+fn refuses_tables(rt: HostRuntime) {
+    assert!(rt; is_refused(read_csv(rt.alloc(), "a,b\n1,2\n3\n")));
+    assert!(rt; is_refused(read_csv(rt.alloc(), "a,b\n1,2,3\n1,2\n")));
+}
+
+fn data_at(alloc: Global, path: &str, text: &str) -> Result<Option<Value>, DataError> {
+    match SitePath::read(alloc, path) {
+        Ok(path) => read_data(alloc, &path, text),
+        Err(_) => Err(DataError::Memory),
     }
-    Ok(())
+}
+
+// Whether the file has data, with this code.
+fn has_data(alloc: Global, path: &str, text: &str, written: &str) -> bool {
+    match data_at(alloc, path, text) {
+        Ok(Some(value)) => same_code(&value, written.as_bytes()),
+        _ => false,
+    }
+}
+
+const FILES: &[(&str, &str, &str)] = &[
+    ("_data/a.json", "{\"b\": [1]}", "h1:s1:bl1:i1;"),
+    ("_data/a.yml", "b: [1]\n", "h1:s1:bl1:i1;"),
+    ("_data/a.yaml", "b:\n- 1\n", "h1:s1:bl1:i1;"),
+    ("_data/a.csv", "b\n1\n", "l1:h1:s1:bs1:1"),
+    ("_data/a.tsv", "b\n1\n", "l1:h1:s1:bs1:1"),
+];
+
+#[test]
+fn reads_by_the_end_of_a_path(rt: HostRuntime) {
+    for (path, text, written) in FILES {
+        assert!(rt; has_data(rt.alloc(), path, text, written), "at {path}");
+    }
+}
+
+fn yaml_fault(alloc: Global, path: &str, text: &str) -> Option<YamlFault> {
+    match data_at(alloc, path, text) {
+        Err(DataError::Yaml(fault)) => Some(fault),
+        _ => None,
+    }
 }
 
 #[test]
-fn reads_tables(rt: HostRuntime) -> Result<(), Fail> {
+fn refuses_by_the_end_of_a_path(rt: HostRuntime) {
     let alloc = rt.alloc();
-    let two = "l2:h3:s3:aaas3:zzzs3:bbbs3:yyys3:cccs3:xxxh3:s3:aaas1:1s3:bbbs0:s3:cccs3:a b";
-    check(
-        &rt,
-        alloc,
-        read_csv(alloc, "aaa,bbb,ccc\r\nzzz,yyy,xxx\r\n1,,a b"),
-        two,
-    )?;
-    check(
-        &rt,
-        alloc,
-        read_tsv(alloc, "aaa\tbbb\tccc\nzzz\tyyy\txxx\n1\t\ta b\n"),
-        two,
-    )?;
-    let quoted = "l1:h2:s3:aaas5:b\r\nbbs3:ccas3:b\"b";
-    check(
-        &rt,
-        alloc,
-        read_csv(alloc, "\"aaa\",cca\r\n\"b\r\nbb\",\"b\"\"b\"\r\n"),
-        quoted,
-    )?;
-    check(&rt, alloc, read_csv(alloc, "a,a\n1,2\n"), "l1:h1:s1:as1:2")?;
-    check(
-        &rt,
-        alloc,
-        read_csv(alloc, "a,b,a\n1,2,3\n"),
-        "l1:h2:s1:as1:3s1:bs1:2",
-    )?;
-    check(&rt, alloc, read_csv(alloc, ""), "l0:")?;
-    check(&rt, alloc, read_csv(alloc, "a,b\n"), "l0:")?;
-    assert!(rt; matches!(read_csv(alloc, "a,b\n1,2\n3\n"), Err(Refusal::Refused)));
-    assert!(rt; matches!(read_csv(alloc, "a,b\n1,2,3\n1,2\n"), Err(Refusal::Refused)));
-    Ok(())
-}
-
-#[test]
-fn reads_by_the_end_of_a_path(rt: HostRuntime) -> Result<(), Fail> {
-    let alloc = rt.alloc();
-    for (path, text, written) in [
-        ("_data/a.json", "{\"b\": [1]}", "h1:s1:bl1:i1;"),
-        ("_data/a.yml", "b: [1]\n", "h1:s1:bl1:i1;"),
-        ("_data/a.yaml", "b:\n- 1\n", "h1:s1:bl1:i1;"),
-        ("_data/a.csv", "b\n1\n", "l1:h1:s1:bs1:1"),
-        ("_data/a.tsv", "b\n1\n", "l1:h1:s1:bs1:1"),
-    ] {
-        match read_data(alloc, &SitePath::read(alloc, path)?, text) {
-            Ok(Some(value)) => assert_eq!(rt;
-                code(alloc, &value)?.as_slice(),
-                written.as_bytes(),
-                "at {path}"
-            ),
-            _ => Err("no value")?,
-        }
+    assert!(rt;
+        matches!(
+            data_at(alloc, "_data/a.json", "1.5"),
+            Err(DataError::Refused)
+        )
+    );
+    assert!(rt; matches!(data_at(alloc, "_data/a.txt", "1"), Ok(None)));
+    match yaml_fault(alloc, "_data/a.yml", "a: 1\nb: 'x\n") {
+        Some(fault) => assert!(rt; fault.line == 2 && fault.kind == YamlKind::Quote),
+        None => assert!(rt; false, "no fault"),
     }
-    let json = SitePath::read(alloc, "_data/a.json")?;
-    assert!(rt; matches!(read_data(alloc, &json, "1.5"), Err(DataError::Refused)));
-    let yaml = SitePath::read(alloc, "_data/a.yml")?;
-    match read_data(alloc, &yaml, "a: 1\nb: 'x\n") {
-        Err(DataError::Yaml(fault)) => assert_eq!(rt;
-            (fault.line, fault.kind),
-            (2, YamlKind::Quote)
-        ),
-        _ => Err("read")?,
-    }
-    let other = SitePath::read(alloc, "_data/a.txt")?;
-    assert!(rt; matches!(read_data(alloc, &other, "1"), Ok(None)));
-    Ok(())
 }

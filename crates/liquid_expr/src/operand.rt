@@ -124,7 +124,6 @@ fn range(alloc: Global, tokens: Tokens, depth: u32, steps: &mut Vec<Step>) -> Re
 mod tests {
     use super::*;
     use crate::tokens::token_places;
-    use std::test::*;
 
     // How many tokens an operand at the front has.
     fn count(alloc: Global, text: &str) -> Option<usize> {
@@ -137,30 +136,31 @@ mod tests {
         operand(alloc, tokens, 100, &mut steps).ok()
     }
 
+    const COUNTS: &[(&str, Option<usize>)] = &[
+        ("a", Some(1)),
+        ("a.nil", Some(3)),
+        ("a.b[\"c\"][d.e]", Some(11)),
+        ("a b", Some(1)),
+        ("(1..a.b)", Some(7)),
+        ("((1..2)..3)", Some(9)),
+        ("'a'.size", Some(1)),
+        ("nil", Some(1)),
+        ("99999999999999999999", Some(1)),
+        ("a.", None),
+        ("a.1", None),
+        ("a[1", None),
+        ("a[]", None),
+        ("(1, 2)", None),
+        ("(1..2", None),
+        ("contains", None),
+        ("|", None),
+        ("", None),
+    ];
+
     #[test]
     fn reads_operands(rt: HostRuntime) {
-        let rows = [
-            ("a", Some(1)),
-            ("a.nil", Some(3)),
-            ("a.b[\"c\"][d.e]", Some(11)),
-            ("a b", Some(1)),
-            ("(1..a.b)", Some(7)),
-            ("((1..2)..3)", Some(9)),
-            ("'a'.size", Some(1)),
-            ("nil", Some(1)),
-            ("99999999999999999999", Some(1)),
-            ("a.", None),
-            ("a.1", None),
-            ("a[1", None),
-            ("a[]", None),
-            ("(1, 2)", None),
-            ("(1..2", None),
-            ("contains", None),
-            ("|", None),
-            ("", None),
-        ];
-        for (text, len) in rows {
-            assert!(rt; count(rt.alloc(), text) == len, "at {text:?}");
+        for (text, len) in COUNTS {
+            assert!(rt; count(rt.alloc(), text) == *len, "at {text}");
         }
     }
 }

@@ -3,166 +3,273 @@ use crate::{
     read_loop, read_name, read_nothing, read_params, read_path, read_values,
 };
 use liquid_grammar::{
-    Comparison, Joint, Literal, LoopKey, LoopKind, LoopPart, NamePart, Step, Test,
+    Comparison, Condition, Expr, Joint, Literal, LoopKey, LoopKind, LoopPart, NamePart, Step, Test,
 };
 use std::alloc::Global;
-use std::test::*;
+
+const READ: Option<ReadExprError> = None;
+
+const SYNTAX: Option<ReadExprError> = Some(ReadExprError::Syntax);
+
+const OVERFLOW: Option<ReadExprError> = Some(ReadExprError::Overflow);
 
 // What a text is not read for.
 fn expr_error(alloc: Global, text: &str) -> Option<ReadExprError> {
     read_expr(alloc, text).err()
 }
 
+fn condition_error(alloc: Global, text: &str) -> Option<ReadExprError> {
+    read_condition(alloc, text).err()
+}
+
+fn params_error(alloc: Global, text: &str) -> Option<ReadExprError> {
+    read_params(alloc, text).err()
+}
+
+const EXPRESSIONS: &[&str] = &[
+    "a",
+    "a.b[\"c\"][d.e]",
+    "'x\"y' | f",
+    "\"it's\"",
+    "a | f: 1, -2 | g",
+    "(1..a.b)",
+    "a-1 | f",
+    "9223372036854775807",
+    "-9223372036854775808",
+    "1.5",
+];
+
 #[test]
-fn refuses_texts_that_are_no_expressions(rt: HostRuntime) {
-    let rows = [
-        ("a", None),
-        ("a.b[\"c\"][d.e]", None),
-        ("'x\"y' | f", None),
-        ("\"it's\"", None),
-        ("a | f: 1, -2 | g", None),
-        ("(1..a.b)", None),
-        ("a-1 | f", None),
-        ("9223372036854775807", None),
-        ("-9223372036854775808", None),
-        ("1.5", None),
-        ("9223372036854775808", Some(ReadExprError::Overflow)),
-        ("-9223372036854775809", Some(ReadExprError::Overflow)),
-        ("a | f: 99999999999999999999", Some(ReadExprError::Overflow)),
-        ("99999999999999999999 |", Some(ReadExprError::Syntax)),
-        ("", Some(ReadExprError::Syntax)),
-        ("a |", Some(ReadExprError::Syntax)),
-        ("a | f:", Some(ReadExprError::Syntax)),
-        ("a | f: 1,", Some(ReadExprError::Syntax)),
-        ("a b", Some(ReadExprError::Syntax)),
-        ("and", Some(ReadExprError::Syntax)),
-        ("nil.a", Some(ReadExprError::Syntax)),
-        ("'a", Some(ReadExprError::Syntax)),
-        ("a == b", Some(ReadExprError::Syntax)),
-    ];
-    for (text, error) in rows {
-        assert!(rt; expr_error(rt.alloc(), text) == error, "at {text:?}");
+fn reads_expressions(rt: HostRuntime) {
+    for text in EXPRESSIONS {
+        assert!(rt; expr_error(rt.alloc(), text) == READ, "at {text}");
     }
 }
+
+const REFUSED: &[(&str, Option<ReadExprError>)] = &[
+    ("9223372036854775808", OVERFLOW),
+    ("-9223372036854775809", OVERFLOW),
+    ("a | f: 99999999999999999999", OVERFLOW),
+    ("99999999999999999999 |", SYNTAX),
+    ("", SYNTAX),
+    ("a |", SYNTAX),
+    ("a | f:", SYNTAX),
+    ("a | f: 1,", SYNTAX),
+    ("a b", SYNTAX),
+    ("and", SYNTAX),
+    ("nil.a", SYNTAX),
+    ("'a", SYNTAX),
+    ("a == b", SYNTAX),
+];
+
+#[test]
+fn refuses_texts_that_are_no_expressions(rt: HostRuntime) {
+    for (text, error) in REFUSED {
+        assert!(rt; expr_error(rt.alloc(), text) == *error, "at {text}");
+    }
+}
+
+const CONDITIONS: &[(&str, Option<ReadExprError>)] = &[
+    ("a", READ),
+    ("a == 'x' and b or c contains 1", READ),
+    ("a ==", SYNTAX),
+    ("a and", SYNTAX),
+    ("a < b < c", SYNTAX),
+    ("a | size", SYNTAX),
+    ("a > 9223372036854775808", OVERFLOW),
+];
+
+const PARAMETERS: &[(&str, Option<ReadExprError>)] = &[
+    (" ", READ),
+    ("x=1 y = 'a' | f: 2, 3 z=b", READ),
+    ("x=", SYNTAX),
+    ("x", SYNTAX),
+    ("=1", SYNTAX),
+    ("x=9223372036854775808", OVERFLOW),
+];
 
 #[test]
 fn refuses_other_texts(rt: HostRuntime) {
-    let conditions = [
-        ("a", None),
-        ("a == 'x' and b or c contains 1", None),
-        ("a ==", Some(ReadExprError::Syntax)),
-        ("a and", Some(ReadExprError::Syntax)),
-        ("a < b < c", Some(ReadExprError::Syntax)),
-        ("a | size", Some(ReadExprError::Syntax)),
-        ("a > 9223372036854775808", Some(ReadExprError::Overflow)),
-    ];
-    for (text, error) in conditions {
-        assert!(rt;
-            read_condition(rt.alloc(), text).err() == error,
-            "at {text:?}"
-        );
+    for (text, error) in CONDITIONS {
+        assert!(rt; condition_error(rt.alloc(), text) == *error, "at {text}");
     }
-    let params = [
-        (" ", None),
-        ("x=1 y = 'a' | f: 2, 3 z=b", None),
-        ("x=", Some(ReadExprError::Syntax)),
-        ("x", Some(ReadExprError::Syntax)),
-        ("=1", Some(ReadExprError::Syntax)),
-        ("x=9223372036854775808", Some(ReadExprError::Overflow)),
-    ];
-    for (text, error) in params {
-        assert!(rt; read_params(rt.alloc(), text).err() == error, "at {text:?}");
+    for (text, error) in PARAMETERS {
+        assert!(rt; params_error(rt.alloc(), text) == *error, "at {text}");
     }
 }
 
-#[test]
-fn keeps_the_parts(rt: HostRuntime) -> Result<(), Fail> {
-    let expr = read_expr(rt.alloc(), "a.b[1] | f: c, 'd' | g")
-        .ok()
-        .ok_or("an expression")?;
-    assert!(rt;
-        matches!(
-            expr.operand.steps(),
-            [
-                Step::Variable(_),
-                Step::Member(_),
-                Step::Literal(Literal::Int(1)),
-                Step::Index
-            ]
-        )
-    );
-    let filters = expr.filters.as_slice();
-    assert!(rt; filters.len() == 2);
-    assert!(rt; filters[0].name.as_str() == "f" && filters[0].arguments.as_slice().len() == 2);
-    assert!(rt; filters[1].name.as_str() == "g" && filters[1].arguments.as_slice().is_empty());
-    let condition = read_condition(rt.alloc(), "a and b <> 1 or c")
-        .ok()
-        .ok_or("a condition")?;
-    assert!(rt; matches!(&condition.first, Test::Holds(_)));
-    let rest = condition.rest.as_slice();
-    assert!(rt; rest.len() == 2);
-    assert!(rt; rest[0].joint == Joint::And && rest[1].joint == Joint::Or);
-    assert!(rt; matches!(&rest[0].test, Test::Compares(_, Comparison::Unequal, _)));
-    let params = read_params(rt.alloc(), "x=1 y=2").ok().ok_or("parameters")?;
-    assert!(rt; params.as_slice().len() == 2);
-    assert!(rt; params.as_slice()[1].name.as_str() == "y");
-    Ok(())
+fn has_steps(expr: &Expr) -> bool {
+    matches!(
+        expr.operand.steps(),
+        [
+            Step::Variable(_),
+            Step::Member(_),
+            Step::Literal(Literal::Int(1)),
+            Step::Index
+        ]
+    )
 }
 
-#[test]
-fn counts_open_brackets(rt: HostRuntime) -> Result<(), Fail> {
-    for (depth, error) in [(100, None), (101, Some(ReadExprError::Syntax))] {
-        let mut text = String::new(rt.alloc());
-        for _ in 0..depth {
-            text.push_str("a[")?;
+fn has_filter(expr: &Expr, place: usize, name: &str, arguments: usize) -> bool {
+    match expr.filters.as_slice().get(place) {
+        Some(filter) => {
+            filter.name.as_str() == name && filter.arguments.as_slice().len() == arguments
         }
-        text.push_str("1")?;
-        for _ in 0..depth {
-            text.push_str("]")?;
-        }
-        assert!(rt;
-            expr_error(rt.alloc(), text.as_str()) == error,
-            "at {depth}"
-        );
+        None => false,
     }
-    Ok(())
+}
+
+fn keeps_the_expression(alloc: Global) -> bool {
+    match read_expr(alloc, "a.b[1] | f: c, 'd' | g") {
+        Ok(expr) => {
+            has_steps(&expr)
+                && expr.filters.as_slice().len() == 2
+                && has_filter(&expr, 0, "f", 2)
+                && has_filter(&expr, 1, "g", 0)
+        }
+        Err(_) => false,
+    }
+}
+
+// Whether the conditions behind the first are joined by `and` and `or`, and the first of them compares.
+fn has_rest(condition: &Condition) -> bool {
+    match condition.rest.as_slice() {
+        [first, second] => {
+            first.joint == Joint::And
+                && second.joint == Joint::Or
+                && matches!(&first.test, Test::Compares(_, Comparison::Unequal, _))
+        }
+        _ => false,
+    }
+}
+
+fn keeps_the_condition(alloc: Global) -> bool {
+    match read_condition(alloc, "a and b <> 1 or c") {
+        Ok(condition) => matches!(&condition.first, Test::Holds(_)) && has_rest(&condition),
+        Err(_) => false,
+    }
+}
+
+fn keeps_the_parameters(alloc: Global) -> bool {
+    match read_params(alloc, "x=1 y=2") {
+        Ok(params) => match params.as_slice() {
+            [_, second] => second.name.as_str() == "y",
+            _ => false,
+        },
+        Err(_) => false,
+    }
 }
 
 #[test]
-fn reads_what_stands_in_tags(rt: HostRuntime) -> Result<(), Fail> {
-    assert!(rt; read_nothing(rt.alloc(), " ").is_ok());
-    let name = read_name(rt.alloc(), " a-b ").ok().ok_or("a name")?;
-    assert!(rt; name.as_str() == "a-b");
-    let assign = read_assign(rt.alloc(), "a = b | f").ok().ok_or("assign")?;
-    assert!(rt; assign.name.as_str() == "a" && assign.value.filters.as_slice().len() == 1);
-    let values = read_values(rt.alloc(), "1, 2 or 3").ok().ok_or("values")?;
-    assert!(rt; values.as_slice().len() == 3);
-    let cycle = read_cycle(rt.alloc(), "g: 1, 2").ok().ok_or("a cycle")?;
-    assert!(rt; cycle.group.is_some() && cycle.values.as_slice().len() == 2);
-    let found = read_loop(rt.alloc(), LoopKind::For, "x in y limit:2 reversed")
-        .ok()
-        .ok_or("a loop")?;
-    assert!(rt;
-        matches!(
+fn keeps_the_parts(rt: HostRuntime) {
+    assert!(rt; keeps_the_expression(rt.alloc()));
+    assert!(rt; keeps_the_condition(rt.alloc()));
+    assert!(rt; keeps_the_parameters(rt.alloc()));
+}
+
+// An index inside an index, and so on.
+fn nested(alloc: Global, depth: u32) -> Option<String> {
+    let mut text = String::new(alloc);
+    for _ in 0..depth {
+        text.push_str("a[").ok()?;
+    }
+    text.push_str("1").ok()?;
+    for _ in 0..depth {
+        text.push_str("]").ok()?;
+    }
+    Some(text)
+}
+
+fn nests(alloc: Global, depth: u32, error: Option<ReadExprError>) -> bool {
+    match nested(alloc, depth) {
+        Some(text) => expr_error(alloc, text.as_str()) == error,
+        None => false,
+    }
+}
+
+#[test]
+fn counts_open_brackets(rt: HostRuntime) {
+    assert!(rt; nests(rt.alloc(), 100, READ));
+    assert!(rt; nests(rt.alloc(), 101, SYNTAX));
+}
+
+fn names(alloc: Global, text: &str, want: &str) -> bool {
+    match read_name(alloc, text) {
+        Ok(name) => name.as_str() == want,
+        Err(_) => false,
+    }
+}
+
+fn assigns(alloc: Global, text: &str, name: &str, filters: usize) -> bool {
+    match read_assign(alloc, text) {
+        Ok(assign) => {
+            assign.name.as_str() == name && assign.value.filters.as_slice().len() == filters
+        }
+        Err(_) => false,
+    }
+}
+
+fn has_values(alloc: Global, text: &str, count: usize) -> bool {
+    match read_values(alloc, text) {
+        Ok(values) => values.as_slice().len() == count,
+        Err(_) => false,
+    }
+}
+
+// Whether the group of a cycle is named, and it has so many values.
+fn cycles(alloc: Global, text: &str, count: usize) -> bool {
+    match read_cycle(alloc, text) {
+        Ok(cycle) => cycle.group.is_some() && cycle.values.as_slice().len() == count,
+        Err(_) => false,
+    }
+}
+
+fn loops(alloc: Global) -> bool {
+    match read_loop(alloc, LoopKind::For, "x in y limit:2 reversed") {
+        Ok(found) => matches!(
             found.parts.as_slice(),
             [LoopPart::Number(LoopKey::Limit, _), LoopPart::Reversed]
-        )
-    );
-    let include = read_include(rt.alloc(), " a{{ b }}.html x=1 ")
-        .ok()
-        .ok_or("an include")?;
-    assert!(rt;
-        matches!(
-            include.file.as_slice(),
-            [NamePart::Text(_), NamePart::Output(_), NamePart::Text(_)]
-        )
-    );
-    assert!(rt; include.params.as_slice().len() == 1);
-    let path = read_path(rt.alloc(), " my page.md ").ok().ok_or("a path")?;
-    assert!(rt; path.as_slice().len() == 1);
-    let language = read_language(rt.alloc(), " c++ linenos")
-        .ok()
-        .ok_or("a language")?;
-    assert!(rt; language.as_str() == "c++");
-    Ok(())
+        ),
+        Err(_) => false,
+    }
+}
+
+fn includes(alloc: Global) -> bool {
+    match read_include(alloc, " a{{ b }}.html x=1 ") {
+        Ok(include) => {
+            matches!(
+                include.file.as_slice(),
+                [NamePart::Text(_), NamePart::Output(_), NamePart::Text(_)]
+            ) && include.params.as_slice().len() == 1
+        }
+        Err(_) => false,
+    }
+}
+
+fn has_path(alloc: Global, text: &str, parts: usize) -> bool {
+    match read_path(alloc, text) {
+        Ok(path) => path.as_slice().len() == parts,
+        Err(_) => false,
+    }
+}
+
+fn has_language(alloc: Global, text: &str, want: &str) -> bool {
+    match read_language(alloc, text) {
+        Ok(language) => language.as_str() == want,
+        Err(_) => false,
+    }
+}
+
+#[test]
+fn reads_what_stands_in_tags(rt: HostRuntime) {
+    let alloc = rt.alloc();
+    assert!(rt; read_nothing(alloc, " ").is_ok());
+    assert!(rt; names(alloc, " a-b ", "a-b"));
+    assert!(rt; assigns(alloc, "a = b | f", "a", 1));
+    assert!(rt; has_values(alloc, "1, 2 or 3", 3));
+    assert!(rt; cycles(alloc, "g: 1, 2", 2));
+    assert!(rt; loops(alloc));
+    assert!(rt; includes(alloc));
+    assert!(rt; has_path(alloc, " my page.md ", 1));
+    assert!(rt; has_language(alloc, " c++ linenos", "c++"));
 }

@@ -153,76 +153,154 @@ fn remove_empty_folders<R: Files>(rt: &R, place: &str) {
 #[cfg(test)]
 mod tests {
     use super::*;
-    use std::test::Fail;
+    use std::process::Abort;
 
     // The paths that the output lists, each with a line end.
     fn listed<R: Files + AllocGlobal + Clone + Drop>(
         alloc: Global,
         out: &mut DiskOut<R>,
-    ) -> Result<String, Fail> {
+    ) -> Option<String> {
         let mut text = String::new(alloc);
-        for path in out.list(alloc)? {
-            text.push_str(path.text())?;
-            text.push('\n')?;
+        for path in out.list(alloc).ok()? {
+            text.push_str(path.text()).ok()?;
+            text.push('\n').ok()?;
         }
-        Ok(text)
+        Some(text)
+    }
+
+    fn lists<R: Files + AllocGlobal + Clone + Drop>(
+        alloc: Global,
+        out: &mut DiskOut<R>,
+        paths: &str,
+    ) -> bool {
+        match listed(alloc, out) {
+            Some(text) => text.as_str() == paths,
+            None => false,
+        }
+    }
+
+    fn writes<R: Files + AllocGlobal + Clone + Drop>(
+        alloc: Global,
+        out: &mut DiskOut<R>,
+        path: &str,
+        text: &str,
+    ) -> bool {
+        match SitePath::read(alloc, path) {
+            Ok(path) => out.write(&path, text.as_bytes()).is_ok(),
+            Err(_) => false,
+        }
+    }
+
+    fn removes<R: Files + AllocGlobal + Clone + Drop>(
+        alloc: Global,
+        out: &mut DiskOut<R>,
+        path: &str,
+    ) -> bool {
+        match SitePath::read(alloc, path) {
+            Ok(path) => out.remove(&path).is_ok(),
+            Err(_) => false,
+        }
+    }
+
+    fn holds<R: Files + AllocGlobal>(rt: &R, place: &str, text: &str) -> bool {
+        match fs::read_to_string(rt, place) {
+            Ok(found) => found.as_str() == text,
+            Err(_) => false,
+        }
+    }
+
+    fn stands<R: Files>(rt: &R, place: &str) -> bool {
+        fs::symlink_metadata(rt, place).is_ok()
+    }
+
+    // What is done, or looked at, at a path.
+    #[derive(Clone, Copy)]
+    enum Step {
+        // the output lists these paths, each with a line end
+        Lists,
+        FailsToList,
+        Writes,
+        FailsToWrite,
+        Removes,
+        // the file has this text
+        Holds,
+        Stands,
+        Lacks,
+        // what others do
+        MakesFolder,
+        MakesFile,
+        RemovesFolder,
+        RemovesFile,
+    }
+
+    static STEPS: [(Step, &str, &str); 24] = [
+        // A destination that is not there has no files.
+        (Step::Lists, "", ""),
+        // A write makes the folders that it needs, and replaces what was there.
+        (Step::Writes, "a/b/page.html", "old"),
+        (Step::Writes, "a/other.html", "text"),
+        (Step::Writes, "a/b/page.html", "new"),
+        (Step::Lists, "", "a/b/page.html\na/other.html\n"),
+        (Step::Holds, "_site/a/b/page.html", "new"),
+        // A path that is a folder of a file, or lies below one, cannot be written.
+        (Step::FailsToWrite, "a", "text"),
+        (Step::FailsToWrite, "a/other.html/c", "text"),
+        // A removal takes away the folders that it leaves empty, but not the destination.
+        (Step::Removes, "a/b/page.html", ""),
+        (Step::Removes, "a/b/page.html", ""),
+        (Step::Lacks, "_site/a/b", ""),
+        (Step::Lists, "", "a/other.html\n"),
+        (Step::Removes, "a/other.html", ""),
+        (Step::Lacks, "_site/a", ""),
+        (Step::Stands, DESTINATION, ""),
+        // An empty folder does not stand in the way.
+        (Step::MakesFolder, "_site/a", ""),
+        (Step::Writes, "a", "text"),
+        (Step::Lists, "", "a\n"),
+        // A name that makes no path is a failure, and so is a destination that is a file.
+        (Step::MakesFile, "_site/\u{1}", "text"),
+        (Step::FailsToList, "", ""),
+        (Step::RemovesFolder, DESTINATION, ""),
+        (Step::MakesFile, DESTINATION, "text"),
+        (Step::FailsToList, "", ""),
+        (Step::RemovesFile, DESTINATION, ""),
+    ];
+
+    // Whether the step comes out as its name says.
+    fn succeeds<R: Files + AllocGlobal + Clone + Drop>(
+        rt: &R,
+        out: &mut DiskOut<R>,
+        step: Step,
+        path: &str,
+        text: &str,
+    ) -> bool {
+        match step {
+            Step::Lists => lists(rt.alloc(), out, text),
+            Step::FailsToList => out.list(rt.alloc()).err() == Some(ListError::Failed),
+            Step::Writes => writes(rt.alloc(), out, path, text),
+            Step::FailsToWrite => !writes(rt.alloc(), out, path, text),
+            Step::Removes => removes(rt.alloc(), out, path),
+            Step::Holds => holds(rt, path, text),
+            Step::Stands => stands(rt, path),
+            Step::Lacks => !stands(rt, path),
+            Step::MakesFolder => fs::create_dir(rt, path).is_ok(),
+            Step::MakesFile => fs::write(rt, path, text.as_bytes()).is_ok(),
+            Step::RemovesFolder => fs::remove_dir_all(rt, path).is_ok(),
+            Step::RemovesFile => fs::remove_file(rt, path).is_ok(),
+        }
     }
 
     #[test]
-    fn keeps_its_files_in_a_folder(rt: HostRuntime) -> Result<(), Fail> {
-        let alloc = rt.alloc();
-        let mut out = DiskOut::new(rt.clone()?);
-        let page = SitePath::read(alloc, "a/b/page.html")?;
-        let other = SitePath::read(alloc, "a/other.html")?;
-        let above = SitePath::read(alloc, "a")?;
-
-        // A destination that is not there has no files.
+    fn keeps_its_files_in_a_folder(rt: HostRuntime) -> io::Result<()> {
         let _ = fs::remove_dir_all(&rt, DESTINATION);
-        assert_eq!(rt; listed(alloc, &mut out)?.as_str(), "");
-
-        // A write makes the folders that it needs, and replaces what was there.
-        out.write(&page, b"old")?;
-        out.write(&other, b"text")?;
-        out.write(&page, b"new")?;
-        assert_eq!(rt;
-            listed(alloc, &mut out)?.as_str(),
-            "a/b/page.html\na/other.html\n"
-        );
-        assert_eq!(rt;
-            fs::read_to_string(&rt, "_site/a/b/page.html")?.as_str(),
-            "new"
-        );
-
-        // A path that is a folder of a file, or lies below one, cannot be written.
-        assert!(rt; out.write(&above, b"text").is_err());
-        assert!(rt;
-            out.write(&SitePath::read(alloc, "a/other.html/c")?, b"text")
-                .is_err()
-        );
-        assert_eq!(rt; out.faults, 2);
-
-        // A removal takes away the folders that it leaves empty, but not the destination.
-        out.remove(&page)?;
-        out.remove(&page)?;
-        assert!(rt; !fs::exists(&rt, "_site/a/b")?);
-        assert_eq!(rt; listed(alloc, &mut out)?.as_str(), "a/other.html\n");
-        out.remove(&other)?;
-        assert!(rt; !fs::exists(&rt, "_site/a")?);
-        assert!(rt; fs::exists(&rt, DESTINATION)?);
-
-        // An empty folder does not stand in the way.
-        fs::create_dir(&rt, "_site/a")?;
-        out.write(&above, b"text")?;
-        assert_eq!(rt; listed(alloc, &mut out)?.as_str(), "a\n");
-
-        // A name that makes no path is a failure, and so is a destination that is a file.
-        fs::write(&rt, "_site/\u{1}", b"text")?;
-        assert_eq!(rt; out.list(alloc).err(), Some(ListError::Failed));
-        fs::remove_dir_all(&rt, DESTINATION)?;
-        fs::write(&rt, DESTINATION, b"text")?;
-        assert_eq!(rt; out.list(alloc).err(), Some(ListError::Failed));
+        let mut out = DiskOut::new(rt.clone()?);
+        for (step, path, text) in &STEPS {
+            assert!(rt;
+                succeeds(&rt, &mut out, *step, path, text),
+                "at {path} {text}"
+            );
+        }
         assert_eq!(rt; out.faults, 4);
-        fs::remove_file(&rt, DESTINATION)?;
         Ok(())
     }
 }

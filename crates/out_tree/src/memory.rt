@@ -263,10 +263,9 @@ fn remove_call(alloc: Global, path: &SitePath) -> Result<Call, Memory>
 #[cfg(test)]
 mod tests {
     use super::*;
-    use std::test::Fail;
 
     // Paths that are written one after another, and whether that succeeds.
-    const ROWS: [(&str, bool); 7] = [
+    static ROWS: [(&str, bool); 7] = [
         ("a/b", true),
         // A folder of a file, a path below a file, and the file itself.
         ("a", false),
@@ -279,22 +278,47 @@ mod tests {
         ("d", false),
     ];
 
-    #[test]
-    fn fails_where_a_path_stands_in_the_way(rt: HostRuntime) -> Result<(), Fail> {
-        let alloc = rt.alloc();
-        let mut fail = Vec::new(alloc);
-        fail.push(7)?;
-        let mut out = MemoryOut::new(alloc, Vec::new(alloc), fail);
-        assert!(rt; out.is_empty());
-        for (path, succeeds) in ROWS {
-            let written = out.write(&SitePath::read(alloc, path)?, b"text");
-            assert_eq!(rt; written.is_ok(), succeeds, "at {path}");
+    fn writes(alloc: Global, out: &mut MemoryOut, path: &str) -> bool {
+        match SitePath::read(alloc, path) {
+            Ok(path) => out.write(&path, b"text").is_ok(),
+            Err(_) => false,
         }
-        assert_eq!(rt; out.len(), 3);
-        assert_eq!(rt; out.list(alloc)?.len(), 3);
-        out.remove(&SitePath::read(alloc, "a/b")?)?;
-        out.write(&SitePath::read(alloc, "a/b/c")?, b"text")?;
-        assert_eq!(rt; (out.calls(), out.short()), (10, 0));
-        Ok(())
+    }
+
+    fn removes(alloc: Global, out: &mut MemoryOut, path: &str) -> bool {
+        match SitePath::read(alloc, path) {
+            Ok(path) => out.remove(&path).is_ok(),
+            Err(_) => false,
+        }
+    }
+
+    fn listed(alloc: Global, out: &mut MemoryOut) -> usize {
+        match out.list(alloc) {
+            Ok(paths) => paths.len(),
+            Err(_) => 0,
+        }
+    }
+
+    // Fails at its seventh call.
+    fn output(alloc: Global) -> Option<MemoryOut> {
+        let mut fail = Vec::new(alloc);
+        fail.push(7).ok()?;
+        let out = MemoryOut::new(alloc, Vec::new(alloc), fail);
+        Some(out)
+    }
+
+    #[test]
+    fn fails_where_a_path_stands_in_the_way(rt: HostRuntime) {
+        let alloc = rt.alloc();
+        let Some(mut out) = output(alloc) else {
+            return assert!(rt; false, "no output");
+        };
+        assert!(rt; out.is_empty());
+        for (path, succeeds) in &ROWS {
+            assert!(rt; writes(alloc, &mut out, path) == *succeeds, "at {path}");
+        }
+        assert!(rt; out.len() == 3 && listed(alloc, &mut out) == 3);
+        assert!(rt; removes(alloc, &mut out, "a/b") && writes(alloc, &mut out, "a/b/c"));
+        assert!(rt; out.calls() == 10 && out.short() == 0);
     }
 }

@@ -1,67 +1,83 @@
 use crate::{Outcome, render_thin};
-use site_base::{Settings, SitePath, Text};
+use site_base::{Settings, SiteFault, SitePath, Text};
 use site_reader::{Site, read_site};
 use source_tree::Held;
 use std::alloc::Global;
-use std::test::Fail;
 
 // 2024-01-01T00:00:00Z
 const MOMENT: i64 = 1_704_067_200;
 
-// The site of one file.
-fn site_of(alloc: Global, path: &str, text: &str) -> Result<Site, Fail> {
+// The one file held.
+fn held_of(alloc: Global, path: &str, text: &str) -> Option<Held> {
     let mut held = Held::new(alloc);
-    held.put(SitePath::read(alloc, path)?, text.as_bytes().to_vec(alloc)?)?;
+    let bytes = text.as_bytes().to_vec(alloc).ok()?;
+    let path = SitePath::read(alloc, path).ok()?;
+    held.put(path, bytes).ok()?;
+    Some(held)
+}
+
+// The site of one file.
+fn site_of(alloc: Global, path: &str, text: &str) -> Option<Site> {
+    let held = held_of(alloc, path, text)?;
     let settings = Settings {
         drafts: false,
         future: false,
     };
     match read_site(alloc, &held, MOMENT, &settings) {
-        Ok(site) => Ok(site),
-        Err(_) => Err("no site")?,
+        Ok(site) => Some(site),
+        Err(_) => None,
     }
 }
 
 // The first item of a site, rendered.
-fn first_outcome(alloc: Global, site: &Site) -> Result<Outcome, Fail> {
+fn first_outcome(alloc: Global, site: &Site) -> Option<Outcome> {
     if site.items.len() == 0 {
-        Err("no items")?
+        return None;
     }
     match render_thin(alloc, site, 0) {
-        Ok(outcome) => Ok(outcome),
-        Err(_) => Err("memory")?,
+        Ok(outcome) => Some(outcome),
+        Err(_) => None,
     }
 }
 
-// What is written for the only file of a site; `None` where it has a fault.
-fn output(alloc: Global, path: &str, text: &str) -> Result<Option<Text>, Fail> {
-    let site = site_of(alloc, path, text)?;
-    match first_outcome(alloc, &site)? {
-        Outcome::Done { output, .. } => Ok(Some(output)),
-        Outcome::Fault(_) => Ok(None),
+// What the only file of a site is rendered to.
+fn outcome(alloc: Global, path: &str, text: &str) -> Option<Outcome> {
+    match site_of(alloc, path, text) {
+        Some(site) => first_outcome(alloc, &site),
+        None => None,
+    }
+}
+
+fn output(alloc: Global, path: &str, text: &str) -> Option<Text> {
+    match outcome(alloc, path, text) {
+        Some(Outcome::Done { output, .. }) => Some(output),
+        _ => None,
     }
 }
 
 #[test]
-fn variables_are_printed(rt: HostRuntime) -> Result<(), Fail> {
+fn variables_are_printed(rt: HostRuntime) {
     let text = "---\na: [1, x]\n---\n<{{ page.a }}{{ page.b }}{{ page.url }}>";
-    match output(rt.alloc(), "p.html", text)? {
-        Some(output) => assert_eq!(rt; output.as_str(), "<1x/p.html>"),
-        None => Err("a fault")?,
+    match output(rt.alloc(), "p.html", text) {
+        Some(output) => assert!(rt; output.as_str() == "<1x/p.html>"),
+        None => assert!(rt; false, "no output"),
     }
-    Ok(())
+}
+
+fn fault(alloc: Global, path: &str, text: &str) -> Option<SiteFault> {
+    match outcome(alloc, path, text) {
+        Some(Outcome::Fault(fault)) => Some(fault),
+        _ => None,
+    }
 }
 
 #[test]
-fn other_forms_are_not_built(rt: HostRuntime) -> Result<(), Fail> {
-    let site = site_of(rt.alloc(), "p.md", "---\n---\nx")?;
-    match first_outcome(rt.alloc(), &site)? {
-        Outcome::Done { .. } => Err("no fault")?,
-        Outcome::Fault(fault) => {
-            assert_eq!(rt; fault.kind.number(), 0);
-            assert_eq!(rt; fault.line, 0);
-            assert_eq!(rt; fault.path.text(), "p.md");
+fn other_forms_are_not_built(rt: HostRuntime) {
+    match fault(rt.alloc(), "p.md", "---\n---\nx") {
+        Some(fault) => {
+            assert!(rt; fault.kind.number() == 0 && fault.line == 0);
+            assert!(rt; fault.path.text() == "p.md");
         }
+        None => assert!(rt; false, "no fault"),
     }
-    Ok(())
 }

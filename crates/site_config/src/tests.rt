@@ -1,187 +1,151 @@
-// Configurations of rows of values.
-use crate::{Config, ConfigError, ValueError, config_of, read_config};
-use front_yaml::YamlFault;
-use site_base::{Hash, List, Text, Value, YamlKind};
+// Configurations of rows of texts and values. The values are written in YAML.
+use crate::{Config, ConfigError, Names, ValueError, config_of, read_config};
+use front_yaml::{YamlFault, read_yaml};
+use site_base::{Text, Value, YamlKind};
 use std::alloc::Global;
-use std::test::Fail;
 
-fn text(alloc: Global, text: &str) -> Result<Value, Fail> {
-    Ok(Value::Text(Text::copy(alloc, text)?))
+fn made(alloc: Global, yaml: &str) -> Option<Config> {
+    let value = read_yaml(alloc, yaml).ok()?;
+    config_of(alloc, value).ok()
 }
 
-fn texts(alloc: Global, names: &[&str]) -> Result<Value, Fail> {
-    let mut list = List::new(alloc);
-    for name in names {
-        list.push(text(alloc, name)?)?;
-    }
-    Ok(Value::List(list))
-}
-
-fn hash(alloc: Global, pairs: Vec<(&str, Value)>) -> Result<Value, Fail> {
-    let mut hash = Hash::new(alloc);
-    for (key, value) in pairs {
-        hash.set(Text::copy(alloc, key)?, value)?;
-    }
-    Ok(Value::Hash(hash))
-}
-
-fn wrong(alloc: Global, value: Value) -> Result<Text, Fail> {
+// What a value is refused for, if it is.
+fn refusal(alloc: Global, value: Value) -> Option<Text> {
     match config_of(alloc, value) {
-        Err(ValueError::Key(key)) => Ok(key),
-        Err(ValueError::NotMapping) => Ok(Text::copy(alloc, "not a mapping")?),
-        _ => Ok(Text::new(alloc)),
+        Ok(_) => None,
+        Err(error) => match error {
+            ValueError::Key(key) => Some(key),
+            ValueError::NotMapping => Text::copy(alloc, "not a mapping").ok(),
+            ValueError::Memory => None,
+        },
     }
 }
 
-fn made(alloc: Global, value: Value) -> Result<Config, Fail> {
-    match config_of(alloc, value) {
-        Ok(config) => Ok(config),
-        Err(_) => Err("no configuration")?,
+fn is_refused(alloc: Global, yaml: &str, want: &str) -> bool {
+    let Ok(value) = read_yaml(alloc, yaml) else {
+        return false;
+    };
+    match refusal(alloc, value) {
+        Some(key) => key.as_str() == want,
+        None => false,
+    }
+}
+
+// Whether there are so many names, and the last of them is this one.
+fn end_in(names: &Names, len: u64, last: &str) -> bool {
+    if len == 0 || names.len() != len {
+        return false;
+    }
+    names.at(len - 1) == last
+}
+
+fn has_default_texts(config: &Config) -> bool {
+    config.permalink.as_str() == "date"
+        && config.markdown_ext.as_str() == "markdown,mkdown,mkdn,mkd,md"
+        && config.paginate_path.as_str() == "/page:num"
+        && config.excerpt_separator.as_str() == "\n\n"
+}
+
+fn has_default_names(config: &Config) -> bool {
+    end_in(&config.exclude, 10, "gemfiles")
+        && end_in(&config.keep_files, 2, ".svn")
+        && end_in(&config.include, 1, ".htaccess")
+}
+
+fn has_default_values(config: &Config) -> bool {
+    config.paginate.is_none()
+        && config.timezone == 0
+        && !config.future
+        && !config.unpublished
+        && !config.show_drafts
+        && config.defaults.as_slice().is_empty()
+        && config.all.is_empty()
+}
+
+fn has_collection(config: &Config, place: usize, name: &str, output: bool) -> bool {
+    match config.collections.as_slice().get(place) {
+        Some(collection) => collection.name.as_str() == name && collection.output == output,
+        None => false,
     }
 }
 
 #[test]
-fn takes_defaults(rt: HostRuntime) -> Result<(), Fail> {
-    let alloc = rt.alloc();
-    let config = made(alloc, Value::Nil)?;
-    assert_eq!(rt; config.permalink.as_str(), "date");
-    assert_eq!(rt; config.markdown_ext.as_str(), "markdown,mkdown,mkdn,mkd,md");
-    assert_eq!(rt; config.exclude.len(), 10);
-    assert_eq!(rt; config.exclude.at(9), "gemfiles");
-    assert_eq!(rt; config.keep_files.len(), 2);
-    assert_eq!(rt; config.keep_files.at(1), ".svn");
-    assert_eq!(rt; config.include.len(), 1);
-    assert_eq!(rt; config.include.at(0), ".htaccess");
-    assert_eq!(rt; config.paginate, None);
-    assert_eq!(rt; config.paginate_path.as_str(), "/page:num");
-    assert_eq!(rt; config.excerpt_separator.as_str(), "\n\n");
-    assert_eq!(rt; config.timezone, 0);
-    assert!(rt; !config.future && !config.unpublished && !config.show_drafts);
-    assert_eq!(rt; config.collections.as_slice().len(), 1);
-    assert_eq!(rt; config.collections.as_slice()[0].name.as_str(), "posts");
-    assert!(rt; config.collections.as_slice()[0].output);
-    assert!(rt; config.defaults.as_slice().is_empty());
-    assert!(rt; config.all.is_empty());
-    Ok(())
+fn takes_defaults(rt: HostRuntime) {
+    let Some(config) = made(rt.alloc(), "") else {
+        return assert!(rt; false, "it is refused");
+    };
+    assert!(rt; has_default_texts(&config));
+    assert!(rt; has_default_names(&config));
+    assert!(rt; has_default_values(&config));
+    assert!(rt; has_collection(&config, 0, "posts", true));
+    assert!(rt; config.collections.as_slice().len() == 1);
+}
+
+const WRONG: &[(&str, &str)] = &[
+    ("paginate: x", "paginate"),
+    ("timezone: Europe/Paris\npaginate: 0\n", "paginate"),
+    ("paginate_path: /page", "paginate_path"),
+    ("collections: [a b]", "collections"),
+    ("exclude: 1", "exclude"),
+    ("- a", "not a mapping"),
+];
+
+#[test]
+fn names_the_first_wrong_key(rt: HostRuntime) {
+    for (yaml, want) in WRONG {
+        assert!(rt; is_refused(rt.alloc(), yaml, want), "at {yaml}");
+    }
+}
+
+fn has_permalink(config: &Config, place: usize) -> bool {
+    match config.collections.as_slice().get(place) {
+        Some(collection) => collection.permalink.is_some(),
+        None => false,
+    }
 }
 
 #[test]
-fn names_the_first_wrong_key(rt: HostRuntime) -> Result<(), Fail> {
-    let alloc = rt.alloc();
-    let x = hash(alloc, vec![in alloc; ("paginate", text(alloc, "x")?)]?)?;
-    assert_eq!(rt; wrong(alloc, x)?.as_str(), "paginate");
-    let two = hash(
-        alloc,
-        vec![in alloc;
-            ("timezone", text(alloc, "Europe/Paris")?),
-            ("paginate", Value::Int(0)),
-        ]?,
-    )?;
-    assert_eq!(rt; wrong(alloc, two)?.as_str(), "paginate");
-    let path = hash(
-        alloc,
-        vec![in alloc; ("paginate_path", text(alloc, "/page")?)]?,
-    )?;
-    assert_eq!(rt; wrong(alloc, path)?.as_str(), "paginate_path");
-    let names = hash(
-        alloc,
-        vec![in alloc; ("collections", texts(alloc, &["a b"])?)]?,
-    )?;
-    assert_eq!(rt; wrong(alloc, names)?.as_str(), "collections");
-    let numbers = hash(alloc, vec![in alloc; ("exclude", Value::Int(1))]?)?;
-    assert_eq!(rt; wrong(alloc, numbers)?.as_str(), "exclude");
-    assert_eq!(rt;
-        wrong(alloc, texts(alloc, &["a"])?)?.as_str(),
-        "not a mapping"
-    );
-    Ok(())
+fn reads_collections(rt: HostRuntime) {
+    let yaml = "collections:\n  films: {output: true, permalink: '/:title'}\n  posts:\n  cast_2:\n";
+    let Some(config) = made(rt.alloc(), yaml) else {
+        return assert!(rt; false, "it is refused");
+    };
+    assert!(rt; config.collections.as_slice().len() == 3);
+    assert!(rt; has_collection(&config, 0, "posts", true));
+    assert!(rt; has_collection(&config, 1, "films", true) && has_permalink(&config, 1));
+    assert!(rt; has_collection(&config, 2, "cast_2", false));
 }
 
-// The mapping of three collections, of which `films` is written out.
-fn three_collections(alloc: Global) -> Result<Value, Fail> {
-    let output = hash(
-        alloc,
-        vec![in alloc;
-            ("output", Value::Bool(true)),
-            ("permalink", text(alloc, "/:title")?),
-        ]?,
-    )?;
-    Ok(hash(
-        alloc,
-        vec![in alloc;
-            ("films", output),
-            ("posts", Value::Nil),
-            ("cast_2", Value::Nil),
-        ]?,
-    )?)
-}
-
-// The list of one default: the layout of the posts below `a`.
-fn one_default(alloc: Global) -> Result<Value, Fail> {
-    let scope = hash(
-        alloc,
-        vec![in alloc;
-            ("path", text(alloc, "a")?),
-            ("type", text(alloc, "posts")?),
-        ]?,
-    )?;
-    let values = hash(alloc, vec![in alloc; ("layout", text(alloc, "page")?)]?)?;
-    let mut defaults = List::new(alloc);
-    defaults.push(hash(alloc, vec![in alloc; ("scope", scope), ("values", values)]?)?)?;
-    Ok(Value::List(defaults))
+// Whether there is one default, with this path.
+fn has_default(config: &Config, path: &str) -> bool {
+    match config.defaults.as_slice() {
+        [scope] => scope.path.as_str() == path,
+        _ => false,
+    }
 }
 
 #[test]
-fn reads_collections(rt: HostRuntime) -> Result<(), Fail> {
-    let alloc = rt.alloc();
-    let three = three_collections(alloc)?;
-    let config = made(alloc, hash(alloc, vec![in alloc; ("collections", three)]?)?)?;
-    let collections = config.collections.as_slice();
-    assert_eq!(rt; collections.len(), 3);
-    assert_eq!(rt; collections[0].name.as_str(), "posts");
-    assert_eq!(rt; collections[1].name.as_str(), "films");
-    assert!(rt; collections[1].output && collections[1].permalink.is_some());
-    assert_eq!(rt; collections[2].name.as_str(), "cast_2");
-    Ok(())
+fn reads_defaults_and_lists(rt: HostRuntime) {
+    let yaml =
+        "defaults:\n- scope: {path: a, type: posts}\n  values: {layout: page}\nexclude: [tmp]\ninclude: [_pages]\n";
+    let Some(config) = made(rt.alloc(), yaml) else {
+        return assert!(rt; false, "it is refused");
+    };
+    assert!(rt; has_default(&config, "a"));
+    assert!(rt; end_in(&config.exclude, 11, "tmp"));
+    assert!(rt; config.include.len() == 1);
 }
 
 #[test]
-fn reads_defaults_and_lists(rt: HostRuntime) -> Result<(), Fail> {
-    let alloc = rt.alloc();
-    let defaults = one_default(alloc)?;
-    let exclude = texts(alloc, &["tmp"])?;
-    let include = texts(alloc, &["_pages"])?;
-    let pairs = vec![in alloc;
-        ("defaults", defaults),
-        ("exclude", exclude),
-        ("include", include),
-    ]?;
-    let config = made(alloc, hash(alloc, pairs)?)?;
-    assert_eq!(rt; config.defaults.as_slice().len(), 1);
-    assert_eq!(rt; config.defaults.as_slice()[0].path.as_str(), "a");
-    assert_eq!(rt; config.exclude.len(), 11);
-    assert_eq!(rt; config.exclude.at(10), "tmp");
-    assert_eq!(rt; config.include.len(), 1);
-    Ok(())
-}
-
-#[test]
-fn reads_single_values(rt: HostRuntime) -> Result<(), Fail> {
-    let alloc = rt.alloc();
-    let timezone = text(alloc, "+02:30")?;
-    let theme = text(alloc, "minima")?;
-    let pairs = vec![in alloc;
-        ("paginate", Value::Int(5)),
-        ("timezone", timezone),
-        ("future", Value::Bool(true)),
-        ("theme", theme),
-    ]?;
-    let config = made(alloc, hash(alloc, pairs)?)?;
-    assert_eq!(rt; config.paginate, Some(5));
-    assert_eq!(rt; config.timezone, 9000);
+fn reads_single_values(rt: HostRuntime) {
+    let yaml = "paginate: 5\ntimezone: '+02:30'\nfuture: true\ntheme: minima\n";
+    let Some(config) = made(rt.alloc(), yaml) else {
+        return assert!(rt; false, "it is refused");
+    };
+    assert!(rt; config.paginate == Some(5));
+    assert!(rt; config.timezone == 9000);
     assert!(rt; config.future);
-    assert_eq!(rt; config.all.len(), 4);
-    Ok(())
+    assert!(rt; config.all.len() == 4);
 }
 
 // The key that a configuration is refused for, if it is for one.
@@ -193,6 +157,13 @@ fn wrong_key(alloc: Global, text: &str) -> Option<Text> {
             ConfigError::Yaml(_fault) => None,
             ConfigError::Memory => None,
         },
+    }
+}
+
+fn names_key(alloc: Global, text: &str, want: &str) -> bool {
+    match wrong_key(alloc, text) {
+        Some(key) => key.as_str() == want,
+        None => false,
     }
 }
 
@@ -208,24 +179,28 @@ fn yaml_fault(alloc: Global, text: &str) -> Option<YamlFault> {
     }
 }
 
-fn configured(alloc: Global, text: &str) -> Option<Config> {
+fn has_fault(alloc: Global, text: &str, line: u64, kind: YamlKind) -> bool {
+    match yaml_fault(alloc, text) {
+        Some(fault) => fault.line == line && fault.kind == kind,
+        None => false,
+    }
+}
+
+// Whether the configuration builds the future, and has so many collections.
+fn is_read(alloc: Global, text: &str, future: bool, collections: usize) -> bool {
     match read_config(alloc, Some(text)) {
-        Ok(config) => Some(config),
-        Err(_error) => None,
+        Ok(config) => {
+            config.future == future && config.collections.as_slice().len() == collections
+        }
+        Err(_error) => false,
     }
 }
 
 #[test]
-fn reads_texts(rt: HostRuntime) -> Result<(), Fail> {
+fn reads_texts(rt: HostRuntime) {
     let alloc = rt.alloc();
-    let key = wrong_key(alloc, "paginate: x\n").ok_or("no key")?;
-    assert_eq!(rt; key.as_str(), "paginate");
-    let quote = yaml_fault(alloc, "title: a\nurl: 'x\n").ok_or("no fault")?;
-    assert_eq!(rt; (quote.line, quote.kind), (2, YamlKind::Quote));
-    let list = yaml_fault(alloc, "- a\n").ok_or("no fault")?;
-    assert_eq!(rt; (list.line, list.kind), (1, YamlKind::NotMapping));
-    let config = configured(alloc, "collections: [films]\nfuture: yes\n").ok_or("refused")?;
-    assert!(rt; config.future);
-    assert_eq!(rt; config.collections.as_slice().len(), 2);
-    Ok(())
+    assert!(rt; names_key(alloc, "paginate: x\n", "paginate"));
+    assert!(rt; has_fault(alloc, "title: a\nurl: 'x\n", 2, YamlKind::Quote));
+    assert!(rt; has_fault(alloc, "- a\n", 1, YamlKind::NotMapping));
+    assert!(rt; is_read(alloc, "collections: [films]\nfuture: yes\n", true, 2));
 }

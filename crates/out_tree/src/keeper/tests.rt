@@ -1,7 +1,6 @@
 use super::*;
 use crate::MemoryOut;
 use site_base::Text;
-use std::test::Fail;
 
 type Files = &'static [(&'static str, &'static str)];
 
@@ -35,7 +34,7 @@ const NOTHING: Row = Row {
     left_then: &[],
 };
 
-const ROWS: [Row; 6] = [
+static ROWS: [Row; 6] = [
     NOTHING,
     // What an entry keeps stays.
     Row {
@@ -89,101 +88,159 @@ const ROWS: [Row; 6] = [
     },
 ];
 
-fn output(alloc: Global, held: Files, fail: &[u64]) -> Result<MemoryOut, Fail> {
+fn output(alloc: Global, held: Files, fail: &[u64]) -> Option<MemoryOut> {
     let count = held.len() as u64;
     let mut later = Vec::new(alloc);
     for call in fail {
-        later.push(call.saturating_add(count))?;
+        later.push(call.saturating_add(count)).ok()?;
     }
     let mut out = MemoryOut::new(alloc, Vec::new(alloc), later);
     for (path, text) in held {
-        out.write(&SitePath::read(alloc, path)?, text.as_bytes())?;
+        let path = SitePath::read(alloc, path).ok()?;
+        out.write(&path, text.as_bytes()).ok()?;
     }
-    Ok(out)
+    Some(out)
 }
 
-fn tree_of(alloc: Global, files: Files) -> Result<Tree, Fail> {
+fn tree_of(alloc: Global, files: Files) -> Option<Tree> {
     let mut tree = Tree::new(alloc);
     for (path, text) in files {
-        tree.put(
-            alloc,
-            SitePath::read(alloc, path)?,
-            text.as_bytes().to_vec(alloc)?,
-        )?;
+        let bytes = text.as_bytes().to_vec(alloc).ok()?;
+        let path = SitePath::read(alloc, path).ok()?;
+        tree.put(alloc, path, bytes).ok()?;
     }
-    Ok(tree)
+    Some(tree)
 }
 
-fn keep_of(alloc: Global, entries: &[&str]) -> Result<KeepList, Fail> {
+fn keep_of(alloc: Global, entries: &[&str]) -> Option<KeepList> {
     let mut keep = KeepList::new(alloc);
     for entry in entries {
-        keep.push(Text::copy(alloc, entry)?)?;
+        keep.push(Text::copy(alloc, entry).ok()?).ok()?;
     }
-    Ok(keep)
+    Some(keep)
+}
+
+fn has(alloc: Global, out: &MemoryOut, path: &str, text: &str) -> bool {
+    match SitePath::read(alloc, path) {
+        Ok(path) => out.get(&path) == Some(text.as_bytes()),
+        Err(_) => false,
+    }
 }
 
 // Whether the output has exactly these files.
-fn has_exactly(alloc: Global, out: &MemoryOut, files: Files) -> Result<bool, Fail> {
+fn has_exactly(alloc: Global, out: &MemoryOut, files: Files) -> bool {
     for (path, text) in files {
-        if out.get(&SitePath::read(alloc, path)?) != Some(text.as_bytes()) {
-            return Ok(false);
+        if !has(alloc, out, path, text) {
+            return false;
         }
     }
-    Ok(out.len() == files.len())
+    out.len() == files.len()
 }
 
-#[test]
-fn makes_an_output_equal_to_a_tree(rt: HostRuntime) -> Result<(), Fail> {
-    let alloc = rt.alloc();
-    for (number, row) in ROWS.iter().enumerate() {
-        let mut out = output(alloc, row.held, row.fail)?;
-        let tree = tree_of(alloc, row.tree)?;
-        let keep = keep_of(alloc, row.keep)?;
-        let mut keeper = OutKeeper::open();
-        assert!(rt; !keeper.has_listed());
-        keeper.list_once(alloc, &mut out)?;
-        assert!(rt; keeper.has_listed());
-        keeper.list_once(alloc, &mut out)?;
-        let applied = keeper.make_equal(alloc, &tree, &keep, &mut out)?;
-        assert_eq!(rt; applied.written, row.written, "written of row {number}");
-        assert_eq!(rt; applied.removed, row.removed, "removed of row {number}");
-        assert_eq!(rt;
-            applied.failed.as_slice().len(),
-            row.failed.len(),
-            "row {number}"
-        );
-        for (path, failed) in applied.failed.as_slice().iter().zip(row.failed) {
-            assert_eq!(rt; path.text(), *failed, "row {number}");
+fn are_named(paths: &[SitePath], names: &[&str]) -> bool {
+    for (path, name) in paths.iter().zip(names) {
+        if path.text() != *name {
+            return false;
         }
-        assert!(rt; has_exactly(alloc, &out, row.left)?, "left by row {number}");
-
-        let calls = out.calls();
-        let plan = keeper.plan(alloc, &tree, &keep)?;
-        assert_eq!(rt; (plan.written(), plan.removed()), row.again, "row {number}");
-        assert_eq!(rt; plan.is_empty(), row.failed.is_empty(), "row {number}");
-        let tried = plan.written().saturating_add(plan.removed());
-        let applied = keeper.apply(&mut out, plan);
-        assert!(rt; applied.failed.as_slice().is_empty(), "row {number}");
-        assert_eq!(rt; out.calls(), calls.saturating_add(tried), "row {number}");
-        assert!(rt;
-            has_exactly(alloc, &out, row.left_then)?,
-            "left then by row {number}"
-        );
     }
-    Ok(())
+    paths.len() == names.len()
 }
 
-// A list that fails leaves the keeper as it was.
-#[test]
-fn lists_again_after_a_failure(rt: HostRuntime) -> Result<(), Fail> {
-    let alloc = rt.alloc();
-    let mut out = output(alloc, &[("a", "x")], &[1])?;
+// The first build lists the output once, however often that is asked.
+fn builds(
+    alloc: Global,
+    row: &Row,
+    keeper: &mut OutKeeper,
+    tree: &Tree,
+    keep: &KeepList,
+    out: &mut MemoryOut,
+) -> bool {
+    if keeper.has_listed() || keeper.list_once(alloc, out).is_err() || !keeper.has_listed() {
+        return false;
+    }
+    let Ok(()) = keeper.list_once(alloc, out) else {
+        return false;
+    };
+    match keeper.make_equal(alloc, tree, keep, out) {
+        Ok(applied) => {
+            applied.written == row.written
+                && applied.removed == row.removed
+                && are_named(applied.failed.as_slice(), row.failed)
+        }
+        Err(_) => false,
+    }
+}
+
+// The second build tries what failed in the first, and no more.
+fn builds_again(
+    alloc: Global,
+    row: &Row,
+    keeper: &mut OutKeeper,
+    tree: &Tree,
+    keep: &KeepList,
+    out: &mut MemoryOut,
+) -> bool {
+    if !keeper.has_listed() {
+        return false;
+    }
+    let calls = out.calls();
+    let Ok(plan) = keeper.plan(alloc, tree, keep) else {
+        return false;
+    };
+    let (written, removed) = (plan.written(), plan.removed());
+    if (written, removed) != row.again || plan.is_empty() != row.failed.is_empty() {
+        return false;
+    }
+    let applied = keeper.apply(out, plan);
+    applied.failed.as_slice().is_empty()
+        && out.calls() == calls.saturating_add(written).saturating_add(removed)
+}
+
+fn comes_out(alloc: Global, row: &Row) -> bool {
+    let Some(mut out) = output(alloc, row.held, row.fail) else {
+        return false;
+    };
+    let (Some(tree), Some(keep)) = (tree_of(alloc, row.tree), keep_of(alloc, row.keep)) else {
+        return false;
+    };
     let mut keeper = OutKeeper::open();
-    assert_eq!(rt; keeper.list_once(alloc, &mut out), Err(ListError::Failed));
-    assert!(rt; !keeper.has_listed());
-    keeper.list_once(alloc, &mut out)?;
-    let plan = keeper.plan(alloc, &Tree::new(alloc), &KeepList::new(alloc))?;
-    assert_eq!(rt; plan.removed(), 1);
-    assert_eq!(rt; out.short(), 0);
-    Ok(())
+    builds(alloc, row, &mut keeper, &tree, &keep, &mut out)
+        && has_exactly(alloc, &out, row.left)
+        && builds_again(alloc, row, &mut keeper, &tree, &keep, &mut out)
+        && has_exactly(alloc, &out, row.left_then)
+}
+
+#[test]
+fn makes_an_output_equal_to_a_tree(rt: HostRuntime) {
+    for (number, row) in ROWS.iter().enumerate() {
+        assert!(rt; comes_out(rt.alloc(), row), "row {number}");
+    }
+}
+
+// Whether a list that fails leaves the keeper as it was, so that the next one lists again.
+fn lists_again(alloc: Global, keeper: &mut OutKeeper, out: &mut MemoryOut) -> bool {
+    keeper.list_once(alloc, out) == Err(ListError::Failed)
+        && !keeper.has_listed()
+        && keeper.list_once(alloc, out).is_ok()
+        && out.short() == 0
+}
+
+fn planned_removals(alloc: Global, keeper: &OutKeeper) -> Option<u64> {
+    if !keeper.has_listed() {
+        return None;
+    }
+    let plan = keeper
+        .plan(alloc, &Tree::new(alloc), &KeepList::new(alloc))
+        .ok()?;
+    Some(plan.removed())
+}
+
+#[test]
+fn lists_again_after_a_failure(rt: HostRuntime) {
+    let Some(mut out) = output(rt.alloc(), &[("a", "x")], &[1]) else {
+        return assert!(rt; false, "no output");
+    };
+    let mut keeper = OutKeeper::open();
+    assert!(rt; lists_again(rt.alloc(), &mut keeper, &mut out));
+    assert!(rt; planned_removals(rt.alloc(), &keeper) == Some(1));
 }

@@ -1,156 +1,228 @@
 // What the calls on values answer for rows of them.
 use crate::{
-    GrowingHash, Hash, ItemName, List, Memory, SitePath, Text, Unlike, Value, code, compare, copy,
-    equals, is_true, same_code, value_text,
+    GrowingHash, Hash, ItemName, List, SitePath, Text, Unlike, Value, code, compare, copy, equals,
+    is_true, same_code, value_text,
 };
 use std::alloc::Global;
 use std::cmp::Ordering;
-use std::process::Abort;
-use std::test::Fail;
 
-fn text(alloc: Global, text: &str) -> Result<Value, Fail> {
-    Ok(Value::Text(Text::copy(alloc, text)?))
+fn text(alloc: Global, text: &str) -> Option<Value> {
+    Some(Value::Text(Text::copy(alloc, text).ok()?))
 }
 
-fn shown(value: Option<&Value>) -> Option<&str> {
+fn shown(value: Option<&Value>) -> &str {
     match value {
-        Some(Value::Text(text)) => Some(text.as_str()),
+        Some(Value::Text(text)) => text.as_str(),
+        Some(_) => "another value",
+        None => "absent",
+    }
+}
+
+fn number(value: Option<&Value>) -> Option<i64> {
+    match value {
+        Some(Value::Int(number)) => Some(*number),
         _ => None,
     }
 }
 
+fn set(alloc: Global, hash: &mut Hash, key: &str, value: Option<Value>) -> bool {
+    let (Ok(key), Some(value)) = (Text::copy(alloc, key), value) else {
+        return false;
+    };
+    hash.set(key, value).is_ok()
+}
+
+fn first_key(hash: &Hash) -> &str {
+    match hash.as_slice() {
+        [first, ..] => first.key.as_str(),
+        [] => "",
+    }
+}
+
 #[test]
-fn sets_and_gets_by_key(rt: HostRuntime) -> Result<(), Fail> {
+fn sets_and_gets_by_key(rt: HostRuntime) {
     let alloc = rt.alloc();
     let mut hash = Hash::new(alloc);
-    hash.set(Text::copy(alloc, "a")?, text(alloc, "x\n")?)?;
-    hash.set(Text::copy(alloc, "b")?, text(alloc, "y z")?)?;
-    hash.fit(1)?;
-    assert_eq!(rt; shown(hash.get("b")), Some("y z"));
-    assert!(rt; hash.get("c").is_none());
-    hash.set(Text::copy(alloc, "a")?, Value::Int(1))?;
-    assert_eq!(rt; hash.len(), 2);
-    assert_eq!(rt; hash.as_slice().len(), 2);
-    assert_eq!(rt; hash.as_slice()[0].key.as_str(), "a");
-    assert!(rt; matches!(hash.get("a"), Some(Value::Int(1))));
-    Ok(())
+    assert!(rt; set(alloc, &mut hash, "a", text(alloc, "x\n")));
+    assert!(rt; set(alloc, &mut hash, "b", text(alloc, "y z")));
+    assert!(rt; hash.fit(1).is_ok() && shown(hash.get("b")) == "y z");
+    assert!(rt; shown(hash.get("c")) == "absent");
+    assert!(rt; set(alloc, &mut hash, "a", Some(Value::Int(1))));
+    assert!(rt; hash.len() == 2 && hash.as_slice().len() == 2);
+    assert!(rt; first_key(&hash) == "a" && number(hash.get("a")) == Some(1));
+}
+
+fn grow(alloc: Global, growing: &mut GrowingHash, turn: i64) -> Option<()> {
+    for number in 0..40 {
+        let key = format!(in alloc; "key {number}").ok()?;
+        growing
+            .set(Text::from_string(key).ok()?, Value::Int(turn))
+            .ok()?;
+    }
+    Some(())
 }
 
 // Forty keys, each set twice, so that the later half of them has an index.
-#[test]
-fn grows_by_many_keys(rt: HostRuntime) -> Result<(), Fail> {
-    let alloc = rt.alloc();
+fn grown(alloc: Global) -> Option<Hash> {
     let mut growing = GrowingHash::new(alloc);
-    for turn in 0..2 {
-        for number in 0..40 {
-            let key = format!(in alloc; "key {number}")?;
-            growing.set(Text::from_string(key)?, Value::Int(turn))?;
+    grow(alloc, &mut growing, 0)?;
+    grow(alloc, &mut growing, 1)?;
+    Some(growing.finish())
+}
+
+#[test]
+fn grows_by_many_keys(rt: HostRuntime) {
+    match grown(rt.alloc()) {
+        Some(hash) => {
+            assert!(rt; hash.len() == 40);
+            assert!(rt; number(hash.get("key 39")) == Some(1));
+            assert!(rt; number(hash.get("key 7")) == Some(1));
         }
+        None => assert!(rt; false, "no hash"),
     }
-    let hash = growing.finish();
-    assert_eq!(rt; hash.len(), 40);
-    assert!(rt; matches!(hash.get("key 39"), Some(Value::Int(1))));
-    assert!(rt; matches!(hash.get("key 7"), Some(Value::Int(1))));
-    Ok(())
+}
+
+fn takes(hash: &mut Hash, key: &str, want: &str) -> bool {
+    let taken = hash.take(key);
+    shown(taken.as_ref()) == want
 }
 
 #[test]
-fn takes_a_value_out(rt: HostRuntime) -> Result<(), Fail> {
+fn takes_a_value_out(rt: HostRuntime) {
     let alloc = rt.alloc();
     let mut hash = Hash::new(alloc);
-    hash.set(Text::copy(alloc, "a")?, text(alloc, "x")?)?;
-    assert_eq!(rt; shown(hash.take("a").as_ref()), Some("x"));
+    assert!(rt; set(alloc, &mut hash, "a", text(alloc, "x")));
+    assert!(rt; takes(&mut hash, "a", "x"));
     assert!(rt; matches!(hash.get("a"), Some(Value::Nil)));
-    assert!(rt; hash.take("b").is_none());
-    Ok(())
+    assert!(rt; takes(&mut hash, "b", "absent"));
+}
+
+fn list_of_three(alloc: Global) -> Option<Value> {
+    let mut list = List::new(alloc);
+    list.push(Value::Int(1)).ok()?;
+    list.push(Value::Nil).ok()?;
+    list.push(text(alloc, "a")?).ok()?;
+    Some(Value::List(list))
+}
+
+fn last(list: &List) -> &str {
+    match list.len() {
+        0 => "absent",
+        count => shown(Some(list.at(count - 1))),
+    }
 }
 
 #[test]
-fn adds_at_the_end(rt: HostRuntime) -> Result<(), Fail> {
-    let alloc = rt.alloc();
-    let mut list = List::new(alloc);
-    assert!(rt; list.is_empty());
-    list.push(Value::Int(1))?;
-    list.push(text(alloc, "a")?)?;
-    assert_eq!(rt; list.len(), 2);
-    assert_eq!(rt; shown(Some(list.at(1))), Some("a"));
-    Ok(())
+fn adds_at_the_end(rt: HostRuntime) {
+    assert!(rt; List::new(rt.alloc()).is_empty());
+    match list_of_three(rt.alloc()) {
+        Some(Value::List(list)) => assert!(rt; list.len() == 3 && last(&list) == "a"),
+        _ => assert!(rt; false, "no list"),
+    }
 }
 
-fn list_of_three(alloc: Global) -> Result<Value, Fail> {
-    let mut list = List::new(alloc);
-    list.push(Value::Int(1))?;
-    list.push(Value::Nil)?;
-    list.push(text(alloc, "a")?)?;
-    Ok(Value::List(list))
-}
-
-fn sample(alloc: Global) -> Result<Value, Fail> {
+// A list of a hash with a list in it, of a truth, and of an item.
+fn sample(alloc: Global) -> Option<Value> {
     let mut hash = Hash::new(alloc);
-    hash.set(Text::copy(alloc, "k\u{e9}")?, list_of_three(alloc)?)?;
+    let key = Text::copy(alloc, "k\u{e9}").ok()?;
+    hash.set(key, list_of_three(alloc)?).ok()?;
     let mut outer = List::new(alloc);
-    outer.push(Value::Hash(hash))?;
-    outer.push(Value::Bool(true))?;
-    let name = ItemName {
-        path: SitePath::read(alloc, "a/b.md")?,
-        part: 12,
+    outer.push(Value::Hash(hash)).ok()?;
+    outer.push(Value::Bool(true)).ok()?;
+    let path = SitePath::read(alloc, "a/b.md").ok()?;
+    outer.push(Value::Item(ItemName { path, part: 12 })).ok()?;
+    Some(Value::List(outer))
+}
+
+fn is_shown(alloc: Global, value: &Value, want: &str) -> bool {
+    match value_text(alloc, value) {
+        Ok(text) => text.as_str() == want,
+        Err(_) => false,
+    }
+}
+
+fn has_code(alloc: Global, value: &Value, want: &[u8]) -> bool {
+    match code(alloc, value) {
+        Ok(code) => code.as_slice() == want,
+        Err(_) => false,
+    }
+}
+
+fn is_copied(alloc: Global, value: &Value) -> bool {
+    match copy(alloc, value) {
+        Ok(copy) => equals(value, &copy),
+        Err(_) => false,
+    }
+}
+
+fn is_written(alloc: Global, value: Option<Value>, shown: &str, written: &str) -> bool {
+    let Some(value) = value else {
+        return false;
     };
-    outer.push(Value::Item(name))?;
-    Ok(Value::List(outer))
-}
-
-fn check(
-    rt: &impl Abort,
-    alloc: Global,
-    value: Value,
-    shown: &str,
-    written: &str,
-) -> Result<(), Fail> {
-    assert_eq!(rt; value_text(alloc, &value)?.as_str(), shown);
-    assert_eq!(rt; code(alloc, &value)?.as_slice(), written.as_bytes());
-    assert!(rt; same_code(&value, written.as_bytes()));
-    assert!(rt; !same_code(&value, b"n;"));
-    assert!(rt; equals(&value, &copy(alloc, &value)?));
-    Ok(())
+    is_shown(alloc, &value, shown)
+        && has_code(alloc, &value, written.as_bytes())
+        && same_code(&value, written.as_bytes())
+        && !same_code(&value, b"n;")
+        && is_copied(alloc, &value)
 }
 
 #[test]
-fn writes_texts_and_codes(rt: HostRuntime) -> Result<(), Fail> {
+fn writes_single_values(rt: HostRuntime) {
     let alloc = rt.alloc();
-    check(&rt, alloc, Value::Nil, "", "n")?;
-    check(&rt, alloc, Value::Bool(false), "false", "f")?;
-    check(&rt, alloc, Value::Int(-5), "-5", "i-5;")?;
-    check(
-        &rt,
-        alloc,
-        Value::Int(i64::MIN),
-        "-9223372036854775808",
-        "i-9223372036854775808;",
-    )?;
-    check(&rt, alloc, text(alloc, "ab")?, "ab", "s2:ab")?;
-    check(&rt, alloc, Value::Range(-1, 20), "-1..20", "r-1;20;")?;
-    check(
-        &rt,
-        alloc,
-        sample(alloc)?,
-        "true",
-        "l3:h1:s3:k\u{e9}l3:i1;ns1:atps6:a/b.md12;",
-    )?;
-    check(&rt, alloc, list_of_three(alloc)?, "1a", "l3:i1;ns1:a")
-}
-
-#[test]
-fn compares_like_kinds(rt: HostRuntime) -> Result<(), Fail> {
-    let alloc = rt.alloc();
-    let one = Value::Int(1);
-    assert_eq!(rt; compare(&one, &text(alloc, "1")?), Err(Unlike));
-    assert_eq!(rt; compare(&Value::Nil, &Value::Nil), Err(Unlike));
-    assert_eq!(rt; compare(&one, &Value::Int(-2)), Ok(Ordering::Greater));
-    assert_eq!(rt;
-        compare(&text(alloc, "a")?, &text(alloc, "ab")?),
-        Ok(Ordering::Less)
+    assert!(rt; is_written(alloc, Some(Value::Nil), "", "n"));
+    assert!(rt; is_written(alloc, Some(Value::Bool(false)), "false", "f"));
+    assert!(rt; is_written(alloc, Some(Value::Int(-5)), "-5", "i-5;"));
+    let least = "-9223372036854775808";
+    assert!(rt;
+        is_written(
+            alloc,
+            Some(Value::Int(i64::MIN)),
+            least,
+            "i-9223372036854775808;"
+        )
     );
-    assert!(rt; !equals(&one, &text(alloc, "1")?));
-    assert!(rt; !is_true(&Value::Nil) && !is_true(&Value::Bool(false)) && is_true(&Value::Int(0)));
-    Ok(())
+    assert!(rt; is_written(alloc, Some(Value::Range(-1, 20)), "-1..20", "r-1;20;"));
+}
+
+#[test]
+fn writes_texts_and_lists(rt: HostRuntime) {
+    let alloc = rt.alloc();
+    assert!(rt; is_written(alloc, text(alloc, "ab"), "ab", "s2:ab"));
+    let written = "l3:h1:s3:k\u{e9}l3:i1;ns1:atps6:a/b.md12;";
+    assert!(rt; is_written(alloc, sample(alloc), "true", written));
+    assert!(rt; is_written(alloc, list_of_three(alloc), "1a", "l3:i1;ns1:a"));
+}
+
+fn compares(first: Option<Value>, second: Option<Value>, want: Result<Ordering, Unlike>) -> bool {
+    match (first, second) {
+        (Some(first), Some(second)) => compare(&first, &second) == want,
+        _ => false,
+    }
+}
+
+#[test]
+fn compares_like_kinds(rt: HostRuntime) {
+    let alloc = rt.alloc();
+    assert!(rt; compares(Some(Value::Int(1)), text(alloc, "1"), Err(Unlike)));
+    assert!(rt; compares(Some(Value::Nil), Some(Value::Nil), Err(Unlike)));
+    assert!(rt;
+        compares(
+            Some(Value::Int(1)),
+            Some(Value::Int(-2)),
+            Ok(Ordering::Greater)
+        )
+    );
+    assert!(rt; compares(text(alloc, "a"), text(alloc, "ab"), Ok(Ordering::Less)));
+}
+
+fn equal(first: Option<Value>, second: Option<Value>) -> Option<bool> {
+    Some(equals(&first?, &second?))
+}
+
+#[test]
+fn tells_equal_and_true_values(rt: HostRuntime) {
+    let alloc = rt.alloc();
+    assert!(rt; equal(Some(Value::Int(1)), text(alloc, "1")) == Some(false));
+    assert!(rt; !is_true(&Value::Nil) && !is_true(&Value::Bool(false)));
+    assert!(rt; is_true(&Value::Int(0)));
 }
