@@ -13,10 +13,10 @@ ghost use Rattle.cm_blocks.specs.declared.kinds.Leaf.TheVariants as leaf;
 ghost use Rattle.cm_blocks.specs.LineTexts.{ended};
 ghost use Rattle.cm_blocks.specs.Opening.{IsExcluded, IsKnown, IsKnownIf, IsMark, IsOpens, is_break_bullet, leaf_in};
 
-use crate::kinds::{Container, Leaf};
+use crate::kinds::Leaf;
 use crate::leaf_lines::LeafLines;
 use crate::leaf_more::ends_html_rest;
-use cm_containers::{Spot, behind_white, shift};
+use cm_containers::{Container, Spot, behind_white, shift};
 use cm_starts::{HeadingLevel, Place, Start, line_start, list_mark};
 use site_base::{Memory, Text};
 use std::alloc::Global;
@@ -140,7 +140,7 @@ fn item<'a>(
     white: Spot,
     known: Option<Known>,
     mark: char,
-    number: u64,
+    number: u32,
     digits: usize,
 ) -> Opens<'a>
     requires white { BehindWhite line.now spot white }
@@ -152,9 +152,9 @@ fn item<'a>(
     let after = behind_mark(line, white, digits + 1);
     let padding = padding(line, after);
     let held = Container::Item {
-        content: after.column - spot.column + padding,
+        indent: after.column - spot.column + padding,
         mark,
-        number,
+        start: number,
     };
     Opens::Box(held, shift(line, after, padding), known)
 }

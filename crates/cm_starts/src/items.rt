@@ -1,11 +1,9 @@
 // The marks of list items.
-ghost use Rattle.std.specs.Prelude.{◌≡◌, ◌<◌, ◌≤◌, length};
-ghost use Rattle.std.specs.Char.{digit_value};
+ghost use Rattle.std.specs.Prelude.{◌≡◌};
 ghost use Rattle.markdown_grammar.specs.Bytes as bytes;
 ghost use Rattle.markdown_grammar.specs.Fronts.{run_len};
 ghost use Rattle.markdown_grammar.specs.Lines as lines;
 ghost use Rattle.markdown_grammar.specs.ListMarks as grammar;
-ghost use Rattle.markdown_grammar.specs.References.{number_in};
 ghost use Rattle.cm_starts.specs.Answers.{as_place, as_start};
 ghost use Rattle.cm_starts.specs.Runs.{is_bullet_mark, is_delimiter_mark, ordered_at};
 
@@ -55,11 +53,14 @@ fn ordered<'a>(place: Place, text: &'a str) -> Start<'a>
     if !is_delimiter(mark) {
         return Start::Text;
     }
-    item(place, mark, number(&bytes[..n]), n, &text[n + 1..])
+    match text[..n].parse() {
+        Ok(number) => item(place, mark, number, n, &text[n + 1..]),
+        Err(_) => Start::Text,
+    }
 }
 
 // An item whose mark stands before white space or the end.
-fn item<'a>(place: Place, mark: u8, number: u64, digits: usize, after: &'a str) -> Start<'a>
+fn item<'a>(place: Place, mark: u8, number: u32, digits: usize, after: &'a str) -> Start<'a>
     ensures { as_start result ≡ grammar.item_if (as_place place) mark number digits after.now }
 {
     if is_apart(after) && may_interrupt(place, after, number) {
@@ -73,47 +74,12 @@ fn item<'a>(place: Place, mark: u8, number: u64, digits: usize, after: &'a str) 
     }
 }
 
-fn may_interrupt(place: Place, after: &str, number: u64) -> bool
+fn may_interrupt(place: Place, after: &str, number: u32) -> bool
     ensures { result ≡ grammar.may_interrupt (as_place place) (lines.is_blank after.now) number }
 {
     match place {
         Place::Fresh => true,
         Place::Beside => true,
-        Place::Paragraph { .. } => !is_blank(after) && number == 1,
-    }
-}
-
-// The number that at most nine digits spell.
-fn number(digits: &[u8]) -> u64
-    requires few { length digits.now ≤ 9 }
-    ensures { result ≡ number_in 10 0 digits.now }
-{
-    let mut value = 0;
-    let mut i = 0;
-    while i < digits.len() {
-        value = value * 10 + digit(digits[i]);
-        i += 1;
-    }
-    value
-}
-
-fn digit(c: u8) -> u64
-    ensures value { result ≡ digit_value c }
-    ensures small { result ≤ 36 }
-{
-    if c < 48 {
-        36
-    } else if c < 58 {
-        c as u64 - 48
-    } else if c < 65 {
-        36
-    } else if c < 91 {
-        c as u64 - 55
-    } else if c < 97 {
-        36
-    } else if c < 123 {
-        c as u64 - 87
-    } else {
-        36
+        Place::Paragraph { .. } => !is_blank(after.as_bytes()) && number == 1,
     }
 }

@@ -41,7 +41,7 @@ pub enum Start<'a> {
     /// the mark has.
     Item {
         mark: char,
-        number: u64,
+        number: u32,
         digits: usize,
     },
     Indented,

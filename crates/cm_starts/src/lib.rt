@@ -25,7 +25,7 @@ pub use items::list_mark;
 pub use kinds::{Place, Start};
 pub use starts::line_start;
 pub use tags::{closing_tag, open_tag};
-pub use texts::{run, trim};
+pub use texts::{is_blank, run, trim};
 
 #[cfg(test)]
 mod tests;

@@ -20,7 +20,7 @@ fn headed(number: usize, text: &str) -> Start<'_> {
     }
 }
 
-fn numbered(mark: char, number: u64, digits: usize) -> Start<'static> {
+fn numbered(mark: char, number: u32, digits: usize) -> Start<'static> {
     Start::Item {
         mark,
         number,
@@ -101,11 +101,11 @@ fn fences_are_told(rt: HostRuntime) -> Result<(), Fail> {
     told(&rt, &fence(2, "``` aa ```"), &Start::Text)?;
     told(&rt, &fence(2, "``"), &Start::Text)?;
     told(&rt, &fence(2, ""), &Start::Text)?;
-    assert!(rt; closes_fence(b'`', 3, 3, "```` "));
-    assert!(rt; !closes_fence(b'`', 3, 4, "```"));
-    assert!(rt; !closes_fence(b'`', 3, 0, "``"));
-    assert!(rt; !closes_fence(b'`', 3, 0, "``` a"));
-    assert!(rt; !closes_fence(b'`', 3, 0, "~~~"));
+    assert!(rt; closes_fence('`', 3, 3, "```` "));
+    assert!(rt; !closes_fence('`', 3, 4, "```"));
+    assert!(rt; !closes_fence('`', 3, 0, "``"));
+    assert!(rt; !closes_fence('`', 3, 0, "``` a"));
+    assert!(rt; !closes_fence('`', 3, 0, "~~~"));
     Ok(())
 }
 
