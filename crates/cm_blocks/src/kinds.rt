@@ -2,6 +2,7 @@
 use crate::leaf_lines::LeafLines;
 use cm_containers::Container;
 use cm_starts::HeadingLevel;
+use markdown_grammar::HtmlKind;
 use site_base::Text;
 
 /// A leaf block with what decides whether it takes one more line. CommonMark 0.31.2, section 4.
@@ -35,7 +36,7 @@ pub enum Leaf {
         is_closed: bool,
     },
     Html {
-        kind: u32,
+        kind: HtmlKind,
         text: LeafLines,
         is_closed: bool,
     },

@@ -1,5 +1,5 @@
 // Leaves that take one more line.
-ghost use Rattle.std.specs.Prelude.{◌≡◌, ◌&&◌, false, IfOk, IfSome, option_map, nat_lt, not};
+ghost use Rattle.std.specs.Prelude.{◌≡◌, ◌&&◌, false, IfOk, IfSome, option_map, not};
 ghost use Rattle.markdown_grammar.specs.Definitions.{after_definitions, front_definition};
 ghost use Rattle.markdown_grammar.specs.Fences as fences;
 ghost use Rattle.markdown_grammar.specs.HtmlStarts as html;
@@ -19,6 +19,7 @@ use crate::leaf_lines::LeafLines;
 use cm_containers::{Spot, behind_white, shift};
 use cm_links::definition;
 use cm_starts::{HeadingLevel, Place, Start, closes_fence, is_blank, line_start};
+use markdown_grammar::HtmlKind;
 use site_base::{Memory, Text};
 use std::alloc::Global;
 
@@ -176,8 +177,8 @@ fn code_taken(
     }))
 }
 
-// HTML: up to a line that ends it, or, of kinds 6 and 7, before a blank line.
-fn html_taken(kind: u32, text: LeafLines, line: &str, spot: Spot) -> Result<Taken, Memory>
+// HTML: up to a line that ends it, or before a blank line, by its kind.
+fn html_taken(kind: HtmlKind, text: LeafLines, line: &str, spot: Spot) -> Result<Taken, Memory>
     requires { IsSpot line.now spot }
     ensures { IfOk result (IsTaken (html_on kind text false (text_at line.now spot)) (leaf.Html kind text false)) }
 {
@@ -198,16 +199,22 @@ fn html_taken(kind: u32, text: LeafLines, line: &str, spot: Spot) -> Result<Take
 }
 
 // Whether a line ends the block before it.
-fn ends_before(kind: u32, line: &str, spot: Spot) -> bool
+fn ends_before(kind: HtmlKind, line: &str, spot: Spot) -> bool
     requires { IsSpot line.now spot }
-    ensures { result ≡ (nat_lt 5 kind && lines.is_blank (text_at line.now spot)) }
+    ensures { result ≡ (html.ends_at_blank kind && lines.is_blank (text_at line.now spot)) }
 {
     let white = behind_white(line, spot);
-    kind > 5 && white.at == line.len()
+    ends_at_blank(kind) && white.at == line.len()
+}
+
+fn ends_at_blank(kind: HtmlKind) -> bool
+    ensures { result ≡ html.ends_at_blank kind }
+{
+    matches!(kind, HtmlKind::Listed | HtmlKind::Lone)
 }
 
 /// Whether the rest of a line ends a block of HTML.
-pub(crate) fn ends_html_rest(kind: u32, line: &str, spot: Spot) -> bool
+pub(crate) fn ends_html_rest(kind: HtmlKind, line: &str, spot: Spot) -> bool
     requires { IsSpot line.now spot }
     ensures { result ≡ html.ends_html kind (text_at line.now spot) }
 {

@@ -1,13 +1,15 @@
 // The marks of list items.
-ghost use Rattle.std.specs.Prelude.{◌≡◌};
+ghost use Rattle.std.specs.Prelude.{◌≡◌, IfSome, is_some};
 ghost use Rattle.markdown_grammar.specs.Bytes as bytes;
 ghost use Rattle.markdown_grammar.specs.Fronts.{run_len};
 ghost use Rattle.markdown_grammar.specs.Lines as lines;
 ghost use Rattle.markdown_grammar.specs.ListMarks as grammar;
 ghost use Rattle.cm_starts.specs.Answers.{as_place, as_start};
+ghost use Rattle.cm_starts.specs.Marks.{mark_byte};
 ghost use Rattle.cm_starts.specs.Runs.{is_bullet_mark, is_delimiter_mark, ordered_at};
 
 use crate::kinds::{Place, Start};
+use crate::list_marks::ListMark;
 use crate::texts::{digits, is_apart, is_blank};
 
 /// The list item that a line starts, by its text behind the white space in front, or `Text` where it
@@ -21,23 +23,34 @@ pub fn list_mark<'a>(place: Place, text: &'a str) -> Start<'a>
     if bytes.len() == 0 {
         return Start::Text;
     }
-    let c = bytes[0];
-    if is_bullet(c) {
-        return item(place, c, 1, 0, &text[1..]);
+    match bullet(bytes[0]) {
+        Some(mark) => item(place, mark, 1, 0, &text[1..]),
+        None => ordered(place, text),
     }
-    ordered(place, text)
 }
 
-fn is_bullet(c: u8) -> bool
-    ensures { result ≡ is_bullet_mark c }
+fn bullet(c: u8) -> Option<ListMark>
+    ensures some { is_some result ≡ is_bullet_mark c }
+    ensures same { IfSome result (λ mark. mark_byte mark ≡ c) }
 {
-    c == b'+' || c == b'-' || c == b'*'
+    match c {
+        b'+' => Some(ListMark::Plus),
+        b'-' => Some(ListMark::Hyphen),
+        b'*' => Some(ListMark::Star),
+        _ => None,
+    }
 }
 
-fn is_delimiter(c: u8) -> bool
-    ensures { result ≡ is_delimiter_mark c }
+// What may stand behind a number.
+fn delimiter(c: u8) -> Option<ListMark>
+    ensures some { is_some result ≡ is_delimiter_mark c }
+    ensures same { IfSome result (λ mark. mark_byte mark ≡ c) }
 {
-    c == b'.' || c == b')'
+    match c {
+        b'.' => Some(ListMark::FullStop),
+        b')' => Some(ListMark::Parenthesis),
+        _ => None,
+    }
 }
 
 // An item with a number.
@@ -48,11 +61,9 @@ fn ordered<'a>(place: Place, text: &'a str) -> Start<'a>
     if n == 0 || n > 9 || n == text.len() {
         return Start::Text;
     }
-    let bytes = text.as_bytes();
-    let mark = bytes[n];
-    if !is_delimiter(mark) {
+    let Some(mark) = delimiter(text.as_bytes()[n]) else {
         return Start::Text;
-    }
+    };
     match text[..n].parse() {
         Ok(number) => item(place, mark, number, n, &text[n + 1..]),
         Err(_) => Start::Text,
@@ -60,12 +71,12 @@ fn ordered<'a>(place: Place, text: &'a str) -> Start<'a>
 }
 
 // An item whose mark stands before white space or the end.
-fn item<'a>(place: Place, mark: u8, number: u32, digits: usize, after: &'a str) -> Start<'a>
-    ensures { as_start result ≡ grammar.item_if (as_place place) mark number digits after.now }
+fn item<'a>(place: Place, mark: ListMark, number: u32, digits: usize, after: &'a str) -> Start<'a>
+    ensures { as_start result ≡ grammar.item_if (as_place place) (mark_byte mark) number digits after.now }
 {
     if is_apart(after) && may_interrupt(place, after, number) {
         Start::Item {
-            mark: mark as char,
+            mark,
             number,
             digits,
         }
