@@ -1,0 +1,4 @@
+pub mod Keys
+pub mod SameKeys
+pub mod Queries
+pub mod Records
