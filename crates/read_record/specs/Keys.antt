@@ -1,8 +1,9 @@
 -- Which keys are the same.
-use Rattle.std.specs.Prelude.{ℕ, Bool, ◌&&◌, eqb, List, []}
+use Rattle.std.specs.Prelude.{ℕ, Bool, true, false, ◌&&◌, eqb, List, [], ◌∷◌, ◌++◌}
+use Rattle.std.specs.Hash as fed
 use Rattle.std.specs.Str.{bytes_eq}
 use Rattle.site_base.specs.Code.{code}
-use Rattle.site_base.specs.Plain.{list, Items, no_items}
+use Rattle.site_base.specs.Plain.{text, list, Items, no_items, item}
 use Rattle.site_base.specs.declared.item_name.ItemName.{ItemName}
 use Rattle.read_record.specs.declared.key.Key.{Key}
 use Rattle.read_record.specs.declared.key.Key.TheVariants.{Source, Content, Output, Var, Paginator, SiteVar, Data, Layout, Include, File, Link, Post, Moment}
@@ -39,8 +40,12 @@ parts_of (Link path) = of_text 10 path
 parts_of (Post x) = of_text 11 x
 parts_of Moment = of_text 12 []
 
+-- the lists are the same
 abbrev pub same_items : Items → Items → Bool
-same_items a b = bytes_eq (code (list a)) (code (list b))
+same_items no_items no_items = true
+same_items no_items (item w js) = false
+same_items (item v is) no_items = false
+same_items (item v is) (item w js) = bytes_eq (code (list (item v is))) (code (list (item w js)))
 
 abbrev pub same_parts : Parts → Parts → Bool
 same_parts a b = eqb a.kind b.kind && (bytes_eq a.path b.path && (eqb a.part b.part && (bytes_eq a.words b.words && same_items a.keys b.keys)))
@@ -48,3 +53,13 @@ same_parts a b = eqb a.kind b.kind && (bytes_eq a.path b.path && (eqb a.part b.p
 -- the keys are the same
 abbrev pub same_key : Key → Key → Bool
 same_key a b = same_parts (parts_of a) (parts_of b)
+
+-- the texts of a list
+abbrev pub item_writes : Items → List (List ℕ)
+item_writes no_items = []
+item_writes (item (text s) is) = s ∷ item_writes is
+item_writes (item v is) = item_writes is
+
+-- what of a key is fed to a hasher
+abbrev pub key_writes : Key → List (List ℕ)
+key_writes k = let p = parts_of k in fed.u8 p.kind ++ (p.path ∷ (fed.u32 p.part ++ (p.words ∷ item_writes p.keys)))

@@ -2,3 +2,8 @@ pub mod Keys
 pub mod SameKeys
 pub mod Queries
 pub mod Records
+pub mod Outcomes
+pub mod Worlds
+pub mod Answers
+pub mod Entries
+pub mod Traces

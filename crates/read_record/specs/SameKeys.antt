@@ -1,17 +1,17 @@
 -- That the test of keys tells equality.
-use Rattle.std.specs.Prelude.{◌≡◌, ℕ, zero, suc, Bool, true, false, ◌&&◌, refl}
+use Rattle.std.specs.Prelude.{◌≡◌, ℕ, zero, suc, Bool, true, false, ◌&&◌, refl, IsTrue}
 use Rattle.std.specs.Bool.{Decides}
 use Rattle.std.specs.Cmp.{IsEquivalence, decided}
 use Rattle.std.proofs.Common.{sym, ap, ◌∙◌}
 use Rattle.std.proofs.lemmas.Slice.Eq.{bytes_eq-Decides}
 use Rattle.std.proofs.lemmas.Bool.Decides.{Decides-eqb}
 use Rattle.site_base.specs.Code.{code}
-use Rattle.site_base.specs.Plain.{Plain, list, Items, no_items}
+use Rattle.site_base.specs.Plain.{Plain, list, Items, no_items, item}
 use Rattle.site_base.specs.declared.item_name.ItemName.{ItemName}
 use Rattle.site_base.proofs.CodeLaws.{code-injective}
 use Rattle.read_record.specs.declared.key.Key.{Key}
 use Rattle.read_record.specs.declared.key.Key.TheVariants.{Source, Content, Output, Var, Paginator, SiteVar, Data, Layout, Include, File, Link, Post, Moment}
-use Rattle.read_record.specs.Keys.{Parts, parts_of, same_items, same_parts, same_key}
+use Rattle.read_record.specs.Keys.{Parts, parts_of, same_items, same_parts, same_key, key_writes}
 
 name_of : Parts → ItemName
 name_of p = record { path = p.path; part = p.part }
@@ -64,7 +64,17 @@ first_list _ = no_items
 
 same_items-eq : (a b : Items) → same_items a b ≡ true → a ≡ b
 unfolding first_list
-same_items-eq a b h = ap first_list (code-injective (list a) (list b) ((bytes_eq-Decides (code (list a)) (code (list b))).0 h))
+same_items-eq no_items no_items h = refl
+same_items-eq no_items (item w js) h = cc
+same_items-eq (item v is) no_items h = cc
+same_items-eq (item v is) (item w js) h = ap first_list (code-injective (list (item v is)) (list (item w js)) ((bytes_eq-Decides (code (list (item v is))) (code (list (item w js)))).0 h))
+
+pub same_items-refl : (a : Items) → same_items a a ≡ true
+same_items-refl no_items = refl
+same_items-refl (item v is) = (bytes_eq-Decides (code (list (item v is))) (code (list (item v is)))).1 refl
+
+pub same_items-Decides : (a b : Items) → Decides (same_items a b) (a ≡ b)
+same_items-Decides a b = (same_items-eq a b, λ e. ap (λ k. same_items a k) (sym e) ∙ same_items-refl a)
 
 same_parts-eq : (a b : Parts) → same_parts a b ≡ true → a ≡ b
 same_parts-eq a b h =
@@ -85,7 +95,7 @@ same_key-eq a b h = sym (key_of-parts a) ∙ ap key_of (same_parts-eq (parts_of 
 same_parts-refl : (a : Parts) → same_parts a a ≡ true
 same_parts-refl a =
     rw ((Decides-eqb a.kind a.kind).1 refl, (bytes_eq-Decides a.path a.path).1 refl, (Decides-eqb a.part a.part).1 refl, (bytes_eq-Decides a.words a.words).1 refl)
-    ((bytes_eq-Decides (code (list a.keys)) (code (list a.keys))).1 refl)
+    (same_items-refl a.keys)
 
 pub same_key-refl : (a : Key) → same_key a a ≡ true
 same_key-refl a = same_parts-refl (parts_of a)
@@ -95,3 +105,6 @@ same_key-Decides a b = (same_key-eq a b, λ e. ap (λ k. same_key a k) (sym e) �
 
 pub same_key-equiv : IsEquivalence same_key
 same_key-equiv = decided same_key same_key-Decides
+
+pub key_writes-same : (a b : Key) → IsTrue (same_key a b) → key_writes a ≡ key_writes b
+key_writes-same a b h = ap key_writes (same_key-eq a b h)

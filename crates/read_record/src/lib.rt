@@ -2,8 +2,26 @@
 //! render that was kept still tells what rendering anew would give.
 #![tactic(auto)]
 
+mod checking;
+mod entry;
 mod key;
+mod look;
 mod outcome;
+mod record;
+mod recorder;
+mod renderer;
+mod seen_code;
+mod tally;
+mod traced;
+mod world;
 
+pub use checking::check;
+pub use entry::Entry;
 pub use key::Key;
+pub use look::{Answer, Look};
 pub use outcome::{Agreement, Checked, Outcome};
+pub use record::Record;
+pub use renderer::{ItemMeaning, Rendered, Renderer};
+pub use tally::Tally;
+pub use traced::{Traced, render_traced};
+pub use world::{Finished, World};

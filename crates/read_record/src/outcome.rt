@@ -1,5 +1,8 @@
 // How the rendering of an item ends, and whether what was seen is still there.
-use site_base::{SiteFault, Text};
+ghost use Rattle.std.specs.Prelude.{◌≡◌, IfOk};
+
+use site_base::{Memory, SiteFault, Text};
+use std::alloc::Global;
 
 /// How the rendering of an item ends.
 #[derive(Drop)]
@@ -12,6 +15,31 @@ pub enum Outcome {
     },
     /// The item's first fault.
     Fault(SiteFault),
+}
+
+impl Outcome {
+    /// An equal outcome. Of texts that can be shared it is a further holder.
+    pub fn copy(&self, alloc: Global) -> Result<Outcome, Memory>
+        ensures { IfOk result (λ outcome. outcome ≡ self.now) }
+    {
+        match self {
+            Outcome::Done { content, output } => Ok(Outcome::Done {
+                content: content.share(alloc)?,
+                output: output.share(alloc)?,
+            }),
+            Outcome::Fault(fault) => Ok(Outcome::Fault(copy_fault(alloc, fault)?)),
+        }
+    }
+}
+
+fn copy_fault(alloc: Global, fault: &SiteFault) -> Result<SiteFault, Memory>
+    ensures { IfOk result (λ copy. copy ≡ fault.now) }
+{
+    Ok(SiteFault {
+        path: fault.path.copy(alloc)?,
+        line: fault.line,
+        kind: fault.kind,
+    })
 }
 
 /// Whether a look-up still gives what was seen.
