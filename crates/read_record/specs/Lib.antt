@@ -7,3 +7,4 @@ pub mod Worlds
 pub mod Answers
 pub mod Entries
 pub mod Traces
+pub mod Forms

@@ -1,6 +1,7 @@
 // Look-ups.
 ghost use Rattle.std.specs.Prelude.{◌≡◌};
 ghost use Rattle.read_record.specs.Queries.{View, Trace};
+ghost use Rattle.read_record.specs.Forms.{IsFormed};
 ghost use Rattle.read_record.specs.Answers.{IsNoted};
 
 use crate::Key;
@@ -26,4 +27,7 @@ pub trait Look {
     fn look(&mut self, alloc: Global, key: &Key) -> Answer
         ensures same { view self.new ≡ view self.old }
         ensures noted { IsNoted (view self.old key.now) key.now (trace self.old) result (trace self.new) };
+
+    // What a key gives has the key's form.
+    ghost formed: { (look : Self) → IsFormed (view look) };
 }

@@ -42,6 +42,8 @@ impl<'a, W: World, F: Finished> Look for Recorder<'a, W, F> {
 
     ghost trace = { λ s. Some s.reads };
 
+    ghost formed = { λ s. W.formed s.world.now s.reader (F.outcomes s.outs.now) };
+
     fn look(&mut self, alloc: Global, key: &Key) -> Answer {
         match self.world.look(alloc, self.reader, key, self.outs) {
             Answer::Seen(value) => match self.reads.note(alloc, key, &value) {

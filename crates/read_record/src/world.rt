@@ -2,6 +2,7 @@
 ghost use Rattle.std.specs.Prelude.{◌≡◌, ℕ, ◌<◌, List, Option, MatchOption, Some, None, length, slice_get};
 ghost use Rattle.site_base.specs.declared.item_name.ItemName.{ItemName};
 ghost use Rattle.read_record.specs.declared.outcome.Outcome.{Outcome};
+ghost use Rattle.read_record.specs.Forms.{IsFormed};
 ghost use Rattle.read_record.specs.Worlds.{Sight, Lawful};
 ghost use Rattle.read_record.specs.Records.{agreement_of};
 ghost use Rattle.read_record.specs.Answers.{IsReply};
@@ -53,4 +54,7 @@ pub trait World {
     ghost names_differ: { (w : Self) (i j : ℕ) → i < length (names w) → slice_get (names w) i ≡ slice_get (names w) j → i ≡ j };
 
     ghost lawful: { (w : Self) → Lawful (sight w) };
+
+    // What a key gives has the key's form.
+    ghost formed: { (w : Self) (reader : ℕ) (known : ℕ → Option Outcome) → IsFormed (sight w reader known) };
 }
