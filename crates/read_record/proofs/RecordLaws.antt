@@ -12,9 +12,9 @@ use Rattle.read_record.specs.declared.outcome.Agreement.TheVariants as agreement
 use Rattle.read_record.specs.declared.outcome.Checked.TheVariants as checked
 use Rattle.read_record.specs.Keys.{same_key}
 use Rattle.read_record.specs.SameKeys.{same_key-eq}
-use Rattle.read_record.specs.Queries.{Query, Give, Fail, Ask, Reply, Known, Missing, View, on_reply, Met, interpret, Reads, noted, noted_after, run, ran, reads_of}
-use Rattle.read_record.specs.Records.{agreement_of, checked_at, first_other_from, first_other, Seen, coded, recorded, Answers, IsMade, Certifies}
-use Rattle.read_record.proofs.QueryLaws.{agreement, certifies, run_made}
+use Rattle.read_record.specs.Queries.{Query, Give, Fail, Ask, Reply, Known, Missing, View, on_reply, Met, Missed, interpret, Reads, noted, noted_after, run, ran, reads_of}
+use Rattle.read_record.specs.Records.{agreement_of, checked_at, first_other_from, first_other, Seen, coded, recorded, Answers, IsMade, Certifies, Misses}
+use Rattle.read_record.proofs.QueryLaws.{agreement, agreement-missed, certifies, run_made}
 
 -- the reply is the value of this code
 abbrev pub Gives : Reply → List ℕ → Type 0
@@ -53,6 +53,12 @@ carried {F} {A} reads view h q m c =
     let there : first_other_from 0 (coded c.seen) view ≡ checked.Agrees = rw (c.are) h in
     let made : IsMade {F = F} {A = A} (interpret (recorded c.seen) q) = rw (c.shows.gives) c.shows.made in
     agreement c.seen view (agrees-answers c.seen view 0 there) q made ∙ c.shows.gives
+
+-- and where the record misses a key that the view misses too, it is what the query misses over the view
+pub carried-missed : {F A : Type 0} (reads : Reads) (view : View) → first_other reads view ≡ checked.Agrees → (q : Query F A) (k : Key) (j : ℕ) → Misses reads q k → view k ≡ Missing j → interpret view q ≡ Missed k j
+carried-missed {F} {A} reads view h q k j m g =
+    let there : first_other_from 0 (coded m.seen) view ≡ checked.Agrees = rw (m.are) h in
+    agreement-missed m.seen view (agrees-answers m.seen view 0 there) q k j m.misses g
 
 -- ---- the reads of a run agree with its view
 

@@ -1,5 +1,5 @@
 -- Which values a look-up of a key may give.
-use Rattle.std.specs.Prelude.{◌≡◌, ℕ, ℤ, pos, negsuc, Bool, true, false, ◌&&◌, is_none, nat_le, codes, Option, Some, None, IsTrue}
+use Rattle.std.specs.Prelude.{◌≡◌, pos, Bool, true, false, ◌&&◌, is_none, nat_le, codes, Option, Some, IsTrue}
 use Rattle.site_base.specs.Path.{path_refusal}
 use Rattle.site_base.specs.Plain.{Plain, nil, text, hash, int, get}
 use Rattle.read_record.specs.declared.key.Key.{Key}

@@ -8,3 +8,4 @@ pub mod Answers
 pub mod Entries
 pub mod Traces
 pub mod Forms
+pub mod Samples

@@ -72,3 +72,9 @@ module _ {F A : Type 0} where
     pub seen : Seen
     pub are : coded seen ≡ reads
     pub shows : Shows seen q m
+
+  -- what was seen alone misses this key
+  pub record Misses (reads : Reads) (q : Query F A) (k : Key) : Type 0 where
+    pub seen : Seen
+    pub are : coded seen ≡ reads
+    pub misses : missed_key (interpret (recorded seen) q) ≡ Some k

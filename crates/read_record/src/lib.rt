@@ -25,3 +25,6 @@ pub use renderer::{ItemMeaning, Rendered, Renderer};
 pub use tally::Tally;
 pub use traced::{Traced, render_traced};
 pub use world::{Finished, World};
+
+#[cfg(test)]
+mod tests;
