@@ -1,0 +1,6 @@
+pub mod KeyLaws
+pub mod SeenLaws
+pub mod QueryLaws
+pub mod RecordLaws
+pub mod PlaceLaws
+pub mod TraceLaws

@@ -1,0 +1,7 @@
+use Rattle.std.proofs.Common.{◌≡◌, drop}
+use Rattle.read_record.specs.Records.{first_other_from}
+use Rattle.read_record.proofs.checking.check.Given as goal
+
+abbrev pub invariant-loop-place : goal.invariant-loop-place
+invariant-loop-place g l =
+    (let view = g.W.World.sight l.world l.reader (g.F.Finished.outcomes l.outs) in first_other_from 0 l.reads view ≡ first_other_from l.place (drop l.place l.reads) view)

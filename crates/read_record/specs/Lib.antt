@@ -1,0 +1,11 @@
+pub mod Keys
+pub mod SameKeys
+pub mod Queries
+pub mod Records
+pub mod Outcomes
+pub mod Worlds
+pub mod Answers
+pub mod Entries
+pub mod Traces
+pub mod Forms
+pub mod Samples
