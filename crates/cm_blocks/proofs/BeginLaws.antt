@@ -6,11 +6,12 @@ use Rattle.markdown_grammar.specs.Containers as grammar
 use Rattle.markdown_grammar.specs.Extents.{Opening, OpensLight, opens_container, opens_leaf, opens_nothing}
 use Rattle.markdown_grammar.specs.Leaves as leaves
 use Rattle.markdown_grammar.proofs.LightRules.{light}
-use Rattle.cm_blocks.specs.declared.kinds.Container.{Container}
-use Rattle.cm_blocks.specs.declared.kinds.Container.TheVariants.{Item, Quote}
+use Rattle.cm_containers.specs.declared.kinds.Container.{Container}
+use Rattle.cm_containers.specs.declared.kinds.Container.TheVariants.{Item, Quote}
 use Rattle.cm_blocks.specs.Flat.{Flat, begin, begin_by, begun, opened}
 use Rattle.cm_blocks.specs.Opening.{IsSimple, leaf_in}
-use Rattle.cm_blocks.specs.Tokens.{as_container, container_of}
+use Rattle.cm_containers.specs.Answers.{as_container}
+use Rattle.cm_blocks.specs.Tokens.{container_of}
 use Rattle.cm_blocks.specs.Walks.{put_in}
 
 any_fuel : (n k : ℕ) (f : Flat) (l : Line) → line_weight l < n → line_weight l < k → begin_by n f l ≡ begin_by k f l

@@ -1,22 +1,15 @@
 -- Containers closed one after another, the innermost first.
 use Rattle.std.proofs.Common.{List, [], ap, append_assoc, arith, drop, get_or, length, refl, suc, sym, take, zero, ℕ, ◌++◌, ◌-◌, ◌<◌, ◌∙◌, ◌∷◌, ◌≡◌, ◌≤◌}
 use Rattle.std.proofs.lemmas.List.{append-nil}
-use Rattle.cm_blocks.specs.declared.kinds.Container.{Container}
+use Rattle.cm_containers.specs.declared.kinds.Container.{Container}
 use Rattle.cm_blocks.specs.declared.kinds.Token.{Token}
 use Rattle.cm_blocks.specs.declared.kinds.Token.TheVariants.{Closes}
+use Rattle.cm_containers.proofs.QuoteLaws.{inner_more, take_all}
 use Rattle.cm_blocks.specs.Flat.{closes}
 
 closes_last : (ks : List Container) (k : Container) → closes (ks ++ k ∷ []) ≡ Closes k ∷ closes ks
 closes_last [] k = refl
 closes_last (j ∷ ks) k = ap (λ (ts : List Token). ts ++ Closes j ∷ []) (closes_last ks k)
-
--- one more at the end of the inner ones
-pub inner_more : (n i : ℕ) (ks : List Container) (d : Container) → n ≤ i → i < length ks → drop n (take (suc i) ks) ≡ drop n (take i ks) ++ get_or ks i d ∷ []
-inner_more n i [] d le lt = absurd (omega (arith, lt))
-inner_more zero zero (k ∷ ks) d le lt = refl
-inner_more zero (suc i) (k ∷ ks) d le lt = ap (λ (ts : List Container). k ∷ ts) (inner_more zero i ks d (omega arith) (omega (arith, lt)))
-inner_more (suc n) zero (k ∷ ks) d le lt = absurd (omega (arith, le))
-inner_more (suc n) (suc i) (k ∷ ks) d le lt = inner_more n i ks d (omega (arith, le)) (omega (arith, lt))
 
 pub closes_one : (n i : ℕ) (ks : List Container) (d : Container) (ts us whole : List Token) → n < i → i ≤ length ks → us ≡ ts ++ Closes (get_or ks (i - 1) d) ∷ [] → ts ++ closes (drop n (take i ks)) ≡ whole
     → us ++ closes (drop n (take (i - 1) ks)) ≡ whole
@@ -25,10 +18,6 @@ closes_one n i ks d ts us whole lt le e w =
     ap (λ (xs : List Token). xs ++ closes (drop n (take (i - 1) ks))) e ∙ append_assoc ts (Closes (get_or ks (i - 1) d) ∷ []) (closes (drop n (take (i - 1) ks)))
     ∙ ap (λ (xs : List Token). ts ++ xs) (sym (closes_last (drop n (take (i - 1) ks)) (get_or ks (i - 1) d)))
     ∙ ap (λ (xs : List Container). ts ++ closes xs) (sym (inner_more n (i - 1) ks d (omega (arith, lt)) (omega (arith, lt, le)))) ∙ ap (λ (j : ℕ). ts ++ closes (drop n (take j ks))) next ∙ w
-
-pub take_all : (ks : List Container) → take (length ks) ks ≡ ks
-take_all [] = refl
-take_all (k ∷ ks) = ap (λ (ts : List Container). k ∷ ts) (take_all ks)
 
 pub closes_first : (n : ℕ) (ks : List Container) (ts : List Token) → ts ++ closes (drop n (take (length ks) ks)) ≡ ts ++ closes (drop n ks)
 closes_first n ks ts = ap (λ (xs : List Container). ts ++ closes (drop n xs)) (take_all ks)

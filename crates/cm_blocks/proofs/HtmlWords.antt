@@ -5,6 +5,8 @@ use Rattle.markdown_grammar.specs.Bytes.{lowered}
 use Rattle.markdown_grammar.specs.Columns.{tab_width}
 use Rattle.markdown_grammar.specs.Fronts.{begins_with, has}
 use Rattle.markdown_grammar.specs.HtmlStarts.{ends_html}
+use Rattle.markdown_grammar.specs.declared.html_kind.HtmlKind.{HtmlKind}
+use Rattle.markdown_grammar.specs.declared.html_kind.HtmlKind.TheVariants.{Cdata, Comment, Declaration, Instruction, Listed, Lone, Verbatim}
 use Rattle.markdown_grammar.specs.Readers.{plus, to}
 use Rattle.cm_containers.specs.Spots.{IsSpot, text_at}
 use Rattle.cm_containers.specs.declared.spots.Spot.{Spot}
@@ -72,37 +74,33 @@ here f word text i whole b lt e yes' w = sym (to_front f word text i lt b e ∙ 
 
 -- ---- white space in front ends nothing
 
-abbrev ends_cases : ℕ → (a b c d e f g h : Bool) → Bool
-ends_cases kind a b c d e f g h = cond (kind == 1) (a || (b || (c || d))) (cond (kind == 2) e (cond (kind == 3) f (cond (kind == 4) g (cond (kind == 5) h false))))
+one_of_four : {a b c d e f g h : Bool} → a ≡ e → b ≡ f → c ≡ g → d ≡ h → (a || (b || (c || d))) ≡ (e || (f || (g || h)))
+one_of_four p q r s = cc
 
-same_cases : (kind : ℕ) (a b c d e f g h a' b' c' d' e' f' g' h' : Bool) → a ≡ a' → b ≡ b' → c ≡ c' → d ≡ d' → e ≡ e' → f ≡ f' → g ≡ g' → h ≡ h'
-    → ends_cases kind a b c d e f g h ≡ ends_cases kind a' b' c' d' e' f' g' h'
-same_cases kind a b c d e f g h a' b' c' d' e' f' g' h' p q r s t u v w = cc
+ends_space : (kind : HtmlKind) (t : List ℕ) → ends_html kind (32 ∷ t) ≡ ends_html kind t
+ends_space Verbatim t = one_of_four (has_plus (to (codes "</script>") (lowered t))) (has_plus (to (codes "</pre>") (lowered t))) (has_plus (to (codes "</style>") (lowered t))) (has_plus (to (codes "</textarea>") (lowered t)))
+ends_space Comment t = has_plus (to (codes "-->") t)
+ends_space Instruction t = has_plus (to (codes "?>") t)
+ends_space Declaration t = has_plus (to (codes ">") t)
+ends_space Cdata t = has_plus (to (codes "]]>") t)
+ends_space Listed t = refl
+ends_space Lone t = refl
 
-ends_space : (kind : ℕ) (t : List ℕ) → ends_html kind (32 ∷ t) ≡ ends_html kind t
-ends_space kind t =
-    same_cases kind (has (plus 1 (to (codes "</script>") (lowered t)))) (has (plus 1 (to (codes "</pre>") (lowered t)))) (has (plus 1 (to (codes "</style>") (lowered t)))) (has (plus 1 (to (codes "</textarea>") (lowered t))))
-    (has (plus 1 (to (codes "-->") t))) (has (plus 1 (to (codes "?>") t))) (has (plus 1 (to (codes ">") t))) (has (plus 1 (to (codes "]]>") t)))
-    (has (to (codes "</script>") (lowered t))) (has (to (codes "</pre>") (lowered t))) (has (to (codes "</style>") (lowered t))) (has (to (codes "</textarea>") (lowered t)))
-    (has (to (codes "-->") t)) (has (to (codes "?>") t)) (has (to (codes ">") t)) (has (to (codes "]]>") t))
-    (has_plus (to (codes "</script>") (lowered t))) (has_plus (to (codes "</pre>") (lowered t))) (has_plus (to (codes "</style>") (lowered t))) (has_plus (to (codes "</textarea>") (lowered t)))
-    (has_plus (to (codes "-->") t)) (has_plus (to (codes "?>") t)) (has_plus (to (codes ">") t)) (has_plus (to (codes "]]>") t))
+ends_tab : (kind : HtmlKind) (t : List ℕ) → ends_html kind (9 ∷ t) ≡ ends_html kind t
+ends_tab Verbatim t = one_of_four (has_plus (to (codes "</script>") (lowered t))) (has_plus (to (codes "</pre>") (lowered t))) (has_plus (to (codes "</style>") (lowered t))) (has_plus (to (codes "</textarea>") (lowered t)))
+ends_tab Comment t = has_plus (to (codes "-->") t)
+ends_tab Instruction t = has_plus (to (codes "?>") t)
+ends_tab Declaration t = has_plus (to (codes ">") t)
+ends_tab Cdata t = has_plus (to (codes "]]>") t)
+ends_tab Listed t = refl
+ends_tab Lone t = refl
 
-ends_tab : (kind : ℕ) (t : List ℕ) → ends_html kind (9 ∷ t) ≡ ends_html kind t
-ends_tab kind t =
-    same_cases kind (has (plus 1 (to (codes "</script>") (lowered t)))) (has (plus 1 (to (codes "</pre>") (lowered t)))) (has (plus 1 (to (codes "</style>") (lowered t)))) (has (plus 1 (to (codes "</textarea>") (lowered t))))
-    (has (plus 1 (to (codes "-->") t))) (has (plus 1 (to (codes "?>") t))) (has (plus 1 (to (codes ">") t))) (has (plus 1 (to (codes "]]>") t)))
-    (has (to (codes "</script>") (lowered t))) (has (to (codes "</pre>") (lowered t))) (has (to (codes "</style>") (lowered t))) (has (to (codes "</textarea>") (lowered t)))
-    (has (to (codes "-->") t)) (has (to (codes "?>") t)) (has (to (codes ">") t)) (has (to (codes "]]>") t))
-    (has_plus (to (codes "</script>") (lowered t))) (has_plus (to (codes "</pre>") (lowered t))) (has_plus (to (codes "</style>") (lowered t))) (has_plus (to (codes "</textarea>") (lowered t)))
-    (has_plus (to (codes "-->") t)) (has_plus (to (codes "?>") t)) (has_plus (to (codes ">") t)) (has_plus (to (codes "]]>") t))
-
-ends_spaces : (kind n : ℕ) (t : List ℕ) → ends_html kind (replicate n 32 ++ t) ≡ ends_html kind t
+ends_spaces : (kind : HtmlKind) (n : ℕ) (t : List ℕ) → ends_html kind (replicate n 32 ++ t) ≡ ends_html kind t
 ends_spaces kind zero t = refl
 ends_spaces kind (suc n) t = ends_space kind (replicate n 32 ++ t) ∙ ends_spaces kind n t
 
 -- a line ends HTML by its bytes from a place on
-pub ends_from : (kind : ℕ) (line : List ℕ) (s : Spot) → IsSpot line s → ends_html kind (drop s.at line) ≡ ends_html kind (text_at line s)
+pub ends_from : (kind : HtmlKind) (line : List ℕ) (s : Spot) → IsSpot line s → ends_html kind (drop s.at line) ≡ ends_html kind (text_at line s)
 ends_from kind line s h = go (nat_lt s.start s.column) refl where
   lt_true : (a b : ℕ) → nat_lt a b ≡ true → a < b
   lt_true a b e = grind (arith, e)

@@ -4,7 +4,8 @@ use Rattle.std.proofs.lemmas.List.{append-nil}
 use Rattle.markdown_grammar.specs.Columns.{Line, indent, lazy_line, line_text, own_line, shifted}
 use Rattle.markdown_grammar.specs.Definitions.{after_definitions}
 use Rattle.markdown_grammar.specs.Fences.{closes_fence}
-use Rattle.markdown_grammar.specs.HtmlStarts.{ends_html}
+use Rattle.markdown_grammar.specs.declared.html_kind.HtmlKind.{HtmlKind}
+use Rattle.markdown_grammar.specs.HtmlStarts.{ends_at_blank, ends_html}
 use Rattle.markdown_grammar.specs.Leaves as grammar
 use Rattle.markdown_grammar.specs.Lines.{ended_lines, is_blank, joined_lines, trim_front}
 use Rattle.markdown_grammar.specs.LineStarts.{start_of}
@@ -80,9 +81,9 @@ fence_is i mark len info xs false col t = go (closes_fence mark len col t) where
   go true = refl
   go false = ap (λ (u : List ℕ). Some (Fenced i mark len info u false)) (one_ended xs (line_text (shifted i col t)))
 
-html_is : (kind : ℕ) (xs : List (List ℕ)) (closed : Bool) (t : List ℕ) → html_on kind (ended_lines xs) closed t ≡ option_map leaf_of (grammar.html_more kind xs closed t)
+html_is : (kind : HtmlKind) (xs : List (List ℕ)) (closed : Bool) (t : List ℕ) → html_on kind (ended_lines xs) closed t ≡ option_map leaf_of (grammar.html_more kind xs closed t)
 html_is kind xs true t = refl
-html_is kind xs false t = go (nat_lt 5 kind && is_blank t) (ends_html kind t) where
+html_is kind xs false t = go (ends_at_blank kind && is_blank t) (ends_html kind t) where
   go : (b e : Bool) → cond b None (Some (Html kind (ended_lines xs ++ ended t) e)) ≡ option_map leaf_of (cond b None (Some (grammar.html_block kind (xs ++ t ∷ []) e)))
   go true e = refl
   go false e = ap (λ (u : List ℕ). Some (Html kind u e)) (one_ended xs t)

@@ -1,10 +1,8 @@
 -- Leaves that take one more line.
-use Rattle.std.proofs.Common.{Bool, IsUtf8, List, IfSome, None, Option, Some, [], ap, arith, cond, drop, false, length, nat_le, nat_lt, option_map, refl, subst, suc, sym, take, true, zero, ℕ, ◌&&◌, ◌++◌, ◌+◌, ◌-◌, ◌<◌, ◌==◌, ◌∙◌, ◌∷◌, ◌≡◌, ◌≤◌}
+use Rattle.std.proofs.Common.{Bool, IsUtf8, List, IfSome, None, Option, Some, [], ap, arith, cond, drop, false, length, nat_lt, option_map, refl, subst, suc, sym, take, true, zero, ℕ, ◌++◌, ◌+◌, ◌-◌, ◌<◌, ◌∙◌, ◌∷◌, ◌≡◌, ◌≤◌}
 use Rattle.std.specs.Str.{IsCharBoundary}
 use Rattle.std.proofs.lemmas.Str.{IsCharBoundary-after_ascii}
 use Rattle.markdown_grammar.specs.Columns.{indent}
-use Rattle.markdown_grammar.specs.Fences.{closes_fence}
-use Rattle.markdown_grammar.specs.Fronts.{run_len}
 use Rattle.markdown_grammar.specs.Lines.{is_blank, trim_front}
 use Rattle.markdown_grammar.specs.Definitions.{Definition, after_definitions, definitions, front_definition, total_size}
 use Rattle.markdown_grammar.proofs.TextRecursions.{definitions_is}
@@ -24,19 +22,8 @@ use Rattle.cm_blocks.specs.declared.kinds.Leaf.TheVariants as leaf
 use Rattle.cm_blocks.specs.declared.leaf_more.Next.{Next}
 use Rattle.cm_blocks.specs.declared.leaf_more.Next.TheVariants.{Other, Text, Underline}
 use Rattle.cm_links.specs.Cuts.{IsFront}
-use Rattle.cm_containers.specs.Spots.{BehindWhite, IsSpot, text_at}
+use Rattle.cm_containers.specs.Spots.{IsSpot}
 use Rattle.cm_containers.specs.declared.spots.Spot.{Spot}
-
-abbrev ending : ℕ → ℕ → List ℕ → Bool → Bool
-ending mark len u near = (near && nat_le len (run_len (λ d. d == mark) u)) && is_blank (drop (run_len (λ d. d == mark) u) u)
-
--- a closing fence, by what stands behind the white space
-pub closing : (mark len : ℕ) (line : List ℕ) (s w : Spot) (r : Bool) → BehindWhite line s w → w.column - s.column < 4
-    → r ≡ (nat_le len (run_len (λ d. d == mark) (drop w.at line)) && is_blank (drop (run_len (λ d. d == mark) (drop w.at line)) (drop w.at line))) → r ≡ closes_fence mark len s.column (text_at line s)
-closing mark len line s w r h near e =
-    let less : indent s.column (text_at line s) < 4 = omega (arith, h.column, near) in
-    let test : nat_lt (indent s.column (text_at line s)) 4 ≡ true = grind (arith, less) in
-    e ∙ ap (λ (u : List ℕ). ending mark len u true) h.rest ∙ ap (ending mark len (trim_front (text_at line s))) (sym test)
 
 -- behind a tab that is taken in part
 pub behind_tab : (line : List ℕ) (s : Spot) → IsUtf8 line → IsSpot line s → s.start < s.column → IsCharBoundary line (s.at + 1)

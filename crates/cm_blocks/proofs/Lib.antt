@@ -8,7 +8,6 @@ mod OpeningLaws
 mod BeginLaws
 mod BreakLaws
 mod ClosingLaws
-mod QuoteLaws
 mod LineLaws
 mod WalkedText
 mod MadeLaws

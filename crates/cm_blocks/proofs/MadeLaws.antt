@@ -12,8 +12,8 @@ use Rattle.markdown_grammar.specs.Leaves as leaves
 use Rattle.markdown_grammar.specs.Lines.{ended_lines, trim}
 use Rattle.markdown_grammar.specs.LinksOf.{leaf_links, links_of}
 use Rattle.markdown_grammar.specs.Lists.{ends_blank, goes_on, has_apart, is_loose, item_blank, leaf_blank, starts_gap}
-use Rattle.cm_blocks.specs.declared.kinds.Container.{Container}
-use Rattle.cm_blocks.specs.declared.kinds.Container.TheVariants.{Item, Quote}
+use Rattle.cm_containers.specs.declared.kinds.Container.{Container}
+use Rattle.cm_containers.specs.declared.kinds.Container.TheVariants.{Item, Quote}
 use Rattle.cm_blocks.specs.declared.kinds.Token.{Token}
 use Rattle.cm_blocks.specs.declared.kinds.Token.TheVariants.{Blank, Closes, Holds, Opens}
 use Rattle.cm_blocks.specs.declared.level.Level.{Level}

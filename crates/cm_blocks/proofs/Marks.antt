@@ -6,6 +6,7 @@ use Rattle.markdown_grammar.specs.Columns.{indent, tab_width}
 use Rattle.markdown_grammar.specs.Fences.{fence_at}
 use Rattle.markdown_grammar.specs.Fronts.{first_byte, is_empty, run_len}
 use Rattle.markdown_grammar.specs.Headings.{atx_at}
+use Rattle.markdown_grammar.specs.declared.html_kind.HtmlKind.TheVariants.{Cdata, Comment, Declaration, Instruction, Listed, Lone, Verbatim}
 use Rattle.markdown_grammar.specs.HtmlStarts.{html_at}
 use Rattle.markdown_grammar.specs.Lines.{is_blank, trim_front}
 use Rattle.markdown_grammar.specs.LineStarts.{mark_at, quote_at, start_of}
@@ -118,7 +119,7 @@ fence_mark i t = go _ _ where
 
 html_mark : (t : List ℕ) → MarkIn t (html_at not_in_paragraph t)
 html_mark t = go _ _ _ _ _ _ _ _ where
-  go : (a b c d e f g h : Bool) → MarkIn t (cond a text_start (cond b (html_start 1) (cond c (html_start 2) (cond d (html_start 3) (cond e (html_start 4) (cond f (html_start 5) (cond g (html_start 6) (cond h (html_start 7) text_start))))))))
+  go : (a b c d e f g h : Bool) → MarkIn t (cond a text_start (cond b (html_start Verbatim) (cond c (html_start Comment) (cond d (html_start Instruction) (cond e (html_start Declaration) (cond f (html_start Cdata) (cond g (html_start Listed) (cond h (html_start Lone) text_start))))))))
   go true b c d e f g h = tt
   go false true c d e f g h = tt
   go false false true d e f g h = tt

@@ -1,7 +1,6 @@
--- How far a line goes into the open containers.
-use Rattle.std.proofs.Common.{Bool, List, None, Option, Some, [], ap, arith, cond, drop, false, get_or, length, nat_le, nat_lt, not, refl, suc, sym, true, zero, ℕ, ◌&&◌, ◌+◌, ◌-◌, ◌<◌, ◌==◌, ◌||◌, ◌≤◌, ◌∙◌, ◌∷◌, ◌≡◌}
-use Rattle.std.proofs.lemmas.List.{drop_more}
-use Rattle.markdown_grammar.specs.Columns.{Line, indent, lazy_line, own_line, shifted}
+-- How far a line goes into the open containers, lazily too.
+use Rattle.std.proofs.Common.{Bool, List, None, Option, Some, [], ap, arith, cond, false, length, nat_le, nat_lt, not, refl, suc, sym, true, ℕ, ◌&&◌, ◌==◌, ◌||◌, ◌∙◌, ◌∷◌, ◌≡◌}
+use Rattle.markdown_grammar.specs.Columns.{Line, indent, lazy_line, line_text, own_line}
 use Rattle.markdown_grammar.specs.Containers as grammar
 use Rattle.markdown_grammar.specs.Extents.{Entry, goes_in, goes_in_if_filled, goes_in_if_open, stays_out}
 use Rattle.markdown_grammar.specs.Fronts.{is_empty}
@@ -10,85 +9,18 @@ use Rattle.markdown_grammar.specs.Lines.{is_blank, trim_front}
 use Rattle.markdown_grammar.specs.Matching.{Matched, one_more_kept}
 use Rattle.markdown_grammar.specs.Places.{beside_paragraph}
 use Rattle.markdown_grammar.specs.Starts.{Start, atx_start, blank_start, break_start, fence_start, html_start, indented_start, item_start, quote_start, text_start, underline_start}
-use Rattle.cm_containers.specs.Spots.{kept_line, rest_at, text_at}
-use Rattle.cm_containers.specs.declared.spots.Spot.{Spot}
-use Rattle.cm_containers.proofs.Walking.{more_kept}
-use Rattle.cm_blocks.specs.declared.kinds.Container.{Container}
-use Rattle.cm_blocks.specs.declared.kinds.Container.TheVariants.{Item, Quote}
-use Rattle.cm_blocks.specs.declared.reaching.Reach.{Reach}
-use Rattle.cm_blocks.specs.Flat.{enters, line_when, reached}
-use Rattle.cm_blocks.specs.Quoted.{up_to_quote, with_outer}
-use Rattle.cm_blocks.specs.Reaching.{is_text, kept_by, reach_of}
-use Rattle.cm_blocks.specs.Tokens.{as_container}
-use Rattle.cm_blocks.proofs.QuoteLaws.{none_behind}
-
--- ---- by the container's own rule
-
-pub kept_filled : (b : Bool) (e : Entry Line) → b ≡ true → kept_line e ≡ kept_by b e
-kept_filled true (goes_in l) h = refl
-kept_filled true (goes_in_if_filled l) h = refl
-kept_filled true (goes_in_if_open l) h = refl
-kept_filled true stays_out h = refl
-kept_filled false e h = absurd cc
-
-lazily_out : (b : Bool) (t : List ℕ) (s : Start) → kept_line (grammar.lazily t s) ≡ kept_by b (grammar.lazily t s)
-lazily_out b t text_start = refl
-lazily_out b t blank_start = refl
-lazily_out b t quote_start = refl
-lazily_out b t (atx_start level u) = refl
-lazily_out b t (fence_start i mark len info) = refl
-lazily_out b t (html_start kind) = refl
-lazily_out b t (underline_start level) = refl
-lazily_out b t break_start = refl
-lazily_out b t (item_start kind number digits) = refl
-lazily_out b t indented_start = refl
-
-abbrev quote_cases : ℕ → List ℕ → List ℕ → Bool → Entry Line
-quote_cases col t cs b = cond b (goes_in (shifted 1 (col + indent col t + 1) cs)) (grammar.lazily t (start_of beside_paragraph col t))
-
-pub kept_quote : (b : Bool) (col : ℕ) (t u : List ℕ) → kept_line (grammar.quote_entry col t u) ≡ kept_by b (grammar.quote_entry col t u)
-kept_quote b col t [] = refl
-kept_quote b col t (c ∷ cs) = go (nat_lt (indent col t) 4 && (c == 62)) where
-  go : (x : Bool) → kept_line (quote_cases col t cs x) ≡ kept_by b (quote_cases col t cs x)
-  go true = refl
-  go false = lazily_out b t (start_of beside_paragraph col t)
-
-abbrev item_cases : ℕ → ℕ → List ℕ → Bool → Bool → Entry Line
-item_cases content col t blank wide = cond blank (goes_in_if_filled (shifted content col t)) (cond wide (goes_in (shifted content col t)) (grammar.lazily t (start_of beside_paragraph col t)))
-
-pub kept_item : (b : Bool) (content col : ℕ) (t : List ℕ) → is_blank t ≡ false → kept_line (grammar.item_entry content col t) ≡ kept_by b (grammar.item_entry content col t)
-kept_item b content col t h =
-    ap (λ (x : Bool). kept_line (item_cases content col t x (nat_le content (indent col t)))) h ∙ go (nat_le content (indent col t)) ∙ ap (λ (x : Bool). kept_by b (item_cases content col t x (nat_le content (indent col t)))) (sym h) where
-      go : (w : Bool) → kept_line (item_cases content col t false w) ≡ kept_by b (item_cases content col t false w)
-      go true = refl
-      go false = lazily_out b t (start_of beside_paragraph col t)
-
-pub blank_item : (content col : ℕ) (t : List ℕ) → is_blank t ≡ true → None ≡ kept_by false (grammar.item_entry content col t)
-blank_item content col t h = sym (ap (λ (x : Bool). kept_by false (item_cases content col t x (nat_le content (indent col t)))) h)
-
--- ---- the walk
-
-abbrev entry_on : Bool → Bool → List Container → Line → Option Line → Matched
-entry_on p f ks l o = elim o as (λ x. Matched) [ Some m ↦ one_more_kept (reached p f ks m) | None ↦ record { kept = 0; rest = l } ]
+use Rattle.cm_containers.specs.Answers.{as_container}
+use Rattle.cm_containers.specs.Entries.{entered_at, kept_by, line_when, matched_by}
+use Rattle.cm_containers.specs.Spots.{text_at}
+use Rattle.cm_containers.specs.declared.kinds.Container.{Container}
+use Rattle.cm_containers.specs.declared.kinds.Container.TheVariants.{Item, Quote}
+use Rattle.cm_containers.specs.declared.matching.Entered.{Entered}
+use Rattle.cm_containers.proofs.Filling.{item_cases, quote_cases}
+use Rattle.cm_blocks.specs.Flat.{enters, reached}
+use Rattle.cm_blocks.specs.Reaching.{is_text, reach_of}
 
 counted : (n k : ℕ) (l : Line) → n ≡ k → (let a : Matched = record { kept = n; rest = l } in let b : Matched = record { kept = k; rest = l } in a ≡ b)
 counted n k l e = ap (λ (i : ℕ). (let m : Matched = record { kept = i; rest = l } in m)) e
-
-one_kept : (n : ℕ) (m : Matched) → more_kept n (one_more_kept m) ≡ more_kept (n + 1) m
-one_kept n m = counted (n + suc m.kept) (n + 1 + m.kept) m.rest (omega arith)
-
-some_left : (n : ℕ) (ks : List Container) → not (is_empty (drop n ks)) ≡ nat_lt n (length ks)
-some_left zero [] = refl
-some_left zero (k ∷ ks) = grind arith
-some_left (suc n) [] = grind arith
-some_left (suc n) (k ∷ ks) = some_left n ks ∙ grind arith
-
--- the containers from one on, and what the line does with that one
-ahead : (p f : Bool) (ks : List Container) (i : ℕ) (d : Container) (l : Line) (b : Bool) → i < length ks → b ≡ (f || nat_lt (i + 1) (length ks))
-    → reached p f (drop i ks) l ≡ entry_on p f (drop (i + 1) ks) l (enters p b (grammar.entry (as_container (get_or ks i d)) l))
-ahead p f ks i d l b lt e =
-    ap (λ (xs : List Container). reached p f xs l) (drop_more ks i d lt)
-    ∙ ap (λ (x : Bool). entry_on p f (drop (i + 1) ks) l (enters p x (grammar.entry (as_container (get_or ks i d)) l))) (ap (λ (x : Bool). f || x) (some_left (i + 1) ks) ∙ sym e)
 
 enters_kept : (p b : Bool) (e : Entry Line) (m : Line) → Some m ≡ kept_by b e → enters p b e ≡ Some m
 enters_kept p b (goes_in l) m h = sym h
@@ -96,14 +28,7 @@ enters_kept p b (goes_in_if_filled l) m h = sym h
 enters_kept p b (goes_in_if_open l) m h = absurd cc
 enters_kept p b stays_out m h = absurd cc
 
-pub goes_on : (p f : Bool) (ks : List Container) (i : ℕ) (d : Container) (line : List ℕ) (s t : Spot) (whole : Matched) (b : Bool) → i < length ks → b ≡ (f || nat_lt (i + 1) (length ks))
-    → Some (rest_at line t) ≡ kept_by b (grammar.entry (as_container (get_or ks i d)) (rest_at line s))
-    → more_kept i (reached p f (drop i ks) (rest_at line s)) ≡ whole → more_kept (i + 1) (reached p f (drop (i + 1) ks) (rest_at line t)) ≡ whole
-goes_on p f ks i d line s t whole b lt e h w =
-    sym (one_kept i (reached p f (drop (i + 1) ks) (rest_at line t)))
-    ∙ sym (ap (λ (m : Matched). more_kept i m) (ahead p f ks i d (rest_at line s) b lt e ∙ ap (entry_on p f (drop (i + 1) ks) (rest_at line s)) (enters_kept p b (grammar.entry (as_container (get_or ks i d)) (rest_at line s)) (rest_at line t) h))) ∙ w
-
--- ---- where it stops: a lazy line, or none
+-- ---- where a container does not go on by its own rule: a lazy line, or none
 
 start_blank : (col : ℕ) (t : List ℕ) → is_blank t ≡ true → is_text (start_of beside_paragraph col t) ≡ false
 start_blank col t h = blank_cases (is_blank t) (cond (nat_lt (indent col t) 4) (mark_at beside_paragraph (indent col t) (trim_front t)) text_start) h where
@@ -162,74 +87,70 @@ all_lazy p f [] t = refl
 all_lazy p f (Quote ∷ ks) t = ap one_more_kept (all_lazy p f ks t)
 all_lazy p f (Item content mark number ∷ ks) t = ap one_more_kept (all_lazy p f ks t)
 
-drop_length : (n : ℕ) (ks : List Container) → length (drop n ks) ≡ length ks - n
-drop_length zero ks = omega arith
-drop_length (suc n) [] = omega arith
-drop_length (suc n) (k ∷ ks) = omega (arith, drop_length n ks)
+-- ---- all containers
 
-pub stops_at : (p f : Bool) (ks : List Container) (i : ℕ) (d : Container) (line : List ℕ) (s : Spot) (whole : Matched) (b z : Bool) (r : Reach) → i < length ks → b ≡ (f || nat_lt (i + 1) (length ks))
-    → None ≡ kept_by b (grammar.entry (as_container (get_or ks i d)) (rest_at line s))
-    → z ≡ (p && is_text (start_of beside_paragraph s.column (text_at line s)))
-    → r ≡ record { kept = cond z (length ks) i; spot = s; is_lazy = z }
-    → more_kept i (reached p f (drop i ks) (rest_at line s)) ≡ whole → reach_of line r ≡ whole
-stops_at p f ks i d line s whole b z r lt e h g a w =
-    ap (reach_of line) a ∙ go z ∙ sym (ap (λ (m : Matched). more_kept i m) (ahead p f ks i d (rest_at line s) b lt e ∙ ap (entry_on p f (drop (i + 1) ks) (rest_at line s)) (entry_left p b (get_or ks i d) s.column (text_at line s) h ∙ ap (λ (x : Bool). line_when x (lazy_line (text_at line s))) (sym g)))) ∙ w where
-      go : (z : Bool) → reach_of line (record { kept = cond z (length ks) i; spot = s; is_lazy = z }) ≡ more_kept i (entry_on p f (drop (i + 1) ks) (rest_at line s) (line_when z (lazy_line (text_at line s))))
-      go true =
-          counted (length ks) (i + suc (length (drop (i + 1) ks))) (lazy_line (text_at line s)) (omega (arith, lt, drop_length (i + 1) ks))
-          ∙ sym (ap (λ (m : Matched). more_kept i (one_more_kept m)) (all_lazy p f (drop (i + 1) ks) (text_at line s)))
-      go false = counted i (i + 0) (rest_at line s) (omega arith)
+-- a line starts nothing, so that it may be lazy
+abbrev starts_nothing : Line → Bool
+starts_nothing (own_line col t) = is_text (start_of beside_paragraph col t)
+starts_nothing (lazy_line t) = false
 
-none_left : (i : ℕ) (ks : List Container) → length ks ≤ i → drop i ks ≡ []
-none_left zero [] h = refl
-none_left (suc i) [] h = refl
-none_left zero (k ∷ ks) h = absurd (omega (arith, h))
-none_left (suc i) (k ∷ ks) h = none_left i ks (omega (arith, h))
+-- all n containers are kept, or those of a match
+abbrev lazily_all : ℕ → Matched → Bool → Matched
+lazily_all n m b = cond b (record { kept = n; rest = lazy_line (line_text m.rest) }) m
 
-pub stops_behind : (p f : Bool) (ks : List Container) (i : ℕ) (line : List ℕ) (s : Spot) (whole : Matched) (r : Reach) → length ks ≤ i
-    → r ≡ record { kept = i; spot = s; is_lazy = false } → more_kept i (reached p f (drop i ks) (rest_at line s)) ≡ whole → reach_of line r ≡ whole
-stops_behind p f ks i line s whole r le a w =
-    ap (reach_of line) a ∙ counted i (i + 0) (rest_at line s) (omega arith) ∙ sym (ap (λ (xs : List Container). more_kept i (reached p f xs (rest_at line s))) (none_left i ks le)) ∙ w
+abbrev leaves_lazily : Bool → ℕ → Matched → Bool
+leaves_lazily p n m = (nat_lt m.kept n && p) && starts_nothing m.rest
 
-pub all_ahead : (p f : Bool) (ks : List Container) (line : List ℕ) → more_kept 0 (reached p f (drop 0 ks) (rest_at line (record { at = 0; start = 0; column = 0 }))) ≡ reached p f ks (own_line 0 line)
-all_ahead p f ks line = counted (0 + (reached p f ks (own_line 0 line)).kept) (reached p f ks (own_line 0 line)).kept (reached p f ks (own_line 0 line)).rest (omega arith)
+left_by : (p b : Bool) (k : Container) (l : Line) → None ≡ kept_by b (grammar.entry (as_container k) l) → enters p b (grammar.entry (as_container k) l) ≡ line_when (p && starts_nothing l) (lazy_line (line_text l))
+left_by p b k (own_line col t) h = entry_left p b k col t h
+left_by p b Quote (lazy_line t) h = absurd cc
+left_by p b (Item indent mark start) (lazy_line t) h = absurd cc
 
--- behind an item
-no_quote : (content mark number n : ℕ) → with_outer (Item content mark number) n ≡ 0 → n ≡ 0
-no_quote content mark number zero h = refl
-no_quote content mark number (suc n) h = absurd (omega (arith, h))
+abbrev reached_on : Bool → Bool → List Container → Line → Option Line → Matched
+reached_on p f ks l o = elim o as (λ x. Matched) [ Some m ↦ one_more_kept (reached p f ks m) | None ↦ record { kept = 0; rest = l } ]
 
--- ---- the end of a line, where no quote is left
+abbrev matched_on : Bool → List Container → Line → Option Line → Matched
+matched_on f ks l o = elim o as (λ x. Matched) [ Some m ↦ one_more_kept (matched_by f ks m) | None ↦ record { kept = 0; rest = l } ]
 
-nothing_shifted : (n col : ℕ) → shifted n col [] ≡ own_line col []
-nothing_shifted zero col = refl
-nothing_shifted (suc n) col = refl
+one_more : (p : Bool) (n : ℕ) (m : Matched) → one_more_kept (lazily_all n m (leaves_lazily p n m)) ≡ lazily_all (suc n) (one_more_kept m) (leaves_lazily p (suc n) (one_more_kept m))
+one_more p n m =
+    let same : nat_lt m.kept n ≡ nat_lt (suc m.kept) (suc n) = grind arith in
+    go (leaves_lazily p n m) ∙ ap (λ (x : Bool). lazily_all (suc n) (one_more_kept m) ((x && p) && starts_nothing m.rest)) same where
+      go : (b : Bool) → one_more_kept (lazily_all n m b) ≡ lazily_all (suc n) (one_more_kept m) b
+      go true = refl
+      go false = refl
 
--- it goes on with all items, but for the innermost where this is not filled
-items_alone : (p f : Bool) (ks : List Container) (col : ℕ) → up_to_quote ks ≡ 0 → reached p f ks (own_line col []) ≡ record { kept = cond f (length ks) (length ks - 1); rest = own_line col [] }
-items_alone p true [] col h = refl
-items_alone p false [] col h = refl
-items_alone p f (Quote ∷ ks) col h = absurd (omega (arith, h))
-items_alone p true (Item content mark number ∷ []) col h = ap (λ (l : Line). one_more_kept (record { kept = 0; rest = l })) (nothing_shifted content col)
-items_alone p false (Item content mark number ∷ []) col h = refl
-items_alone p true (Item content mark number ∷ j ∷ ks) col h =
-    ap (λ (l : Line). one_more_kept (reached p true (j ∷ ks) l)) (nothing_shifted content col)
-    ∙ ap one_more_kept (items_alone p true (j ∷ ks) col (no_quote content mark number (up_to_quote (j ∷ ks)) h))
-items_alone p false (Item content mark number ∷ j ∷ ks) col h =
-    ap (λ (l : Line). one_more_kept (reached p false (j ∷ ks) l)) (nothing_shifted content col)
-    ∙ ap one_more_kept (items_alone p false (j ∷ ks) col (no_quote content mark number (up_to_quote (j ∷ ks)) h))
-    ∙ counted (suc (suc (length ks) - 1)) (suc (suc (length ks)) - 1) (own_line col []) (omega arith)
+some_left : (n : ℕ) → nat_lt 0 (suc n) ≡ true
+some_left n = grind arith
 
-pub stops_at_end : (p f : Bool) (ks : List Container) (q i : ℕ) (line : List ℕ) (s : Spot) (whole : Matched) (n : ℕ) (r : Reach) → up_to_quote ks ≤ q → q ≤ i → i < length ks → text_at line s ≡ []
-    → n ≡ cond f (length ks) (length ks - 1)
-    → r ≡ record { kept = n; spot = s; is_lazy = false }
-    → more_kept i (reached p f (drop i ks) (rest_at line s)) ≡ whole → reach_of line r ≡ whole
-stops_at_end p f ks q i line s whole n r hq hi lt t hn a w =
-    ap (reach_of line) a ∙ counted n (i + cond f (length (drop i ks)) (length (drop i ks) - 1)) (rest_at line s) (hn ∙ go f) ∙ ap (λ (l : Line). more_kept i (record { kept = cond f (length (drop i ks)) (length (drop i ks) - 1); rest = l })) blank
-    ∙ sym (ap (λ (l : Line). more_kept i (reached p f (drop i ks) l)) blank ∙ ap (more_kept i) (items_alone p f (drop i ks) s.column (none_behind i ks (omega (arith, hq, hi))))) ∙ w where
-      blank : rest_at line s ≡ own_line s.column []
-      blank = ap (own_line s.column) t
+-- the walk by the containers' own rules, and then lazily
+lazily_reached : (p f : Bool) (ks : List Container) (l : Line) → reached p f ks l ≡ lazily_all (length ks) (matched_by f ks l) (leaves_lazily p (length ks) (matched_by f ks l))
+lazily_reached p f [] l = refl
+lazily_reached p f (k ∷ ks) l = go (kept_by (f || not (is_empty ks)) (grammar.entry (as_container k) l)) refl (λ m. lazily_reached p f ks m) where
+  out : (x : Bool) → reached_on p f ks l (line_when x (lazy_line (line_text l))) ≡ lazily_all (suc (length ks)) (record { kept = 0; rest = l }) x
+  out true = ap one_more_kept (all_lazy p f ks (line_text l))
+  out false = refl
 
-      go : (f : Bool) → cond f (length ks) (length ks - 1) ≡ i + cond f (length (drop i ks)) (length (drop i ks) - 1)
-      go true = omega (arith, lt, drop_length i ks)
-      go false = omega (arith, lt, drop_length i ks)
+  go : (o : Option Line) → o ≡ kept_by (f || not (is_empty ks)) (grammar.entry (as_container k) l)
+      → ((m : Line) → reached p f ks m ≡ lazily_all (length ks) (matched_by f ks m) (leaves_lazily p (length ks) (matched_by f ks m)))
+      → reached_on p f ks l (enters p (f || not (is_empty ks)) (grammar.entry (as_container k) l)) ≡ lazily_all (suc (length ks)) (matched_on f ks l o) (leaves_lazily p (suc (length ks)) (matched_on f ks l o))
+  go (Some m) e h =
+      ap (reached_on p f ks l) (enters_kept p (f || not (is_empty ks)) (grammar.entry (as_container k) l) m e)
+      ∙ ap one_more_kept (h m) ∙ one_more p (length ks) (matched_by f ks m)
+  go None e h =
+      let some : nat_lt 0 (suc (length ks)) ≡ true = some_left (length ks) in
+      ap (reached_on p f ks l) (left_by p (f || not (is_empty ks)) k l e) ∙ out (p && starts_nothing l)
+      ∙ ap (λ (x : Bool). lazily_all (suc (length ks)) (record { kept = 0; rest = l }) ((x && p) && starts_nothing l)) (sym some)
+
+pub is_reached : (p f : Bool) (ks : List Container) (line : List ℕ) (e : Entered) (n : ℕ) (b : Bool) → n ≡ length ks → entered_at line e ≡ matched_by f ks (own_line 0 line)
+    → b ≡ ((nat_lt e.kept n && p) && is_text (start_of beside_paragraph e.spot.column (text_at line e.spot)))
+    → reach_of line (record { kept = cond b n e.kept; spot = e.spot; is_lazy = b }) ≡ reached p f ks (own_line 0 line)
+is_reached p f ks line e n b count same is =
+    go b
+    ∙ ap (lazily_all n (entered_at line e)) is
+    ∙ ap (λ (k : ℕ). lazily_all k (entered_at line e) (leaves_lazily p k (entered_at line e))) count
+    ∙ ap (λ (m : Matched). lazily_all (length ks) m (leaves_lazily p (length ks) m)) same
+    ∙ sym (lazily_reached p f ks (own_line 0 line)) where
+      go : (b : Bool) → reach_of line (record { kept = cond b n e.kept; spot = e.spot; is_lazy = b }) ≡ lazily_all n (entered_at line e) b
+      go true = refl
+      go false = refl

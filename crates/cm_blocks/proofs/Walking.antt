@@ -13,14 +13,16 @@ use Rattle.markdown_grammar.specs.OpenEnds.{IsOpenEnd, OpenEnd, container_open, 
 use Rattle.markdown_grammar.proofs.LazyLaws.{open_end}
 use Rattle.markdown_grammar.proofs.LightRules.{light}
 use Rattle.markdown_grammar.proofs.OpenEndWalk.{step_spine}
-use Rattle.cm_blocks.specs.declared.kinds.Container.{Container}
+use Rattle.cm_containers.specs.declared.kinds.Container.{Container}
 use Rattle.cm_blocks.specs.declared.kinds.Leaf.{Leaf}
 use Rattle.cm_blocks.specs.declared.kinds.Token.{Token}
 use Rattle.cm_blocks.specs.declared.kinds.Token.TheVariants.{Blank, Closes, Holds, Opens}
-use Rattle.cm_blocks.specs.Flat.{Flat, begin, begin_by, begun, closed_to, closes, enters, finished, flat_start, leaf_closed, leaf_more, leaf_on, leaf_tokens, line_when, opened, reached, step, step_on, stepped, steps}
+use Rattle.cm_containers.specs.Entries.{line_when}
+use Rattle.cm_blocks.specs.Flat.{Flat, begin, begin_by, begun, closed_to, closes, enters, finished, flat_start, leaf_closed, leaf_more, leaf_on, leaf_tokens, opened, reached, step, step_on, stepped, steps}
 use Rattle.cm_blocks.specs.Leaves.{is_prose, leaf_of}
 use Rattle.cm_blocks.specs.OpenWalk.{end_filled, end_leaf, end_stack, end_tokens, flat_of}
-use Rattle.cm_blocks.specs.Tokens.{as_container, container_of, tokens}
+use Rattle.cm_containers.specs.Answers.{as_container}
+use Rattle.cm_blocks.specs.Tokens.{container_of, tokens}
 use Rattle.cm_blocks.proofs.LeafSteps.{more_is}
 
 -- a walk inside a container, behind tokens

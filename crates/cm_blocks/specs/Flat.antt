@@ -7,12 +7,14 @@ use Rattle.markdown_grammar.specs.Extents.{Entry, Opening, goes_in, goes_in_if_f
 use Rattle.markdown_grammar.specs.Fronts.{is_empty}
 use Rattle.markdown_grammar.specs.Leaves as leaves
 use Rattle.markdown_grammar.specs.Matching.{Matched, one_more_kept}
-use Rattle.cm_blocks.specs.declared.kinds.Container.{Container}
+use Rattle.cm_containers.specs.declared.kinds.Container.{Container}
 use Rattle.cm_blocks.specs.declared.kinds.Leaf.{Leaf}
 use Rattle.cm_blocks.specs.declared.kinds.Token.{Token}
 use Rattle.cm_blocks.specs.declared.kinds.Token.TheVariants.{Blank, Closes, Holds, Opens}
 use Rattle.cm_blocks.specs.Leaves.{is_prose, leaf_of, more_of}
-use Rattle.cm_blocks.specs.Tokens.{as_container, container_of}
+use Rattle.cm_blocks.specs.Tokens.{container_of}
+use Rattle.cm_containers.specs.Answers.{as_container}
+use Rattle.cm_containers.specs.Entries.{line_when}
 
 -- the innermost open container is filled where it has a block
 pub record Flat : Type 0 where
@@ -69,10 +71,6 @@ closed_to n f = record {
 }
 
 -- ---- what a line goes on with
-
-abbrev pub line_when : Bool → Line → Option Line
-line_when true l = Some l
-line_when false l = None
 
 -- the line inside a container, by whether a paragraph is open at the end and whether the container has a block
 abbrev pub enters : Bool → Bool → Entry Line → Option Line

@@ -3,7 +3,8 @@ use Rattle.std.specs.Prelude.{Bool, List, None, Option, Some, [], false, if◌th
 use Rattle.markdown_grammar.specs.Columns.{Line, indent, lazy_line, line_text, own_line, shifted}
 use Rattle.markdown_grammar.specs.Definitions.{after_definitions}
 use Rattle.markdown_grammar.specs.Fences.{closes_fence}
-use Rattle.markdown_grammar.specs.HtmlStarts.{ends_html}
+use Rattle.markdown_grammar.specs.declared.html_kind.HtmlKind.{HtmlKind}
+use Rattle.markdown_grammar.specs.HtmlStarts.{ends_at_blank, ends_html}
 use Rattle.markdown_grammar.specs.LineStarts.{start_of}
 use Rattle.markdown_grammar.specs.Lines.{ended_lines, is_blank, trim_front}
 use Rattle.markdown_grammar.specs.Leaves as grammar
@@ -52,9 +53,9 @@ fence_on i mark len info text false col t =
     if closes_fence mark len col t then Some (Fenced i mark len info text true) else Some (Fenced i mark len info (text ++ ended (line_text (shifted i col t))) false)
 
 -- HTML
-abbrev pub html_on : ℕ → List ℕ → Bool → List ℕ → Option Leaf
+abbrev pub html_on : HtmlKind → List ℕ → Bool → List ℕ → Option Leaf
 html_on kind text true t = None
-html_on kind text false t = if nat_lt 5 kind && is_blank t then None else Some (Html kind (text ++ ended t) (ends_html kind t))
+html_on kind text false t = if ends_at_blank kind && is_blank t then None else Some (Html kind (text ++ ended t) (ends_html kind t))
 
 -- a leaf with one more line, where it takes it
 abbrev pub more_of : Leaf → Line → Option Leaf

@@ -15,4 +15,3 @@ pub mod Making
 pub mod MadeViews
 pub mod Reads
 pub mod DocumentHtml
-pub mod Quoted

@@ -4,8 +4,8 @@ use Rattle.markdown_grammar.specs.Definitions.{Definition, after_definitions, de
 use Rattle.markdown_grammar.specs.Fronts.{is_empty}
 use Rattle.markdown_grammar.specs.Lines.{trim}
 use Rattle.cm_blocks.specs.LineTexts.{unended}
-use Rattle.cm_blocks.specs.declared.kinds.Container.{Container}
-use Rattle.cm_blocks.specs.declared.kinds.Container.TheVariants.{Item, Quote}
+use Rattle.cm_containers.specs.declared.kinds.Container.{Container}
+use Rattle.cm_containers.specs.declared.kinds.Container.TheVariants.{Item, Quote}
 use Rattle.cm_blocks.specs.declared.kinds.Leaf.{Leaf}
 use Rattle.cm_blocks.specs.declared.kinds.Leaf.TheVariants.{Break, Fenced, Heading, Html, Indented, Paragraph, Underlined}
 use Rattle.cm_blocks.specs.declared.kinds.Token.{Token}

@@ -3,7 +3,7 @@ use Rattle.std.specs.Prelude.{Bool, List, None, Option, Some, [], true, ◌++◌
 use Rattle.markdown_grammar.specs.Blocks.{rules}
 use Rattle.markdown_grammar.specs.Extents.{has_block}
 use Rattle.markdown_grammar.specs.OpenEnds.{OpenEnd, container_open, leaf_open, none_open}
-use Rattle.cm_blocks.specs.declared.kinds.Container.{Container}
+use Rattle.cm_containers.specs.declared.kinds.Container.{Container}
 use Rattle.cm_blocks.specs.declared.kinds.Leaf.{Leaf}
 use Rattle.cm_blocks.specs.declared.kinds.Token.{Token}
 use Rattle.cm_blocks.specs.declared.kinds.Token.TheVariants.{Opens}

@@ -20,7 +20,7 @@ use Rattle.cm_blocks.specs.declared.opening.Known.{Known}
 use Rattle.cm_blocks.specs.declared.opening.Opens.{Opens}
 use Rattle.cm_blocks.specs.declared.opening.Opens.TheVariants.{Box, Other}
 use Rattle.cm_blocks.specs.Leaves.{leaf_of}
-use Rattle.cm_blocks.specs.Tokens.{as_container}
+use Rattle.cm_containers.specs.Answers.{as_container}
 
 -- the leaf that a line starts
 abbrev pub leaf_in : Opening Line leaves.Leaf grammar.Container → Option Leaf

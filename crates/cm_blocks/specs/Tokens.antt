@@ -3,8 +3,8 @@ use Rattle.std.specs.Prelude.{List, [], ◌++◌, ◌∷◌}
 use Rattle.markdown_grammar.specs.Blocks.{Blocks}
 use Rattle.markdown_grammar.specs.Containers as grammar
 use Rattle.markdown_grammar.specs.Extents.{blank_line, container, leaf, no_blocks}
-use Rattle.cm_blocks.specs.declared.kinds.Container.{Container}
-use Rattle.cm_blocks.specs.declared.kinds.Container.TheVariants.{Item, Quote}
+use Rattle.cm_containers.specs.declared.kinds.Container.{Container}
+use Rattle.cm_containers.specs.declared.kinds.Container.TheVariants.{Item, Quote}
 use Rattle.cm_blocks.specs.declared.kinds.Token.{Token}
 use Rattle.cm_blocks.specs.declared.kinds.Token.TheVariants.{Blank, Closes, Holds, Opens}
 use Rattle.cm_blocks.specs.Leaves.{leaf_of}
@@ -12,10 +12,6 @@ use Rattle.cm_blocks.specs.Leaves.{leaf_of}
 abbrev pub container_of : grammar.Container → Container
 container_of grammar.block_quote = Quote
 container_of (grammar.list_item kind number content) = Item content kind number
-
-abbrev pub as_container : Container → grammar.Container
-as_container Quote = grammar.block_quote
-as_container (Item content mark number) = grammar.list_item mark number content
 
 -- a container stands between its start and its end; of a blank line nothing is kept
 abbrev pub tokens : Blocks → List Token

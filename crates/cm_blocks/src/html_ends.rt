@@ -3,27 +3,30 @@ ghost use Rattle.std.specs.Prelude.{◌≡◌, ◌<◌, drop, length};
 ghost use Rattle.markdown_grammar.specs.Bytes as bytes;
 ghost use Rattle.markdown_grammar.specs.Fronts.{begins_with, has};
 ghost use Rattle.markdown_grammar.specs.HtmlStarts as grammar;
+ghost use Rattle.markdown_grammar.specs.declared.html_kind.HtmlKind.TheVariants as kind;
 ghost use Rattle.markdown_grammar.specs.Readers.{to};
 ghost use Rattle.cm_blocks.specs.HtmlEnds.{seen, seen_byte};
 
-/// Whether a line ends a block of HTML of a kind from 1 to 5. CommonMark 0.31.2, section 4.6.
-pub(crate) fn ends_html(kind: u32, text: &str) -> bool
+use markdown_grammar::HtmlKind;
+
+/// Whether a line ends a block of HTML, of a kind that a line ends. CommonMark 0.31.2, section 4.6.
+pub(crate) fn ends_html(kind: HtmlKind, text: &str) -> bool
     ensures { result ≡ grammar.ends_html kind text.now }
 {
     let bytes = text.as_bytes();
     match kind {
-        1 => ends_verbatim(bytes),
-        2 => has_word(bytes, b"-->", false),
-        3 => has_word(bytes, b"?>", false),
-        4 => has_word(bytes, b">", false),
-        5 => has_word(bytes, b"]]>", false),
-        _ => false,
+        HtmlKind::Verbatim => ends_verbatim(bytes),
+        HtmlKind::Comment => has_word(bytes, b"-->", false),
+        HtmlKind::Instruction => has_word(bytes, b"?>", false),
+        HtmlKind::Declaration => has_word(bytes, b">", false),
+        HtmlKind::Cdata => has_word(bytes, b"]]>", false),
+        HtmlKind::Listed | HtmlKind::Lone => false,
     }
 }
 
-// Whether one of the closing tags of kind 1 stands in a line.
+// Whether one of the closing tags of verbatim text stands in a line.
 fn ends_verbatim(text: &[u8]) -> bool
-    ensures { result ≡ grammar.ends_html 1 text.now }
+    ensures { result ≡ grammar.ends_html kind.Verbatim text.now }
 {
     has_word(text, b"</script>", true)
         || has_word(text, b"</pre>", true)

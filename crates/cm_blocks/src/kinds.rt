@@ -1,20 +1,9 @@
-// Containers and leaves as a walk over the lines holds them, and what it makes of them.
+// Leaves as a walk over the lines holds them, and what it makes of them.
 use crate::leaf_lines::LeafLines;
+use cm_containers::Container;
 use cm_starts::HeadingLevel;
+use markdown_grammar::HtmlKind;
 use site_base::Text;
-
-/// A container: a block quote, or a list item by the column where its content starts behind the place
-/// where it may begin, the last character of its mark, and its number (1 for a bullet). CommonMark
-/// 0.31.2, sections 5.1 and 5.2.
-#[derive(Clone, Copy, PartialEq, Eq, Debug)]
-pub enum Container {
-    Quote,
-    Item {
-        content: u128,
-        mark: char,
-        number: u64,
-    },
-}
 
 /// A leaf block with what decides whether it takes one more line. CommonMark 0.31.2, section 4.
 #[derive(Drop)]
@@ -47,7 +36,7 @@ pub enum Leaf {
         is_closed: bool,
     },
     Html {
-        kind: u32,
+        kind: HtmlKind,
         text: LeafLines,
         is_closed: bool,
     },

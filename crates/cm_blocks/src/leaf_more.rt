@@ -1,8 +1,7 @@
 // Leaves that take one more line.
-ghost use Rattle.std.specs.Prelude.{◌≡◌, ◌==◌, ◌≤◌, ◌&&◌, false, IfOk, IfSome, option_map, length, nat_le, nat_lt, drop, not};
+ghost use Rattle.std.specs.Prelude.{◌≡◌, ◌&&◌, false, IfOk, IfSome, option_map, not};
 ghost use Rattle.markdown_grammar.specs.Definitions.{after_definitions, front_definition};
 ghost use Rattle.markdown_grammar.specs.Fences as fences;
-ghost use Rattle.markdown_grammar.specs.Fronts.{run_len};
 ghost use Rattle.markdown_grammar.specs.HtmlStarts as html;
 ghost use Rattle.markdown_grammar.specs.Lines as lines;
 ghost use Rattle.markdown_grammar.specs.LineStarts.{start_of};
@@ -19,7 +18,8 @@ use crate::kinds::Leaf;
 use crate::leaf_lines::LeafLines;
 use cm_containers::{Spot, behind_white, shift};
 use cm_links::definition;
-use cm_starts::{HeadingLevel, Place, Start, line_start};
+use cm_starts::{HeadingLevel, Place, Start, closes_fence, is_blank, line_start};
+use markdown_grammar::HtmlKind;
 use site_base::{Memory, Text};
 use std::alloc::Global;
 
@@ -122,7 +122,7 @@ fn has_text(alloc: Global, text: &str) -> Result<bool, Memory>
     ensures { IfOk result (λ answer. answer ≡ not (lines.is_blank (after_definitions text.now))) }
 {
     let rest = behind_definitions(alloc, text)?;
-    Ok(!is_blank(rest))
+    Ok(!is_blank(rest.as_bytes()))
 }
 
 /// What is left of a paragraph's text behind its definitions.
@@ -147,12 +147,6 @@ fn definition_end(alloc: Global, text: &str) -> Result<Option<usize>, Memory>
         Some(found) => Ok(Some(found.end)),
         None => Ok(None),
     }
-}
-
-fn is_blank(text: &str) -> bool
-    ensures { result ≡ lines.is_blank text.now }
-{
-    is_white(text.as_bytes())
 }
 
 // Indented code: blank lines, and those with at least four columns of white space, of which four are
@@ -183,8 +177,8 @@ fn code_taken(
     }))
 }
 
-// HTML: up to a line that ends it, or, of kinds 6 and 7, before a blank line.
-fn html_taken(kind: u32, text: LeafLines, line: &str, spot: Spot) -> Result<Taken, Memory>
+// HTML: up to a line that ends it, or before a blank line, by its kind.
+fn html_taken(kind: HtmlKind, text: LeafLines, line: &str, spot: Spot) -> Result<Taken, Memory>
     requires { IsSpot line.now spot }
     ensures { IfOk result (IsTaken (html_on kind text false (text_at line.now spot)) (leaf.Html kind text false)) }
 {
@@ -205,16 +199,22 @@ fn html_taken(kind: u32, text: LeafLines, line: &str, spot: Spot) -> Result<Take
 }
 
 // Whether a line ends the block before it.
-fn ends_before(kind: u32, line: &str, spot: Spot) -> bool
+fn ends_before(kind: HtmlKind, line: &str, spot: Spot) -> bool
     requires { IsSpot line.now spot }
-    ensures { result ≡ (nat_lt 5 kind && lines.is_blank (text_at line.now spot)) }
+    ensures { result ≡ (html.ends_at_blank kind && lines.is_blank (text_at line.now spot)) }
 {
     let white = behind_white(line, spot);
-    kind > 5 && white.at == line.len()
+    ends_at_blank(kind) && white.at == line.len()
+}
+
+fn ends_at_blank(kind: HtmlKind) -> bool
+    ensures { result ≡ html.ends_at_blank kind }
+{
+    matches!(kind, HtmlKind::Listed | HtmlKind::Lone)
 }
 
 /// Whether the rest of a line ends a block of HTML.
-pub(crate) fn ends_html_rest(kind: u32, line: &str, spot: Spot) -> bool
+pub(crate) fn ends_html_rest(kind: HtmlKind, line: &str, spot: Spot) -> bool
     requires { IsSpot line.now spot }
     ensures { result ≡ html.ends_html kind (text_at line.now spot) }
 {
@@ -260,36 +260,5 @@ fn is_closing(mark: char, len: usize, line: &str, spot: Spot) -> bool
     ensures { result ≡ fences.closes_fence mark len spot.column (text_at line.now spot) }
 {
     let white = behind_white(line, spot);
-    let bytes = line.as_bytes();
-    white.column - spot.column < 4 && is_run(&bytes[white.at..], mark, len)
-}
-
-// Whether a text is a run of a mark, at least so many, and white space behind it.
-fn is_run(text: &[u8], mark: char, least: usize) -> bool
-    ensures { result ≡ (nat_le least (run_len (λ d. d == mark) text.now) && lines.is_blank (drop (run_len (λ d. d == mark) text.now) text.now)) }
-{
-    let n = marks(text, mark);
-    least <= n && is_white(&text[n..])
-}
-
-fn marks(text: &[u8], mark: char) -> usize
-    ensures value { result ≡ run_len (λ d. d == mark) text.now }
-    ensures within { result ≤ length text.now }
-{
-    let mut i = 0;
-    while i < text.len() && text[i] as u32 == mark as u32 {
-        i += 1;
-    }
-    i
-}
-
-fn is_white(text: &[u8]) -> bool
-    ensures { result ≡ lines.is_blank text.now }
-{
-    for c in text {
-        if *c != b' ' && *c != b'\t' {
-            return false;
-        }
-    }
-    true
+    closes_fence(mark, len, white.column - spot.column, &line[white.at..])
 }

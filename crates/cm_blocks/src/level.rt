@@ -2,7 +2,7 @@
 ghost use Rattle.std.specs.Prelude.{◌≡◌, ◌||◌, ◌&&◌, if◌then◌else◌};
 ghost use Rattle.cm_blocks.specs.Making as spec;
 
-use crate::kinds::Container;
+use cm_containers::Container;
 
 /// What is known of the blocks that follow inside a container, or outside of all: how many nodes were made
 /// before them; whether there are none, blank lines too, or one blank line alone; whether a blank line
@@ -19,7 +19,7 @@ pub(crate) struct Level {
     pub has_block: bool,
     pub is_apart: bool,
     pub next: Option<char>,
-    pub number: u64,
+    pub number: u32,
     pub is_loose: bool,
     pub list_start: usize,
 }
@@ -77,7 +77,7 @@ impl Level {
     }
 
     /// With an item in front, by what is known of its inside.
-    pub fn behind_item(self, mark: char, number: u64, body: Level) -> Level
+    pub fn behind_item(self, mark: char, number: u32, body: Level) -> Level
         ensures { result ≡ spec.item_level mark number body self }
     {
         let is_blank = body.ends_open();
@@ -170,7 +170,7 @@ pub(crate) fn behind_container(held: Container, body: Level, rest: Level) -> Lev
 {
     match held {
         Container::Quote => rest.behind_leaf(false),
-        Container::Item { mark, number, .. } => rest.behind_item(mark, number, body),
+        Container::Item { mark, start, .. } => rest.behind_item(mark, start, body),
     }
 }
 

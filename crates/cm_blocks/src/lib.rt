@@ -11,7 +11,6 @@ mod level;
 mod lines;
 mod making;
 mod node;
-mod open_containers;
 mod open_walk;
 mod opening;
 mod reaching;
@@ -20,7 +19,7 @@ mod reading;
 mod tests;
 mod walk;
 
-pub use kinds::{Container, Leaf, Token};
+pub use kinds::{Leaf, Token};
 pub use laws::documents_have_the_html_of_their_blocks;
 pub use leaf_lines::LeafLines;
 pub use node::{Blocks, Node};

@@ -4,10 +4,11 @@ ghost use Rattle.cm_blocks.specs.declared.kinds.Token.TheVariants as token;
 ghost use Rattle.cm_blocks.specs.Making as spec;
 ghost use Rattle.cm_blocks.specs.MadeViews.{made, went_inside};
 
-use crate::kinds::{Container, Leaf, Token};
+use crate::kinds::{Leaf, Token};
 use crate::leaf_nodes::{leaf_node, reads_blank};
 use crate::level::{Level, behind_container, goes_with};
 use crate::node::Node;
+use cm_containers::Container;
 use site_base::Memory;
 use std::alloc::Global;
 

@@ -30,7 +30,7 @@ pub enum Node {
     /// whether a blank line separates two of its items or two blocks in an item.
     List {
         mark: char,
-        number: u64,
+        number: u32,
         is_loose: bool,
         len: usize,
     },

@@ -9,15 +9,17 @@ ghost use Rattle.markdown_grammar.specs.LineStarts.{start_of};
 ghost use Rattle.markdown_grammar.specs.Places.{not_in_paragraph};
 ghost use Rattle.cm_containers.specs.Spots.{BehindWhite, IsSpot, rest_at, text_at};
 ghost use Rattle.cm_starts.specs.Answers.{as_start};
+ghost use Rattle.cm_starts.specs.Marks.{mark_byte};
 ghost use Rattle.cm_blocks.specs.declared.kinds.Leaf.TheVariants as leaf;
 ghost use Rattle.cm_blocks.specs.LineTexts.{ended};
 ghost use Rattle.cm_blocks.specs.Opening.{IsExcluded, IsKnown, IsKnownIf, IsMark, IsOpens, is_break_bullet, leaf_in};
 
-use crate::kinds::{Container, Leaf};
+use crate::kinds::Leaf;
 use crate::leaf_lines::LeafLines;
 use crate::leaf_more::ends_html_rest;
-use cm_containers::{Spot, behind_white, shift};
-use cm_starts::{HeadingLevel, Place, Start, line_start, list_mark};
+use cm_containers::{Container, Spot, behind_white, shift};
+use cm_starts::{HeadingLevel, ListMark, Place, Start, line_start, list_mark};
+use markdown_grammar::HtmlKind;
 use site_base::{Memory, Text};
 use std::alloc::Global;
 
@@ -139,22 +141,22 @@ fn item<'a>(
     spot: Spot,
     white: Spot,
     known: Option<Known>,
-    mark: char,
-    number: u64,
+    mark: ListMark,
+    number: u32,
     digits: usize,
 ) -> Opens<'a>
     requires white { BehindWhite line.now spot white }
     requires known { IsKnownIf line.now known }
     requires mark { IsMark (drop white.at line.now) (digits + 1) }
-    requires start { item_start mark number digits ≡ start_of not_in_paragraph spot.column (text_at line.now spot) }
+    requires start { item_start (mark_byte mark) number digits ≡ start_of not_in_paragraph spot.column (text_at line.now spot) }
     ensures { IsOpens line.now spot result }
 {
     let after = behind_mark(line, white, digits + 1);
     let padding = padding(line, after);
     let held = Container::Item {
-        content: after.column - spot.column + padding,
-        mark,
-        number,
+        indent: after.column - spot.column + padding,
+        mark: mark.as_char(),
+        start: number,
     };
     Opens::Box(held, shift(line, after, padding), known)
 }
@@ -250,7 +252,7 @@ fn fence(
     }))
 }
 
-fn html(lines: LeafLines, kind: u32, line: &str, spot: Spot) -> Result<Option<Leaf>, Memory>
+fn html(lines: LeafLines, kind: HtmlKind, line: &str, spot: Spot) -> Result<Option<Leaf>, Memory>
     requires spot { IsSpot line.now spot }
     ensures { IfOk result (λ found. found ≡ Some (leaf.Html kind (lines ++ ended (text_at line.now spot)) (html.ends_html kind (text_at line.now spot)))) }
 {

@@ -1,5 +1,6 @@
 // Tokens of texts, by the standard's rules.
-use crate::{Container, Leaf, Node, Token, block_tokens, read_blocks};
+use crate::{Leaf, Node, Token, block_tokens, read_blocks};
+use cm_containers::Container;
 use std::alloc::Global;
 use std::test::Fail;
 

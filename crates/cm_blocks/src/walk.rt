@@ -6,12 +6,11 @@ ghost use Rattle.cm_blocks.specs.Flat as flat;
 ghost use Rattle.cm_blocks.specs.Leaves.{is_prose};
 ghost use Rattle.cm_blocks.specs.Walks.{lazily_on, put_in, shown};
 
-use crate::kinds::{Container, Leaf, Token};
+use crate::kinds::{Leaf, Token};
 use crate::leaf_more::{Taken, take_rest};
-use crate::open_containers::OpenContainers;
 use crate::opening::{Opens, leaf_of, what_opens};
-use crate::reaching::{go_into, is_filled_at};
-use cm_containers::{Spot, behind_white};
+use crate::reaching::go_into;
+use cm_containers::{Container, OpenContainers, Spot, behind_white};
 use site_base::Memory;
 use std::alloc::Global;
 use std::mem;
@@ -42,13 +41,8 @@ impl Walk {
     pub fn take_line(&mut self, alloc: Global, line: &str) -> Result<(), Memory>
         ensures { OnOk result (shown self.new ≡ flat.step (shown self.old) (own_line 0 line.now)) }
     {
-        let reach = go_into(
-            self.stack.as_slice(),
-            self.stack.quoted(),
-            is_paragraph(&self.leaf),
-            self.is_filled,
-            line,
-        );
+        let is_prose = is_paragraph(&self.leaf);
+        let reach = go_into(&self.stack, is_prose, self.is_filled, line);
         if reach.is_lazy {
             return self.go_lazily(line, reach.spot);
         }
@@ -142,7 +136,7 @@ impl Walk {
         ensures { OnOk result (shown self.new ≡ flat.closed_to kept (shown self.old)) }
     {
         self.close_leaf()?;
-        self.is_filled = is_filled_at(self.is_filled, kept, self.stack.len());
+        self.is_filled = self.is_filled || kept < self.stack.len();
         push_ends(&mut self.tokens, self.stack.as_slice(), kept)?;
         self.stack.truncate(kept);
         Ok(())

@@ -1,5 +1,5 @@
 -- Behind all white space.
-use Rattle.std.proofs.Common.{◌≡◌, ◌∙◌, Bool, List, [], ap, arith, drop, false, get_or, length, min, nat_lt, refl, replicate, suc, sym, true, zero, ℕ, ◌++◌, ◌+◌, ◌-◌, ◌<◌, ◌==◌, ◌∷◌, ◌≤◌, ◌*◌, ◌^◌, ◌||◌}
+use Rattle.std.proofs.Common.{◌≡◌, ◌∙◌, Bool, List, [], ap, arith, drop, false, length, nat_lt, refl, replicate, suc, sym, true, ℕ, ◌++◌, ◌+◌, ◌-◌, ◌<◌, ◌==◌, ◌∷◌, ◌≤◌, ◌*◌, ◌||◌}
 use Rattle.markdown_grammar.specs.Columns.{indent, shifted, tab_width}
 use Rattle.markdown_grammar.specs.Bytes.{is_space}
 use Rattle.markdown_grammar.specs.Fronts.{run_len}

@@ -9,9 +9,9 @@ use Rattle.cm_containers.specs.declared.kinds.Container.TheVariants.{Item, Quote
 use Rattle.cm_containers.specs.declared.kinds.Matched.{Matched}
 
 -- an open container
-abbrev pub container : Container → grammar.Container
-container Quote = grammar.block_quote
-container (Item indent mark start) = grammar.list_item mark start indent
+abbrev pub as_container : Container → grammar.Container
+as_container Quote = grammar.block_quote
+as_container (Item indent mark start) = grammar.list_item mark start indent
 
 -- how many containers a line goes on with, and the rest of the line
 abbrev pub as_matched : List ℕ → Matched → matching.Matched

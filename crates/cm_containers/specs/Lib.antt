@@ -1,3 +1,5 @@
 pub mod Rests
 pub mod Answers
 pub mod Spots
+pub mod Entries
+pub mod Quoted

@@ -3,10 +3,12 @@
 
 mod kinds;
 mod matching;
+mod open_containers;
 mod spots;
 
 pub use kinds::{Container, Matched};
-pub use matching::{enter_item, enter_quote, match_line};
+pub use matching::{Entered, match_line};
+pub use open_containers::OpenContainers;
 pub use spots::{Spot, behind, behind_white, shift};
 
 #[cfg(test)]

@@ -24,7 +24,7 @@ Prints old new piece result = MatchResult result (λ _. Writes old new piece) (R
 
 -- a byte that is not written as `%` and digits in an address
 abbrev pub stands_in_urls : ℕ → Bool
-stands_in_urls c = is_alnum c || has_one (λ d. d == c) (codes "-_.+!*'(),%#@?=;:/&$~`")
+stands_in_urls c = is_alnum c || has_one (λ d. d == c) (codes "-_.+!*'(),%#@?=;:/&$~")
 
 -- the text stands there in the end, or it does not fit
 pub record Stands (old new : Writer) (whole : List ℕ) : Type 0 where

@@ -17,7 +17,7 @@ impl Writer {
         &mut self,
         alloc: Global,
         mark: char,
-        number: u64,
+        number: u32,
     ) -> Result<(), HtmlError>
         ensures { Reaches self.old self.new (list_after mark number (written self.old)) result }
     {
@@ -25,7 +25,7 @@ impl Writer {
         self.push_list_tag(alloc, mark, number)
     }
 
-    fn push_list_tag(&mut self, alloc: Global, mark: char, number: u64) -> Result<(), HtmlError>
+    fn push_list_tag(&mut self, alloc: Global, mark: char, number: u32) -> Result<(), HtmlError>
         ensures { Prints self.old self.new (list_tag mark number) result }
     {
         if is_bullet(mark) {
@@ -61,7 +61,7 @@ impl Writer {
     }
 }
 
-fn numbered_tag(alloc: Global, number: u64) -> Result<String, AllocError>
+fn numbered_tag(alloc: Global, number: u32) -> Result<String, AllocError>
     ensures { IfOk result (λ tag. string_bytes tag ≡ codes "<ol start=\"" ++ (decimal number ++ codes "\">\n")) }
 {
     format!(in alloc; "<ol start=\"{number}\">\n")

@@ -55,5 +55,5 @@ fn hex_digit(digit: u8) -> u8
 fn stands_in_urls(byte: u8) -> bool
     ensures { result ≡ stands_in_urls byte }
 {
-    byte.is_ascii_alphanumeric() || b"-_.+!*'(),%#@?=;:/&$~`".contains(&byte)
+    byte.is_ascii_alphanumeric() || b"-_.+!*'(),%#@?=;:/&$~".contains(&byte)
 }

@@ -1,4 +1,4 @@
--- Runs, ends and small numbers.
+-- Runs and ends.
 use Rattle.std.proofs.Common.{◌≡◌, ◌∙◌, Bool, List, [], ap, arith, cond, drop, false, get_or, length, nat_lt, not, refl, reverse, suc, sym, take, true, zero, ℕ, ◌&&◌, ◌-◌, ◌<◌, ◌==◌, ◌∷◌, ◌≤◌}
 use Rattle.std.proofs.lemmas.List.{reverse-append}
 use Rattle.std.proofs.Math.Seq.{take-suc}
@@ -7,33 +7,20 @@ use Rattle.markdown_grammar.specs.Fronts.{is_empty, run_len}
 use Rattle.markdown_grammar.specs.Fences.{fence_at}
 use Rattle.markdown_grammar.specs.Lines.{trim}
 use Rattle.markdown_grammar.specs.Starts.{Start, fence_start, text_start}
-use Rattle.cm_links.proofs.Numbers.{cap}
-use Rattle.cm_starts.specs.Runs.{behind_run, is_bullet_mark, is_delimiter_mark, is_fence_mark, is_spoilt}
+use Rattle.cm_starts.specs.Marks.{mark_byte}
+use Rattle.cm_starts.specs.Runs.{behind_run, is_fence_mark, is_spoilt}
+use Rattle.cm_starts.specs.declared.list_marks.ListMark.{ListMark}
+use Rattle.cm_starts.specs.declared.list_marks.ListMark.TheVariants.{FullStop, Hyphen, Parenthesis, Plus, Star}
 
-pub bullet_ascii : (c : ℕ) → is_bullet_mark c ≡ true → c < 128
-bullet_ascii c h = grind arith
-
-pub delimiter_ascii : (c : ℕ) → is_delimiter_mark c ≡ true → c < 128
-delimiter_ascii c h = grind arith
+pub mark_ascii : (mark : ListMark) → mark_byte mark < 128
+mark_ascii Hyphen = omega arith
+mark_ascii Plus = omega arith
+mark_ascii Star = omega arith
+mark_ascii FullStop = omega arith
+mark_ascii Parenthesis = omega arith
 
 pub digit_ascii : (c : ℕ) → is_digit c ≡ true → c < 128
 digit_ascii c h = grind arith
-
--- nine digits are few
-cap_at : (i : ℕ) → i < 9 → cap i ≤ 281474976710656
-cap_at zero h = omega arith
-cap_at (suc zero) h = omega arith
-cap_at (suc (suc zero)) h = omega arith
-cap_at (suc (suc (suc zero))) h = omega arith
-cap_at (suc (suc (suc (suc zero)))) h = omega arith
-cap_at (suc (suc (suc (suc (suc zero))))) h = omega arith
-cap_at (suc (suc (suc (suc (suc (suc zero)))))) h = omega arith
-cap_at (suc (suc (suc (suc (suc (suc (suc zero))))))) h = omega arith
-cap_at (suc (suc (suc (suc (suc (suc (suc (suc zero)))))))) h = omega arith
-cap_at (suc (suc (suc (suc (suc (suc (suc (suc (suc i))))))))) h = absurd (omega (arith, h))
-
-pub small_enough : (value i : ℕ) → i < 9 → value < cap i → value < 281474976710656
-small_enough value i h lt = omega (arith, cap_at i h, lt)
 
 -- ---- the end of a text, byte by byte
 

@@ -2,3 +2,4 @@ pub mod Ends
 pub mod Repeats
 pub mod Words
 mod Tagged
+mod Numerals

@@ -1,6 +1,7 @@
 -- What the calls are handed and answer, in the words of the grammar of Markdown.
 use Rattle.markdown_grammar.specs.Places as places
 use Rattle.markdown_grammar.specs.Starts as starts
+use Rattle.cm_starts.specs.Marks.{mark_byte}
 use Rattle.cm_starts.specs.declared.kinds.Place.{Place}
 use Rattle.cm_starts.specs.declared.kinds.Place.TheVariants.{Beside, Fresh, Paragraph}
 use Rattle.cm_starts.specs.declared.kinds.Start.{Start}
@@ -19,6 +20,6 @@ as_start (Fence indent mark len info) = starts.fence_start indent mark len info.
 as_start (Html kind) = starts.html_start kind
 as_start (Underline level) = starts.underline_start level
 as_start Break = starts.break_start
-as_start (Item mark number digits) = starts.item_start mark number digits
+as_start (Item mark number digits) = starts.item_start (mark_byte mark) number digits
 as_start Indented = starts.indented_start
 as_start Text = starts.text_start

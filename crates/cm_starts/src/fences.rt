@@ -1,7 +1,8 @@
 // The lines before and after fenced code.
-ghost use Rattle.std.specs.Prelude.{◌≡◌, ◌<◌, List, ℕ};
+ghost use Rattle.std.specs.Prelude.{◌≡◌, ◌==◌, ◌≤◌, List, length, ℕ};
 ghost use Rattle.markdown_grammar.specs.Columns as columns;
 ghost use Rattle.markdown_grammar.specs.Fences as grammar;
+ghost use Rattle.markdown_grammar.specs.Fronts.{run_len};
 ghost use Rattle.markdown_grammar.specs.Lines.{trim_front};
 ghost use Rattle.cm_starts.specs.Answers.{as_start};
 ghost use Rattle.cm_starts.specs.Runs.{closes_at, is_fence_mark, is_spoilt};
@@ -49,20 +50,29 @@ fn spoils(mark: u8, info: &str) -> bool
     mark == b'`' && has_byte(info, b'`')
 }
 
-/// Whether a line ends the code behind a fence, by its indent in columns and its text behind that: it
-/// is indented by at most three columns, and has at least as many of the mark and nothing else.
-/// CommonMark 0.31.2, section 4.5.
-pub fn closes_fence(mark: u8, len: usize, indent: u128, text: &str) -> bool
-    requires { mark < 128 }
+/// Whether a line ends the code behind a fence of so many marks, by its indent in columns and its text
+/// behind that: it is indented by at most three columns, and has at least as many of the mark and
+/// nothing else. CommonMark 0.31.2, section 4.5.
+pub fn closes_fence(mark: char, len: usize, indent: u128, text: &str) -> bool
     ensures { (col : ℕ) (line : List ℕ) → columns.indent col line ≡ indent → trim_front line ≡ text.now → result ≡ grammar.closes_fence mark len col line }
 {
-    closes(mark, len, indent, text)
+    closes(mark, len, indent, text.as_bytes())
 }
 
-fn closes(mark: u8, len: usize, indent: u128, text: &str) -> bool
-    requires { mark < 128 }
+fn closes(mark: char, len: usize, indent: u128, text: &[u8]) -> bool
     ensures { result ≡ closes_at mark len indent text.now }
 {
-    let n = run(text, mark);
+    let n = marks(text, mark);
     indent < 4 && len <= n && is_blank(&text[n..])
+}
+
+fn marks(text: &[u8], mark: char) -> usize
+    ensures value { result ≡ run_len (λ d. d == mark) text.now }
+    ensures within { result ≤ length text.now }
+{
+    let mut i = 0;
+    while i < text.len() && text[i] as u32 == mark as u32 {
+        i += 1;
+    }
+    i
 }

@@ -87,5 +87,5 @@ fn is_run_of(text: &str, mark: u8) -> bool
     ensures { result ≡ grammar.underline_of mark text.now }
 {
     let n = run(text, mark);
-    0 < n && is_blank(&text[n..])
+    0 < n && is_blank(&text.as_bytes()[n..])
 }

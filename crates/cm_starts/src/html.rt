@@ -14,6 +14,7 @@ use crate::kinds::{Place, Start};
 use crate::names::{is_block, is_verbatim};
 use crate::tags::is_alone;
 use crate::texts::is_space;
+use markdown_grammar::HtmlKind;
 
 /// The block of HTML that a line starts, by its text behind the white space in front, or `Text` where
 /// it starts none. Kind 7, any other tag alone on its line, starts only where no paragraph is open.
@@ -26,7 +27,9 @@ pub fn html_block<'a>(place: Place, text: &'a str) -> Start<'a>
         return Start::Text;
     }
     if starts_verbatim(&bytes[1..]) {
-        return Start::Html { kind: 1 };
+        return Start::Html {
+            kind: HtmlKind::Verbatim,
+        };
     }
     marked(place, bytes)
 }
@@ -37,16 +40,24 @@ fn marked<'a>(place: Place, text: &'a [u8]) -> Start<'a>
     ensures { as_start result ≡ marked_at (as_place place) text.now }
 {
     if begins(text, b"<!--") {
-        return Start::Html { kind: 2 };
+        return Start::Html {
+            kind: HtmlKind::Comment,
+        };
     }
     if begins(text, b"<?") {
-        return Start::Html { kind: 3 };
+        return Start::Html {
+            kind: HtmlKind::Instruction,
+        };
     }
     if begins(text, b"<!") && is_letter(byte_at(text, 2)) {
-        return Start::Html { kind: 4 };
+        return Start::Html {
+            kind: HtmlKind::Declaration,
+        };
     }
     if begins(text, b"<![CDATA[") {
-        return Start::Html { kind: 5 };
+        return Start::Html {
+            kind: HtmlKind::Cdata,
+        };
     }
     tagged(place, text)
 }
@@ -57,10 +68,14 @@ fn tagged<'a>(place: Place, text: &'a [u8]) -> Start<'a>
     ensures { as_start result ≡ tagged_at (as_place place) text.now }
 {
     if starts_listed(tag_text(text)) {
-        return Start::Html { kind: 6 };
+        return Start::Html {
+            kind: HtmlKind::Listed,
+        };
     }
     if is_fresh(place) && is_alone(text) && !is_verbatim(name_of(tag_text(text))) {
-        return Start::Html { kind: 7 };
+        return Start::Html {
+            kind: HtmlKind::Lone,
+        };
     }
     Start::Text
 }

@@ -1,5 +1,7 @@
 // Where a line stands, and what it starts.
 use crate::heading_level::HeadingLevel;
+use crate::list_marks::ListMark;
+use markdown_grammar::HtmlKind;
 
 /// Where a line stands, as far as what it may start depends on it: after no open paragraph, outside of
 /// the containers of an open paragraph, or in a paragraph, which has text beside its definitions of
@@ -28,20 +30,18 @@ pub enum Start<'a> {
         len: usize,
         info: &'a str,
     },
-    /// A block of HTML, of a kind from 1 to 7.
     Html {
-        kind: u32,
+        kind: HtmlKind,
     },
     /// The underline of a heading of level 1 or 2.
     Underline {
         level: HeadingLevel,
     },
     Break,
-    /// A list item: the last character of its mark, its number (1 for a bullet), and how many digits
-    /// the mark has.
+    /// A list item: its mark, its number (1 for a bullet), and how many digits stand before the mark.
     Item {
-        mark: char,
-        number: u64,
+        mark: ListMark,
+        number: u32,
         digits: usize,
     },
     Indented,

@@ -10,6 +10,7 @@ mod headings;
 mod html;
 mod items;
 mod kinds;
+mod list_marks;
 mod names;
 mod starts;
 mod tags;
@@ -23,9 +24,10 @@ pub use headings::{heading, underline};
 pub use html::{begins, html_block};
 pub use items::list_mark;
 pub use kinds::{Place, Start};
+pub use list_marks::ListMark;
 pub use starts::line_start;
 pub use tags::{closing_tag, open_tag};
-pub use texts::{run, trim};
+pub use texts::{is_blank, run, trim};
 
 #[cfg(test)]
 mod tests;

@@ -1,8 +1,9 @@
 // What lines start, by the standard's examples.
 use crate::{
-    HeadingLevel, Place, Start, closes_fence, fence, heading, html_block, is_thematic_break,
-    line_start, list_mark, underline,
+    HeadingLevel, ListMark, Place, Start, closes_fence, fence, heading, html_block,
+    is_thematic_break, line_start, list_mark, underline,
 };
+use markdown_grammar::HtmlKind;
 use std::process::Abort;
 use std::test::Fail;
 
@@ -20,7 +21,7 @@ fn headed(number: usize, text: &str) -> Start<'_> {
     }
 }
 
-fn numbered(mark: char, number: u64, digits: usize) -> Start<'static> {
+fn numbered(mark: ListMark, number: u32, digits: usize) -> Start<'static> {
     Start::Item {
         mark,
         number,
@@ -101,24 +102,32 @@ fn fences_are_told(rt: HostRuntime) -> Result<(), Fail> {
     told(&rt, &fence(2, "``` aa ```"), &Start::Text)?;
     told(&rt, &fence(2, "``"), &Start::Text)?;
     told(&rt, &fence(2, ""), &Start::Text)?;
-    assert!(rt; closes_fence(b'`', 3, 3, "```` "));
-    assert!(rt; !closes_fence(b'`', 3, 4, "```"));
-    assert!(rt; !closes_fence(b'`', 3, 0, "``"));
-    assert!(rt; !closes_fence(b'`', 3, 0, "``` a"));
-    assert!(rt; !closes_fence(b'`', 3, 0, "~~~"));
+    assert!(rt; closes_fence('`', 3, 3, "```` "));
+    assert!(rt; !closes_fence('`', 3, 4, "```"));
+    assert!(rt; !closes_fence('`', 3, 0, "``"));
+    assert!(rt; !closes_fence('`', 3, 0, "``` a"));
+    assert!(rt; !closes_fence('`', 3, 0, "~~~"));
     Ok(())
 }
 
 #[test]
 fn items_are_told(rt: HostRuntime) -> Result<(), Fail> {
-    told(&rt, &list_mark(Place::Fresh, "- a"), &numbered('-', 1, 0))?;
-    told(&rt, &list_mark(Place::Beside, "*"), &numbered('*', 1, 0))?;
+    told(
+        &rt,
+        &list_mark(Place::Fresh, "- a"),
+        &numbered(ListMark::Hyphen, 1, 0),
+    )?;
+    told(
+        &rt,
+        &list_mark(Place::Beside, "*"),
+        &numbered(ListMark::Star, 1, 0),
+    )?;
     told(&rt, &list_mark(PARAGRAPH, "*"), &Start::Text)?;
     told(&rt, &list_mark(Place::Fresh, "-a"), &Start::Text)?;
     told(
         &rt,
         &list_mark(Place::Fresh, "123456789. ok"),
-        &numbered('.', 123_456_789, 9),
+        &numbered(ListMark::FullStop, 123_456_789, 9),
     )?;
     told(
         &rt,
@@ -128,11 +137,15 @@ fn items_are_told(rt: HostRuntime) -> Result<(), Fail> {
     told(
         &rt,
         &list_mark(Place::Fresh, "003) ok"),
-        &numbered(')', 3, 3),
+        &numbered(ListMark::Parenthesis, 3, 3),
     )?;
     told(&rt, &list_mark(Place::Fresh, "-1. not ok"), &Start::Text)?;
     told(&rt, &list_mark(PARAGRAPH, "14. a"), &Start::Text)?;
-    told(&rt, &list_mark(PARAGRAPH, "1. a"), &numbered('.', 1, 1))?;
+    told(
+        &rt,
+        &list_mark(PARAGRAPH, "1. a"),
+        &numbered(ListMark::FullStop, 1, 1),
+    )?;
     told(&rt, &list_mark(Place::Fresh, "1"), &Start::Text)?;
     told(&rt, &list_mark(Place::Fresh, ""), &Start::Text)?;
     Ok(())
@@ -141,19 +154,19 @@ fn items_are_told(rt: HostRuntime) -> Result<(), Fail> {
 #[test]
 fn html_is_told(rt: HostRuntime) -> Result<(), Fail> {
     let rows = [
-        (Place::Fresh, "<script>", 1),
-        (Place::Fresh, "<PRE", 1),
-        (PARAGRAPH, "<!-- a", 2),
-        (PARAGRAPH, "<?php", 3),
-        (PARAGRAPH, "<!DOCTYPE html>", 4),
-        (PARAGRAPH, "<![CDATA[", 5),
-        (PARAGRAPH, "<dIV>", 6),
-        (PARAGRAPH, "</td/>", 6),
-        (PARAGRAPH, "<h1 ", 6),
-        (Place::Fresh, "<a href='b' c=\"d\" e=f g>  ", 7),
-        (Place::Fresh, "<i />", 7),
-        (Place::Fresh, "</ins >", 7),
-        (Place::Fresh, "<pre-a>", 7),
+        (Place::Fresh, "<script>", HtmlKind::Verbatim),
+        (Place::Fresh, "<PRE", HtmlKind::Verbatim),
+        (PARAGRAPH, "<!-- a", HtmlKind::Comment),
+        (PARAGRAPH, "<?php", HtmlKind::Instruction),
+        (PARAGRAPH, "<!DOCTYPE html>", HtmlKind::Declaration),
+        (PARAGRAPH, "<![CDATA[", HtmlKind::Cdata),
+        (PARAGRAPH, "<dIV>", HtmlKind::Listed),
+        (PARAGRAPH, "</td/>", HtmlKind::Listed),
+        (PARAGRAPH, "<h1 ", HtmlKind::Listed),
+        (Place::Fresh, "<a href='b' c=\"d\" e=f g>  ", HtmlKind::Lone),
+        (Place::Fresh, "<i />", HtmlKind::Lone),
+        (Place::Fresh, "</ins >", HtmlKind::Lone),
+        (Place::Fresh, "<pre-a>", HtmlKind::Lone),
     ];
     for (place, text, kind) in rows {
         assert_eq!(rt; html_block(place, text), Start::Html { kind }, "{text}");
@@ -194,7 +207,7 @@ fn marks_are_tried_in_their_order(rt: HostRuntime) -> Result<(), Fail> {
     told(
         &rt,
         &line_start(Place::Fresh, 0, "- -"),
-        &numbered('-', 1, 0),
+        &numbered(ListMark::Hyphen, 1, 0),
     )?;
     told(&rt, &line_start(Place::Fresh, 0, "* * *"), &Start::Break)?;
     told(&rt, &line_start(Place::Fresh, 0, "==="), &Start::Text)?;
@@ -207,7 +220,9 @@ fn marks_are_tried_in_their_order(rt: HostRuntime) -> Result<(), Fail> {
     told(
         &rt,
         &line_start(Place::Fresh, 0, "<div>"),
-        &Start::Html { kind: 6 },
+        &Start::Html {
+            kind: HtmlKind::Listed,
+        },
     )?;
     told(&rt, &line_start(Place::Fresh, 4, "> a"), &Start::Indented)?;
     told(&rt, &line_start(Place::Beside, 4, "> a"), &Start::Text)?;

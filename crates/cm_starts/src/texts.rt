@@ -60,10 +60,15 @@ pub(crate) fn has_byte(text: &str, c: u8) -> bool
 }
 
 /// Whether a text is spaces and tabs alone.
-pub(crate) fn is_blank(text: &str) -> bool
+pub fn is_blank(text: &[u8]) -> bool
     ensures { result ≡ lines.is_blank text.now }
 {
-    spaces(text) == text.len()
+    for c in text {
+        if !is_space(*c) {
+            return false;
+        }
+    }
+    true
 }
 
 /// Whether a text is empty or begins with a space or a tab.

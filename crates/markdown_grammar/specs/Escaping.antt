@@ -17,7 +17,7 @@ hex_digit d = if nat_lt d 10 then 48 + d else 55 + d
 
 -- a byte of a URL: `%` and two digits, but for letters, digits and these marks
 abbrev pub url_byte : ℕ → List ℕ
-url_byte c = if is_alnum c || has_one (λ d. d == c) (codes "-_.+!*'(),%#@?=;:/&$~`") then escaped_byte c else percent_sign ∷ hex_digit (c / 16) ∷ hex_digit (c % 16) ∷ []
+url_byte c = if is_alnum c || has_one (λ d. d == c) (codes "-_.+!*'(),%#@?=;:/&$~") then escaped_byte c else percent_sign ∷ hex_digit (c / 16) ∷ hex_digit (c % 16) ∷ []
 
 -- a URL as it stands in an attribute
 abbrev pub url_text : List ℕ → List ℕ

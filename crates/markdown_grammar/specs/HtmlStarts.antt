@@ -6,6 +6,8 @@ use Rattle.markdown_grammar.specs.Places.{Place, is_fresh}
 use Rattle.markdown_grammar.specs.Readers.{Reader, ahead, at_end, exactly, spaces, to, ◌or◌, ◌then◌}
 use Rattle.markdown_grammar.specs.Starts.{Start, html_start, text_start}
 use Rattle.markdown_grammar.specs.Tags.{closing_tag, open_tag}
+use Rattle.markdown_grammar.specs.declared.html_kind.HtmlKind.{HtmlKind}
+use Rattle.markdown_grammar.specs.declared.html_kind.HtmlKind.TheVariants.{Cdata, Comment, Declaration, Instruction, Listed, Lone, Verbatim}
 
 -- a name is one of these
 abbrev pub is_among : List (List ℕ) → List ℕ → Bool
@@ -55,21 +57,26 @@ tag_text t = drop (if first_byte (drop 1 t) == slash then 2 else 1) t
 -- the kind that a line starts; kind 7 only where no paragraph is open, and not by a tag with a verbatim name
 abbrev pub html_at : Place → List ℕ → Start
 html_at place t = if not (first_byte t == less_than) then text_start
-    else if starts_verbatim (drop 1 t) then html_start 1
-    else if begins_with (codes "<!--") t then html_start 2
-    else if begins_with (codes "<?") t then html_start 3
-    else if begins_with (codes "<!") t && is_letter (first_byte (drop 2 t)) then html_start 4
-    else if begins_with (codes "<![CDATA[") t then html_start 5
-    else if starts_listed (tag_text t) then html_start 6
-    else if (is_fresh place && has (alone t)) && not (is_among verbatim_names (name_in (tag_text t))) then html_start 7
+    else if starts_verbatim (drop 1 t) then html_start Verbatim
+    else if begins_with (codes "<!--") t then html_start Comment
+    else if begins_with (codes "<?") t then html_start Instruction
+    else if begins_with (codes "<!") t && is_letter (first_byte (drop 2 t)) then html_start Declaration
+    else if begins_with (codes "<![CDATA[") t then html_start Cdata
+    else if starts_listed (tag_text t) then html_start Listed
+    else if (is_fresh place && has (alone t)) && not (is_among verbatim_names (name_in (tag_text t))) then html_start Lone
     else text_start
 
--- the line that ends a block of kinds 1 to 5; the others end before a blank line
-abbrev pub ends_html : ℕ → List ℕ → Bool
-ends_html kind t =
-    if kind == 1 then has (to (codes "</script>") (lowered t)) || (has (to (codes "</pre>") (lowered t)) || (has (to (codes "</style>") (lowered t)) || has (to (codes "</textarea>") (lowered t))))
-    else if kind == 2 then has (to (codes "-->") t)
-    else if kind == 3 then has (to (codes "?>") t)
-    else if kind == 4 then has (to (codes ">") t)
-    else if kind == 5 then has (to (codes "]]>") t)
-    else false
+-- the line that ends a block of kinds 1 to 5
+abbrev pub ends_html : HtmlKind → List ℕ → Bool
+ends_html Verbatim t = has (to (codes "</script>") (lowered t)) || (has (to (codes "</pre>") (lowered t)) || (has (to (codes "</style>") (lowered t)) || has (to (codes "</textarea>") (lowered t))))
+ends_html Comment t = has (to (codes "-->") t)
+ends_html Instruction t = has (to (codes "?>") t)
+ends_html Declaration t = has (to (codes ">") t)
+ends_html Cdata t = has (to (codes "]]>") t)
+ends_html _ t = false
+
+-- blocks of kinds 6 and 7 end before a blank line
+abbrev pub ends_at_blank : HtmlKind → Bool
+ends_at_blank Listed = true
+ends_at_blank Lone = true
+ends_at_blank _ = false

@@ -3,11 +3,12 @@ use Rattle.std.specs.Prelude.{Bool, List, None, Option, Some, [], false, if◌th
 use Rattle.markdown_grammar.specs.Columns.{Line, indent, lazy_line, line_text, own_line, shifted}
 use Rattle.markdown_grammar.specs.Definitions.{after_definitions}
 use Rattle.markdown_grammar.specs.Fences.{closes_fence}
-use Rattle.markdown_grammar.specs.HtmlStarts.{ends_html}
+use Rattle.markdown_grammar.specs.HtmlStarts.{ends_at_blank, ends_html}
 use Rattle.markdown_grammar.specs.LineStarts.{start_of}
 use Rattle.markdown_grammar.specs.Lines.{is_blank, joined_lines, trim_front}
 use Rattle.markdown_grammar.specs.Places.{in_paragraph}
 use Rattle.markdown_grammar.specs.Starts.{Start, text_start, underline_start}
+use Rattle.markdown_grammar.specs.declared.html_kind.HtmlKind.{HtmlKind}
 
 -- texts are lines; an open one of indented code has blank lines pending, which are code only where more follows
 pub data Leaf : Type 0 where
@@ -17,7 +18,7 @@ pub data Leaf : Type 0 where
   thematic_break : Leaf
   indented_code : (texts pending : List (List ℕ)) → Leaf
   fenced_code : (indent mark len : ℕ) → (info : List ℕ) → (texts : List (List ℕ)) → (is_closed : Bool) → Leaf
-  html_block : (kind : ℕ) → (texts : List (List ℕ)) → (is_closed : Bool) → Leaf
+  html_block : (kind : HtmlKind) → (texts : List (List ℕ)) → (is_closed : Bool) → Leaf
 
 -- a line may go on this leaf lazily: it is a paragraph
 abbrev pub is_open : Leaf → Bool
@@ -47,9 +48,9 @@ fence_more i mark len info texts false col t =
     if closes_fence mark len col t then Some (fenced_code i mark len info texts true) else Some (fenced_code i mark len info (texts ++ line_text (shifted i col t) ∷ []) false)
 
 -- HTML (4.6): up to a line that ends it, or before a blank line
-abbrev pub html_more : ℕ → List (List ℕ) → Bool → List ℕ → Option Leaf
+abbrev pub html_more : HtmlKind → List (List ℕ) → Bool → List ℕ → Option Leaf
 html_more kind texts true t = None
-html_more kind texts false t = if nat_lt 5 kind && is_blank t then None else Some (html_block kind (texts ++ t ∷ []) (ends_html kind t))
+html_more kind texts false t = if ends_at_blank kind && is_blank t then None else Some (html_block kind (texts ++ t ∷ []) (ends_html kind t))
 
 -- a leaf with one more line, where it takes it
 abbrev pub more : Leaf → Line → Option Leaf

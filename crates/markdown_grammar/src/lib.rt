@@ -3,11 +3,14 @@
 //! The definitions stand in `specs/`, to be read in the order of `specs/Lib.antt`: the parts of a
 //! text, then its blocks, its inlines, and `html`, the HTML that it means. They say what a text is,
 //! by recursion on whole extents and by rewriting. The functions here hold the laws by which a
-//! program finds the same from left to right; they do nothing when they run.
+//! program finds the same from left to right; they do nothing when they run. `HtmlKind` is the one type that
+//! definitions share with programs.
 #![tactic(auto)]
 
+mod html_kind;
 mod inlines;
 mod lines;
 
+pub use html_kind::HtmlKind;
 pub use inlines::{emphasis_in_one_pass, texts_from_left_to_right};
 pub use lines::{blocks_in_one_walk, lazy_lines_reach_their_paragraph};

@@ -2,9 +2,11 @@
 use Rattle.std.proofs.Common.{◌≡◌, inl, inr, ℕ, List, [], ◌∷◌, ◌++◌, refl, sym, ◌∙◌, ap, subst, Option, Some, None, append_assoc}
 use Rattle.std.proofs.lemmas.List.{append-nil}
 use Rattle.site_base.specs.Places.{Files}
+use Rattle.site_script.specs.declared.line.Line.{Line}
 use Rattle.site_script.specs.declared.line.Line.TheVariants as line
 use Rattle.site_session.specs.Standing.{Standing, Holds}
-use Rattle.site_session.specs.Session.{Given, Answers, Run}
+use Rattle.site_session.specs.Session.{Given, Answers, Run, event_of, step}
+use Rattle.site_session.specs.Replies.{AllLeave, LineLeaves}
 use Rattle.site_session.specs.Bytes.{reply_bytes}
 use Rattle.site_session.specs.declared.reply.Reply.{Reply}
 use Rattle.site_session.specs.declared.reply.Reply.TheVariants.{Scanned, ScanFault, Faulty, Fine, Absent, Built, Marked, Unlisted, BadLine, Silent}
@@ -15,6 +17,14 @@ use Rattle.site_program.specs.declared.status.Status.TheVariants.{Memory}
 -- an output that has not been listed is as it was
 pub holds_first : (first : Standing) (told : Option Files) (output : Files) → first.belief ≡ None → told ≡ Some output → Holds told first.belief output
 holds_first first told output none is = subst (λ b. Holds told b output) (sym none) (record { there = output; told_is = is; is_true = refl })
+
+-- the standing after a line is the one that its definition gives
+standing_is : (given : Given) (old new : Standing) (number : ℕ) (at : Line) (reply : Reply) → Answers given old number at reply new → new ≡ (step given old number at (event_of reply)).0
+standing_is given old new number at reply answers = ap (λ (p : Standing × Reply). p.0) (sym answers)
+
+leaves_by : {D : Type 0} (contents : D → Option Files) (given : Given) (old new : Standing) (number : ℕ) (at : Line) (reply : Reply) (was now : D) → Answers given old number at reply new → LineLeaves contents old reply new.belief was now
+    → LineLeaves contents old reply (step given old number at (event_of reply)).0.belief was now
+leaves_by contents given old new number at reply was now answers leaves = subst (λ (s : Standing). LineLeaves contents old reply s.belief was now) (standing_is given old new number at reply answers) leaves
 
 alone : (reply : Reply) → ((count : ℕ) → reply ≡ Scanned count → ⊥) → once_lines (reply ∷ []) ≡ line.Scan ∷ []
 alone (Scanned count) other = absurd (other count refl)
@@ -28,63 +38,75 @@ alone Unlisted other = refl
 alone (BadLine number kind) other = refl
 alone Silent other = refl
 
-pub whole_one : (given : Given) (first last : Standing) (before : List ℕ) (after : Option (List ℕ)) (told : Option Files) (status : Status) (reply : Reply)
-    → ((count : ℕ) → reply ≡ Scanned count → ⊥) → Answers given first 1 line.Scan reply last → after ≡ Some (before ++ reply_bytes given.why reply) → Holds told last.belief given.output → status ≡ reply_status reply
-    → OnceRun given first before after told status
-whole_one given first last before after told status reply other answers bytes holds is = Whole (record {
+pub whole_one : {D : Type 0} (contents : D → Option Files) (given : Given) (first last : Standing) (before : List ℕ) (after : Option (List ℕ)) (was now : D) (status : Status) (reply : Reply)
+    → ((count : ℕ) → reply ≡ Scanned count → ⊥) → Answers given first 1 line.Scan reply last → LineLeaves contents first reply last.belief was now → after ≡ Some (before ++ reply_bytes given.why reply) → Holds (contents now) last.belief given.output
+    → status ≡ reply_status reply → OnceRun contents given first before after was now status
+whole_one contents given first last before after was now status reply other answers leaves bytes holds is = Whole (record {
   replies = reply ∷ [];
   last = last;
   run = subst (λ lines. Run given first 0 lines (reply ∷ []) last) (sym (alone reply other)) (last, answers, refl);
+  leave = subst (λ lines. AllLeave contents given first 0 lines (reply ∷ []) was now) (sym (alone reply other)) (now, leaves_by contents given first last 1 line.Scan reply was now answers leaves, refl);
   bytes = bytes ∙ ap (λ b. Some (before ++ b)) (sym (append-nil (reply_bytes given.why reply)));
   output = holds;
   status_is = is;
 })
 
-pub whole_two : (given : Given) (first mid last : Standing) (before : List ℕ) (after : Option (List ℕ)) (told : Option Files) (status : Status) (scanned reply : Reply) (count : ℕ)
-    → scanned ≡ Scanned count → Answers given first 1 line.Scan scanned mid → Answers given mid 2 line.Build reply last
-    → after ≡ Some ((before ++ reply_bytes given.why scanned) ++ reply_bytes given.why reply) → Holds told last.belief given.output → status ≡ reply_status reply
-    → OnceRun given first before after told status
-whole_two given first mid last before after told status scanned reply count is_scanned scans answers bytes holds is = Whole (record {
+pub whole_two : {D : Type 0} (contents : D → Option Files) (given : Given) (first mid last : Standing) (before : List ℕ) (after : Option (List ℕ)) (was there now : D) (status : Status) (scanned reply : Reply) (count : ℕ)
+    → scanned ≡ Scanned count → Answers given first 1 line.Scan scanned mid → LineLeaves contents first scanned mid.belief was there → Answers given mid 2 line.Build reply last → LineLeaves contents mid reply last.belief there now
+    → after ≡ Some ((before ++ reply_bytes given.why scanned) ++ reply_bytes given.why reply) → Holds (contents now) last.belief given.output → status ≡ reply_status reply
+    → OnceRun contents given first before after was now status
+whole_two contents given first mid last before after was there now status scanned reply count is_scanned scans scan_leaves answers leaves bytes holds is = Whole (record {
   replies = Scanned count ∷ reply ∷ [];
   last = last;
   run = (mid, subst (λ (r : Reply). Answers given first 1 line.Scan r mid) is_scanned scans, (last, answers, refl));
+  leave = subst (λ (r : Reply). AllLeave contents given first 0 (line.Scan ∷ line.Build ∷ []) (r ∷ reply ∷ []) was now) is_scanned (
+    there,
+    leaves_by contents given first mid 1 line.Scan scanned was there scans scan_leaves,
+    subst (λ (s : Standing). AllLeave contents given s 1 (line.Build ∷ []) (reply ∷ []) there now) (standing_is given first mid 1 line.Scan scanned scans) (now, leaves_by contents given mid last 2 line.Build reply there now answers leaves, refl),
+  );
   bytes = bytes ∙ ap Some (append_assoc before (reply_bytes given.why scanned) (reply_bytes given.why reply)) ∙ (λ i. Some (before ++ (reply_bytes given.why (is_scanned i) ++ sym (append-nil (reply_bytes given.why reply)) i)));
   output = holds;
   status_is = is;
 })
 
-pub cut_one : (given : Given) (first mid : Standing) (before part : List ℕ) (after : Option (List ℕ)) (told : Option Files) (status : Status)
-    → mid ≡ first → Stopped given mid 1 line.Scan told part → after ≡ Some (before ++ part) → IsCut status part
-    → OnceRun given first before after told status
-cut_one given first mid before part after told status same stopped bytes is = CutShort (record {
+pub cut_one : {D : Type 0} (contents : D → Option Files) (given : Given) (first mid : Standing) (before part : List ℕ) (after : Option (List ℕ)) (was now : D) (status : Status)
+    → mid ≡ first → Stopped contents given mid 1 line.Scan was now part → after ≡ Some (before ++ part) → IsCut status part
+    → OnceRun contents given first before after was now status
+cut_one contents given first mid before part after was now status same stopped bytes is = CutShort (record {
   done = [];
   next = line.Scan;
   replies = [];
   mid = mid;
+  there = was;
   part = part;
   whole = refl;
   run = same;
+  leave = refl;
   stopped = stopped;
   bytes = bytes;
 }) is
 
-pub cut_two : (given : Given) (first mid : Standing) (before part : List ℕ) (after : Option (List ℕ)) (told : Option Files) (status : Status) (scanned : Reply) (count : ℕ)
-    → scanned ≡ Scanned count → Answers given first 1 line.Scan scanned mid → Stopped given mid 2 line.Build told part → after ≡ Some ((before ++ reply_bytes given.why scanned) ++ part) → IsCut status part
-    → OnceRun given first before after told status
-cut_two given first mid before part after told status scanned count is_scanned answers stopped bytes is = CutShort (record {
+pub cut_two : {D : Type 0} (contents : D → Option Files) (given : Given) (first mid : Standing) (before part : List ℕ) (after : Option (List ℕ)) (was there now : D) (status : Status) (scanned : Reply) (count : ℕ)
+    → scanned ≡ Scanned count → Answers given first 1 line.Scan scanned mid → LineLeaves contents first scanned mid.belief was there → Stopped contents given mid 2 line.Build there now part
+    → after ≡ Some ((before ++ reply_bytes given.why scanned) ++ part) → IsCut status part
+    → OnceRun contents given first before after was now status
+cut_two contents given first mid before part after was there now status scanned count is_scanned answers leaves stopped bytes is = CutShort (record {
   done = line.Scan ∷ [];
   next = line.Build;
   replies = scanned ∷ [];
   mid = mid;
+  there = there;
   part = part;
   whole = ap (λ r. once_lines (r ∷ [])) is_scanned;
   run = (mid, answers, refl);
+  leave = (there, leaves_by contents given first mid 1 line.Scan scanned was there answers leaves, refl);
   stopped = stopped;
   bytes = bytes ∙ ap Some (append_assoc before (reply_bytes given.why scanned) part) ∙ ap (λ b. Some (before ++ (b ++ part))) (sym (append-nil (reply_bytes given.why scanned)));
 }) is
 
 -- a run that came to nothing, for want of memory
-pub cut_none : (given : Given) (first : Standing) (before : List ℕ) (after : Option (List ℕ)) (told : Option Files) (status : Status)
-    → first.belief ≡ None → told ≡ Some given.output → after ≡ Some before → status ≡ Memory → OnceRun given first before after told status
-cut_none given first before after told status none is bytes ends =
-    cut_one given first first before [] after told status refl (inl (holds_first first told given.output none is, refl)) (bytes ∙ ap Some (sym (append-nil before))) (record { cases = inr ends; memory = λ _. refl })
+pub cut_none : {D : Type 0} (contents : D → Option Files) (given : Given) (first : Standing) (before : List ℕ) (after : Option (List ℕ)) (out : D) (status : Status)
+    → first.belief ≡ None → contents out ≡ Some given.output → after ≡ Some before → status ≡ Memory → OnceRun contents given first before after out out status
+cut_none contents given first before after out status none is bytes ends =
+    cut_one contents given first first before [] after out out status refl (inl (record { kept = refl; output = holds_first first (contents out) given.output none is; nothing = refl })) (bytes ∙ ap Some (sym (append-nil before)))
+    (record { cases = inr ends; memory = λ _. refl })

@@ -15,18 +15,20 @@ use Rattle.out_tree.specs.Belief.{Belief, all_marked}
 use Rattle.out_tree.specs.Plan.{planned}
 use Rattle.site_reader.specs.Found.{Found}
 use Rattle.site_script.specs.Line.{line_number, ends}
-use Rattle.site_script.specs.Script.{Taken, first_line, is_bad, IsFirst}
+use Rattle.site_script.specs.Script.{Taken, first_line, is_bad, IsCutOff, IsFirst, IsFirstOr, ReadsFirst}
+use Rattle.site_script.proofs.Readings.{never_failed, none_spares}
 use Rattle.site_script.specs.declared.line.Line.{Line}
 use Rattle.site_script.specs.declared.line.Line.TheVariants as line
 use Rattle.site_script.specs.declared.line.ScriptKind.{ScriptKind}
 use Rattle.site_session.specs.Standing.{Standing, Holds}
 use Rattle.site_session.specs.declared.output.Output.{Output}
-use Rattle.site_session.specs.Session.{Given, Answers, Run, Nothing, put, scan, build, build_reply, build_tree, failed_in, full_now, source_faults, output_faults}
+use Rattle.site_session.specs.Replies.{AllLeave, LineLeaves, has_called_output}
+use Rattle.site_session.specs.Session.{Given, Answers, Run, Nothing, event_of, step, put, scan, build, build_reply, build_tree, failed_in, full_now, source_faults, output_faults}
 use Rattle.site_session.specs.Bytes.{reply_bytes, written}
 use Rattle.site_session.specs.declared.reply.Reply.{Reply}
 use Rattle.site_session.specs.declared.reply.Reply.TheVariants.{Scanned, ScanFault, Faulty, Fine, Absent, Built, Marked, Unlisted, BadLine, Silent}
 use Rattle.site_program.specs.Runs.{Stopped, IsCut}
-use Rattle.site_program.specs.Sessions.{Counts, Counted, Gone, Going, SoFar, SessionRun, AtEnd, AtBad, AtInput, AtLine, next_of, IsRead, Halted, EndsAt, GoesOn, EndsSession, bad_status}
+use Rattle.site_program.specs.Sessions.{Counts, Counted, Gone, Going, SoFar, SessionRun, AtEnd, AtBad, AtInput, AtLine, next_of, IsRead, Undone, Halted, TellsBad, EndsAt, GoesOn, EndsSession, bad_status}
 use Rattle.site_program.specs.declared.status.Status.{Status}
 use Rattle.site_program.specs.declared.status.Status.TheVariants as status
 
@@ -102,28 +104,38 @@ bad_same given old new number line.Eof bad kind e = let r = reply_is e in absurd
 bad_same given old new number line.Failed bad kind e = let r = reply_is e in absurd (cc (r))
 bad_same given old new number line.Memory bad kind e = let r = reply_is e in absurd (cc (r))
 
-pub record Turned (given : Given) (old : Standing) (number : ℕ) (at : Line) (before : List ℕ) (new : Standing) (after : Option (List ℕ)) (told : Option Files) (counts : Counts) (result : Option Status) : Type 0 where
-  pub next : IfNone result (GoesOn given old number at before new after counts)
-  pub ends_at : IfSome result (λ s. EndsAt given old number at before new after told s)
+pub record Turned {D : Type 0} (contents : D → Option Files) (given : Given) (old : Standing) (number : ℕ) (at : Line) (before : List ℕ) (new : Standing) (after : Option (List ℕ)) (was now : D) (counts : Counts) (result : Option Status) : Type 0 where
+  pub next : IfNone result (GoesOn contents given old number at before new after was now counts)
+  pub ends_at : IfSome result (λ s. EndsAt contents given old number at before new after was now s)
 
-pub turned : (given : Given) (old : Standing) (number : ℕ) (at : Line) (before : List ℕ) (new : Standing) (after : Option (List ℕ)) (told : Option Files) (counts : Counts) (reply : Reply)
+pub turned : {D : Type 0} (contents : D → Option Files) (given : Given) (old : Standing) (number : ℕ) (at : Line) (before : List ℕ) (new : Standing) (after : Option (List ℕ)) (was now : D) (counts : Counts) (reply : Reply)
     → (at ≡ line.End → ⊥) → (at ≡ line.Eof → ⊥) → IsRead at
-    → Answers given old number at reply new → after ≡ Some (before ++ reply_bytes given.why reply) → Holds told new.belief given.output → Counted counts (reply ∷ [])
-    → Turned given old number at before new after told counts (bad_status reply)
-turned given old number at before new after told counts reply end eof read answers bytes holds counted = by (outcome reply)
+    → Answers given old number at reply new → after ≡ Some (before ++ reply_bytes given.why reply) → Holds (contents now) new.belief given.output → LineLeaves contents old reply new.belief was now → Counted counts (reply ∷ [])
+    → Turned contents given old number at before new after was now counts (bad_status reply)
+turned contents given old number at before new after was now counts reply end eof read answers bytes holds leaves counted = by (outcome reply)
   where
-    by : Outcome reply → Turned given old number at before new after told counts (bad_status reply)
-    by (Goes is) = subst (λ (r : Option Status). Turned given old number at before new after told counts r) (sym is)
-        (record { next = (goes_on given old new number at reply end eof read answers is, (reply, is, answers, bytes, counted)); ends_at = tt })
-    by (Ends bad kind is) = subst (λ (r : Reply). Turned given old number at before new after told counts (bad_status r)) (sym is)
-        (record { next = tt; ends_at = (read, subst (λ (r : Reply). Answers given old number at r new) is answers, bytes ∙ ap (λ (r : Reply). Some (before ++ reply_bytes given.why r)) is, holds) })
+    by : Outcome reply → Turned contents given old number at before new after was now counts (bad_status reply)
+    by (Goes is) = subst (λ (r : Option Status). Turned contents given old number at before new after was now counts r) (sym is) (record {
+      next = record { reply = reply; goes = goes_on given old new number at reply end eof read answers is; good = is; answers = answers; bytes = bytes; leaves = leaves; counted = counted };
+      ends_at = tt;
+    })
+    by (Ends bad kind is) = subst (λ (r : Reply). Turned contents given old number at before new after was now counts (bad_status r)) (sym is) (record {
+      next = tt;
+      ends_at = record {
+        is_read = read;
+        answers = subst (λ (r : Reply). Answers given old number at r new) is answers;
+        bytes = bytes ∙ ap (λ (r : Reply). Some (before ++ reply_bytes given.why r)) is;
+        output = holds;
+        same = leaves.untouched (ap has_called_output is);
+      };
+    })
 
-pub halts : (given : Given) (old : Standing) (number : ℕ) (at : Line) (before part : List ℕ) (new : Standing) (after : Option (List ℕ)) (told : Option Files) (s : Status)
-    → IsRead at → Stopped given old number at told part → after ≡ Some (before ++ part) → IsCut s part → EndsAt given old number at before new after told s
-halts given old number at before part new after told s read stopped bytes cut =
+pub halts : {D : Type 0} (contents : D → Option Files) (given : Given) (old : Standing) (number : ℕ) (at : Line) (before part : List ℕ) (new : Standing) (after : Option (List ℕ)) (was now : D) (s : Status)
+    → IsRead at → Stopped contents given old number at was now part → after ≡ Some (before ++ part) → IsCut s part → EndsAt contents given old number at before new after was now s
+halts contents given old number at before part new after was now s read stopped bytes cut =
     elim cut.cases [
-      | inl e ↦ subst (λ (x : Status). EndsAt given old number at before new after told x) (sym e) (inr (read, (part, stopped, bytes, subst (λ (x : Status). IsCut x part) e cut)))
-      | inr e ↦ subst (λ (x : Status). EndsAt given old number at before new after told x) (sym e) (inr (read, (part, stopped, bytes, subst (λ (x : Status). IsCut x part) e cut)))
+      | inl e ↦ subst (λ (x : Status). EndsAt contents given old number at before new after was now x) (sym e) (inr (read, (part, stopped, bytes, subst (λ (x : Status). IsCut x part) e cut)))
+      | inr e ↦ subst (λ (x : Status). EndsAt contents given old number at before new after was now x) (sym e) (inr (read, (part, stopped, bytes, subst (λ (x : Status). IsCut x part) e cut)))
     ]
 
 -- one line more
@@ -147,6 +159,25 @@ run_more given old mid new n k (l ∷ lines) (r ∷ replies) at reply is run ans
     (run.0, run.1, run_more given run.0 mid new (n + 1) k lines replies at reply same run.2 answers)
 run_more given old mid new n k [] (r ∷ replies) at reply is run answers = absurd run
 run_more given old mid new n k (l ∷ lines) [] at reply is run answers = absurd run
+
+leave_more : {D : Type 0} (contents : D → Option Files) (given : Given) (old mid new : Standing) (n k : ℕ) (lines : List Line) (replies : List Reply) (at : Line) (reply : Reply) (first there last : D) → k ≡ n + length lines
+    → Run given old n lines replies mid → AllLeave contents given old n lines replies first there → Answers given mid (line_number k) at reply new → LineLeaves contents mid reply new.belief there last
+    → AllLeave contents given old n (lines ++ at ∷ []) (replies ++ reply ∷ []) first last
+leave_more contents given old mid new n k [] [] at reply first there last is run leave answers leaves =
+    let same : k ≡ n = omega arith in
+    let here : Answers given old (line_number n) at reply new = subst (λ (s : Standing). Answers given s (line_number n) at reply new) run (subst (λ (m : ℕ). Answers given mid (line_number m) at reply new) same answers) in
+    let belief : new.belief ≡ (step given old (line_number n) at (event_of reply)).0.belief = ap (λ (p : Standing × Reply). p.0.belief) (sym here) in
+    (last, subst (λ (b : Option Belief). LineLeaves contents old reply b first last) belief (subst (λ (s : Standing). LineLeaves contents s reply new.belief first last) run (subst (λ x. LineLeaves contents mid reply new.belief x last) leave leaves)), refl)
+leave_more contents given old mid new n k (l ∷ lines) (r ∷ replies) at reply first there last is run leave answers leaves =
+    let same : k ≡ (n + 1) + length lines = omega arith in
+    let next : run.0 ≡ (step given old (line_number n) l (event_of r)).0 = ap (λ (p : Standing × Reply). p.0) (sym run.1) in (
+      leave.0,
+      leave.1,
+      leave_more contents given (step given old (line_number n) l (event_of r)).0 mid new (n + 1) k lines replies at reply leave.0 there last same
+          (subst (λ (s : Standing). Run given s (n + 1) lines replies mid) next run.2) leave.2 answers leaves,
+    )
+leave_more contents given old mid new n k [] (r ∷ replies) at reply first there last is run leave answers leaves = absurd run
+leave_more contents given old mid new n k (l ∷ lines) [] at reply first there last is run leave answers leaves = absurd run
 
 written_more : (why : Bool) (replies : List Reply) (reply : Reply) → written why (replies ++ reply ∷ []) ≡ written why replies ++ reply_bytes why reply
 written_more why [] reply = append-nil (reply_bytes why reply)
@@ -210,20 +241,44 @@ bad_ends reply = by (outcome reply)
 
 -- what reading a line told
 abbrev Reads : ℕ → Option (List ℕ) → Option (List ℕ) → Line → Type 0
-Reads number unread rest at = (left : List ℕ) → unread ≡ Some left → (at ≡ line.Failed) ⊎ ((at ≡ line.Memory) ⊎ IsFirst (first_line (line_number number) left) at rest)
+Reads number unread rest at = (left : List ℕ) → unread ≡ Some left → ReadsFirst (line_number number) left at rest
 
-module _ (given : Given) (first : Standing) (text before : List ℕ) (now : Standing) (count number : ℕ) (unread rest after : Option (List ℕ)) (told : Option Files) (counts : Counts) (source output : ℕ) (at : Line)
-    (so : SoFar given first text before now count unread after told counts) (source_later : counts.source_now ≤ source) (output_later : counts.output_now ≤ output) (reads : Reads count unread rest at) (number_is : number ≡ line_number count) where
+module _ {D : Type 0} (contents : D → Option Files) (given : Given) (first : Standing) (text before : List ℕ) (now : Standing) (count number : ℕ) (unread rest after : Option (List ℕ)) (start there : D) (counts : Counts) (source output : ℕ) (at : Line)
+    (so : SoFar contents given first text before now count unread after start there counts) (source_later : counts.source_now ≤ source) (output_later : counts.output_now ≤ output) (reads : Reads count unread rest at) (number_is : number ≡ line_number count) where
+  same_number : line_number count ≡ line_number (length so.lines)
+  same_number = omega (arith, so.number_is)
+
+  -- what was read, under the number of the next line
+  read_here : ReadsFirst (line_number (length so.lines)) so.left at rest
+  read_here = subst (λ (n : ℕ). ReadsFirst n so.left at rest) same_number (reads so.left so.unread_is)
+
   -- the line that was read is the next
-  is_next : IsRead at → IsFirst (next_of so.lines so.left) at rest
+  is_next : IsRead at → IsFirst (next_of so.lines so.left) so.left at rest
   is_next read =
-      let same : line_number count ≡ line_number (length so.lines) = omega (arith, so.number_is) in
-      elim (reads so.left so.unread_is) [
-        | inl failed ↦ absurd (read.0 failed)
+      elim read_here [
+        | inl failed ↦ absurd (read.0 failed.0)
         | inr others ↦ elim others [
-          | inl memory ↦ absurd (read.1 memory)
-          | inr e ↦ (ap (λ n. (first_line n so.left).0) (sym same) ∙ e.0, λ good. e.1 good ∙ ap (λ n. Some (first_line n so.left).1) same)
+          | inl memory ↦ absurd (read.1 memory.0)
+          | inr is ↦ is
         ]
+      ]
+
+  -- the input failed before the next line was whole
+  cut_off : at ≡ line.Failed → IsCutOff so.left rest
+  cut_off is =
+      elim read_here [
+        | inl failed ↦ failed.1
+        | inr others ↦ elim others [
+          | inl memory ↦ (let wrong : line.Failed ≡ line.Memory = sym is ∙ memory.0 in absurd (cc (wrong)))
+          | inr e ↦ absurd (never_failed (line_number (length so.lines)) so.left (e.is ∙ is))
+        ]
+      ]
+
+  no_memory : at ≡ line.Memory → IsFirstOr (next_of so.lines so.left) so.left at rest
+  no_memory is =
+      elim read_here [
+        | inl failed ↦ (let wrong : line.Memory ≡ line.Failed = sym is ∙ failed.0 in absurd (cc (wrong)))
+        | inr others ↦ others
       ]
 
   numbered : number ≡ line_number (length so.lines)
@@ -232,64 +287,73 @@ module _ (given : Given) (first : Standing) (text before : List ℕ) (now : Stan
   is_length : length so.lines ≡ 0 + length so.lines
   is_length = omega arith
 
-  longer : (new : Standing) (reply : Reply) (after' : Option (List ℕ)) (told' : Option Files) → IsRead at → ends at ≡ false → bad_status reply ≡ None → Answers given now number at reply new
-      → after' ≡ Some ((before ++ written given.why so.replies) ++ reply_bytes given.why reply) → Holds told' new.belief given.output → Counted (following counts source output) (reply ∷ [])
-      → Going given first text before (so.lines ++ at ∷ []) (so.replies ++ reply ∷ []) new (next_of so.lines so.left).1 after' told' (moved counts source output)
-  longer new reply after' told' read on good answers bytes holds more = record {
+  answers_here : {new : Standing} {reply : Reply} → Answers given now number at reply new → Answers given now (line_number (length so.lines)) at reply new
+  answers_here {new} {reply} answers = subst (λ (n : ℕ). Answers given now n at reply new) numbered answers
+
+  longer : (new : Standing) (after' : Option (List ℕ)) (last : D) (g : GoesOn contents given now number at (before ++ written given.why so.replies) new after' there last (following counts source output)) → IsRead at → Holds (contents last) new.belief given.output
+      → Going contents given first text before (so.lines ++ at ∷ []) (so.replies ++ g.reply ∷ []) new (next_of so.lines so.left).1 after' start last (moved counts source output)
+  longer new after' last g read holds = record {
     gone = record {
-      taken = taken_more 0 (length so.lines) text so.lines so.left at is_length so.going.gone.taken (is_next read).0;
-      run = run_more given first now new 0 (length so.lines) so.lines so.replies at reply is_length so.going.gone.run (subst (λ (n : ℕ). Answers given now n at reply new) numbered answers);
-      none_ends = All-push (λ (l : Line). ends l ≡ false) so.lines at so.going.gone.none_ends on;
-      none_bad = All-push (λ (r : Reply). bad_status r ≡ None) so.replies reply so.going.gone.none_bad good;
+      taken = taken_more 0 (length so.lines) text so.lines so.left at is_length so.going.gone.taken (is_next read).is;
+      run = run_more given first now new 0 (length so.lines) so.lines so.replies at g.reply is_length so.going.gone.run (answers_here g.answers);
+      leave = leave_more contents given first now new 0 (length so.lines) so.lines so.replies at g.reply start there last is_length so.going.gone.run so.going.gone.leave (answers_here g.answers) g.leaves;
+      none_ends = All-push (λ (l : Line). ends l ≡ false) so.lines at so.going.gone.none_ends g.goes;
+      none_bad = All-push (λ (r : Reply). bad_status r ≡ None) so.replies g.reply so.going.gone.none_bad g.good;
     };
-    bytes = bytes ∙ ap Some (append_assoc before (written given.why so.replies) (reply_bytes given.why reply)) ∙ ap (λ b. Some (before ++ b)) (sym (written_more given.why so.replies reply));
+    bytes = g.bytes ∙ ap Some (append_assoc before (written given.why so.replies) (reply_bytes given.why g.reply)) ∙ ap (λ b. Some (before ++ b)) (sym (written_more given.why so.replies g.reply));
     output = holds;
-    counted = counted_more counts source output so.replies reply so.going.counted more;
+    counted = counted_more counts source output so.replies g.reply so.going.counted g.counted;
   }
 
-  pub session_more : (new : Standing) (after' : Option (List ℕ)) (told' : Option Files) → ((w : List ℕ) → after ≡ Some w → GoesOn given now number at w new after' (following counts source output)) → Holds told' new.belief given.output
-      → SoFar given first text before new number rest after' told' (moved counts source output)
-  session_more new after' told' goes holds =
+  pub session_more : (new : Standing) (after' : Option (List ℕ)) (last : D) → ((w : List ℕ) → after ≡ Some w → GoesOn contents given now number at w new after' there last (following counts source output)) → Holds (contents last) new.belief given.output
+      → SoFar contents given first text before new number rest after' start last (moved counts source output)
+  session_more new after' last goes holds =
       let g = goes (before ++ written given.why so.replies) so.going.bytes in
-      let read : IsRead at = (λ e. (let wrong : true ≡ false = ap ends (sym e) ∙ g.0 in cc (wrong)), λ e. (let wrong : true ≡ false = ap ends (sym e) ∙ g.0 in cc (wrong))) in
+      let read : IsRead at = (λ e. (let wrong : true ≡ false = ap ends (sym e) ∙ g.goes in cc (wrong)), λ e. (let wrong : true ≡ false = ap ends (sym e) ∙ g.goes in cc (wrong))) in
       record {
         lines = so.lines ++ at ∷ [];
-        replies = so.replies ++ g.1.0 ∷ [];
+        replies = so.replies ++ g.reply ∷ [];
         left = (next_of so.lines so.left).1;
-        going = longer new g.1.0 after' told' read g.0 g.1.1 g.1.2 g.1.3 holds g.1.4;
-        unread_is = (is_next read).1 (good_line at g.0);
+        going = longer new after' last g read holds;
+        unread_is = (is_next read).whole (good_line at g.goes);
         number_is = (let more : length (so.lines ++ at ∷ []) ≡ length so.lines + 1 = length-append so.lines (at ∷ []) in omega (arith, numbered));
       }
 
   still : Counted (moved counts source output) so.replies
   still = counted_later counts source output so.replies so.going.counted source_later output_later
 
-  same_going : (after' : Option (List ℕ)) (told' : Option Files) → after' ≡ Some (before ++ written given.why so.replies) → Holds told' now.belief given.output → Going given first text before so.lines so.replies now so.left after' told' (moved counts source output)
-  same_going after' told' bytes holds = record { gone = so.going.gone; bytes = bytes; output = holds; counted = still }
+  -- the lines so far, where the output is the same value
+  same_gone : (last : D) → last ≡ there → Gone contents given first text so.lines so.replies now so.left start last
+  same_gone last same = subst (λ (x : D). Gone contents given first text so.lines so.replies now so.left start x) (sym same) so.going.gone
 
-  cut_at : (part : List ℕ) (after' : Option (List ℕ)) (told' : Option Files) (s : Status) → Stopped given now (line_number (length so.lines)) (next_of so.lines so.left).0 told' part → after' ≡ Some ((before ++ written given.why so.replies) ++ part) → IsCut s part
-      → SessionRun given first text before rest after' told' (moved counts source output) s
-  cut_at part after' told' s stopped bytes cut =
-      AtLine so.lines so.replies now so.left part so.going.gone stopped (bytes ∙ ap Some (append_assoc before (written given.why so.replies) part)) still cut
+  same_going : (after' : Option (List ℕ)) (last : D) → Undone contents given now (before ++ written given.why so.replies) after' there last → Going contents given first text before so.lines so.replies now so.left after' start last (moved counts source output)
+  same_going after' last u = record { gone = same_gone last u.same; bytes = u.bytes; output = u.output; counted = still }
 
-  halted : (after' : Option (List ℕ)) (told' : Option Files) (s : Status) → Halted given now number at (before ++ written given.why so.replies) after' told' s → SessionRun given first text before rest after' told' (moved counts source output) s
-  halted after' told' s (inl h) =
-      cut_at [] after' told' s (inl (h.2.1, refl)) (h.2.0 ∙ ap Some (sym (append-nil (before ++ written given.why so.replies)))) (record { cases = inr h.1; memory = λ _. refl })
-  halted after' told' s (inr h) =
-      cut_at h.1.0 after' told' s (subst (λ (l : Line). Stopped given now (line_number (length so.lines)) l told' h.1.0) (sym (is_next h.0).0) (subst (λ (n : ℕ). Stopped given now n at told' h.1.0) numbered h.1.1)) h.1.2 h.1.3
+  cut_at : (part : List ℕ) (after' : Option (List ℕ)) (last : D) (read : Line) (s : Status) → IsFirstOr (next_of so.lines so.left) so.left read rest → Stopped contents given now (line_number (length so.lines)) (next_of so.lines so.left).0 there last part
+      → after' ≡ Some ((before ++ written given.why so.replies) ++ part) → IsCut s part
+      → SessionRun contents given first text before rest after' start last (moved counts source output) s
+  cut_at part after' last read s is stopped bytes cut =
+      AtLine so.lines so.replies now so.left part there read so.going.gone is stopped (bytes ∙ ap Some (append_assoc before (written given.why so.replies) part)) still cut
 
-  bad_at : (after' : Option (List ℕ)) (told' : Option Files) (bad : ℕ) (kind : ScriptKind) {new : Standing} → IsRead at → new ≡ now → Answers given now number at (BadLine bad kind) new
-      → after' ≡ Some ((before ++ written given.why so.replies) ++ reply_bytes given.why (BadLine bad kind)) → Holds told' new.belief given.output
-      → SessionRun given first text before rest after' told' (moved counts source output) (status.Script bad kind)
-  bad_at after' told' bad kind read same answers bytes holds =
-      let here = subst (λ (s : Standing). Answers given now number at (BadLine bad kind) s) same answers in
-      let counted_here = subst (λ (n : ℕ). Answers given now n at (BadLine bad kind) now) numbered here in
-      AtBad so.lines so.replies now so.left bad kind so.going.gone (subst (λ (l : Line). Answers given now (line_number (length so.lines)) l (BadLine bad kind) now) (sym (is_next read).0) counted_here)
-      (bytes ∙ ap Some (append_assoc before (written given.why so.replies) (reply_bytes given.why (BadLine bad kind)))) (subst (λ (s : Standing). Holds told' s.belief given.output) same holds) still refl
+  halted : (after' : Option (List ℕ)) (last : D) (s : Status) → Halted contents given now number at (before ++ written given.why so.replies) after' there last s → SessionRun contents given first text before rest after' start last (moved counts source output) s
+  halted after' last s (inl h) =
+      cut_at [] after' last at s (no_memory h.0) (inl (record { kept = ap contents h.2.same; output = h.2.output; nothing = refl })) (h.2.bytes ∙ ap Some (sym (append-nil (before ++ written given.why so.replies)))) (record { cases = inr h.1; memory = λ _. refl })
+  halted after' last s (inr h) =
+      cut_at h.1.0 after' last at s (inr (is_next h.0)) (subst (λ (l : Line). Stopped contents given now (line_number (length so.lines)) l there last h.1.0) (sym (is_next h.0).is) (subst (λ (n : ℕ). Stopped contents given now n at there last h.1.0) numbered h.1.1)) h.1.2 h.1.3
 
-  pub session_ends : (new : Standing) (after' : Option (List ℕ)) (told' : Option Files) (s : Status) → ((w : List ℕ) → after ≡ Some w → EndsAt given now number at w new after' told' s)
-      → SessionRun given first text before rest after' told' (moved counts source output) s
-  session_ends new after' told' s at_end = by s (at_end (before ++ written given.why so.replies) so.going.bytes)
+  bad_at : (after' : Option (List ℕ)) (last : D) (bad : ℕ) (kind : ScriptKind) (new : Standing) → TellsBad contents given now number at (before ++ written given.why so.replies) new after' there last bad kind
+      → SessionRun contents given first text before rest after' start last (moved counts source output) (status.Script bad kind)
+  bad_at after' last bad kind new t =
+      let same = bad_same given now new number at bad kind t.answers in
+      let is = is_next t.is_read in
+      let here = answers_here (subst (λ (s : Standing). Answers given now number at (BadLine bad kind) s) same t.answers) in
+      AtBad so.lines so.replies now so.left bad kind (same_gone last t.same) (subst (λ (l : Line). IsFirst (next_of so.lines so.left) so.left l rest) (sym is.is) is)
+      (subst (λ (l : Line). Answers given now (line_number (length so.lines)) l (BadLine bad kind) now) (sym is.is) here)
+      (t.bytes ∙ ap Some (append_assoc before (written given.why so.replies) (reply_bytes given.why (BadLine bad kind)))) (subst (λ (s : Standing). Holds (contents last) s.belief given.output) same t.output) still refl
+
+  pub session_ends : (new : Standing) (after' : Option (List ℕ)) (last : D) (s : Status) → ((w : List ℕ) → after ≡ Some w → EndsAt contents given now number at w new after' there last s)
+      → SessionRun contents given first text before rest after' start last (moved counts source output) s
+  session_ends new after' last s at_end = by s (at_end (before ++ written given.why so.replies) so.going.bytes)
     where
       read_of : ((at ≡ line.End) ⊎ (at ≡ line.Eof)) → IsRead at
       read_of (inl e) = (λ f. (let wrong : line.End ≡ line.Failed = sym e ∙ f in cc (wrong)), λ f. (let wrong : line.End ≡ line.Memory = sym e ∙ f in cc (wrong)))
@@ -303,24 +367,25 @@ module _ (given : Given) (first : Standing) (text before : List ℕ) (now : Stan
       next_is (inl e) n = inl (n ∙ e)
       next_is (inr e) n = inr (n ∙ e)
 
-      by : (s : Status) → EndsAt given now number at (before ++ written given.why so.replies) new after' told' s → SessionRun given first text before rest after' told' (moved counts source output) s
-      by status.Done e = AtEnd so.lines so.replies now so.left (same_going after' told' e.1.0 e.1.1) (next_is e.0 (is_next (read_of e.0)).0) ((is_next (read_of e.0)).1 (good_end e.0)) refl
-      by status.InputFault e = AtInput so.lines so.replies now so.left (same_going after' told' e.1.0 e.1.1) refl
-      by (status.Script bad kind) e = bad_at after' told' bad kind e.0 (bad_same given now new number at bad kind e.1) e.1 e.2 e.3
-      by status.SinkFault e = halted after' told' status.SinkFault e
-      by status.Memory e = halted after' told' status.Memory e
+      by : (s : Status) → EndsAt contents given now number at (before ++ written given.why so.replies) new after' there last s → SessionRun contents given first text before rest after' start last (moved counts source output) s
+      by status.Done e = AtEnd so.lines so.replies now so.left (same_going after' last e.1) (next_is e.0 (is_next (read_of e.0)).is) ((is_next (read_of e.0)).whole (good_end e.0)) refl
+      by status.InputFault e = AtInput so.lines so.replies now so.left (same_going after' last e.1) (cut_off e.0) refl
+      by (status.Script bad kind) e = bad_at after' last bad kind new e
+      by status.SinkFault e = halted after' last status.SinkFault e
+      by status.Memory e = halted after' last status.Memory e
       by (status.Site fault) e = absurd e
       by (status.Usage kind) e = absurd e
       by status.SourceFault e = absurd e
       by (status.OutFault count) e = absurd e
 
 -- before the first line
-pub gone_none : (given : Given) (first : Standing) (text : List ℕ) → Gone given first text [] [] first text
-gone_none given first text = record { taken = refl; run = refl; none_ends = All-nil (λ (l : Line). ends l ≡ false); none_bad = All-nil (λ (r : Reply). bad_status r ≡ None) }
+pub gone_none : {D : Type 0} (contents : D → Option Files) (given : Given) (first : Standing) (text : List ℕ) (start : D) → Gone contents given first text [] [] first text start start
+gone_none contents given first text start = record { taken = refl; run = refl; leave = refl; none_ends = All-nil (λ (l : Line). ends l ≡ false); none_bad = All-nil (λ (r : Reply). bad_status r ≡ None) }
 
 -- a session that came to nothing, for want of memory
-pub session_none : (given : Given) (first : Standing) (text before : List ℕ) (unread after : Option (List ℕ)) (told : Option Files) (source output : ℕ) (s : Status)
-    → Holds told first.belief given.output → after ≡ Some before → s ≡ status.Memory
-    → SessionRun given first text before unread after told (record { source_first = source; source_now = source; output_first = output; output_now = output }) s
-session_none given first text before unread after told source output s holds bytes ends =
-    AtLine [] [] first text [] (gone_none given first text) (inl (holds, refl)) (bytes ∙ ap Some (sym (append-nil before))) (counted_none source output) (record { cases = inr ends; memory = λ _. refl })
+pub session_none : {D : Type 0} (contents : D → Option Files) (given : Given) (first : Standing) (text before : List ℕ) (unread after : Option (List ℕ)) (out : D) (source output : ℕ) (s : Status)
+    → Holds (contents out) first.belief given.output → unread ≡ Some text → after ≡ Some before → s ≡ status.Memory
+    → SessionRun contents given first text before unread after out out (record { source_first = source; source_now = source; output_first = output; output_now = output }) s
+session_none contents given first text before unread after out source output s holds left bytes ends =
+    AtLine [] [] first text [] out line.Memory (gone_none contents given first text out) (inl (refl, none_spares (line_number 0) text unread left)) (inl (record { kept = refl; output = holds; nothing = refl }))
+    (bytes ∙ ap Some (sym (append-nil before))) (counted_none source output) (record { cases = inr ends; memory = λ _. refl })

@@ -40,10 +40,11 @@ pub fn run_jobs<H: Wait, S: SourceTree, O: OutTree, I: ByteSource, K: ByteSink>(
     input: &mut I,
     sink: &mut K,
 ) -> Status
-    // A session does the lines of its script, and tells what it did.
+    // A session does the lines of its script one after another, and takes no byte behind a line before it is done. It tells what it
+    // did; each build leaves the output as its reply says, and no other line calls it.
     ensures session { (given : Given) (options : Options) (text before : List ℕ) → jobs_order words.now moment ≡ Ok (order.Session options) → given.why ≡ options.why →
         S.files source.old ≡ Some given.source → O.contents out.old ≡ Some given.output → I.left input.old ≡ Some text → K.taken sink.old ≡ Some before →
-        SessionRun given (start options.settings moment) text before (I.left input.new) (K.taken sink.new) (O.contents out.new)
+        SessionRun O.contents given (start options.settings moment) text before (I.left input.new) (K.taken sink.new) out.old out.new
         (record { source_first = S.faults source.old; source_now = S.faults source.new; output_first = O.faults out.old; output_now = O.faults out.new }) result }
     ensures session_status { (options : Options) → jobs_order words.now moment ≡ Ok (order.Session options) → EndsSession result }
 
@@ -58,7 +59,7 @@ pub fn run_jobs<H: Wait, S: SourceTree, O: OutTree, I: ByteSource, K: ByteSink>(
     // and how the run is one of a session.
     ensures build_run { (given : Given) (options : Options) (before : List ℕ) → jobs_order words.now moment ≡ Ok (order.Build options) → given.why ≡ options.why →
         S.files source.old ≡ Some given.source → O.contents out.old ≡ Some given.output → K.taken sink.old ≡ Some before →
-        OnceRun given (start options.settings moment) before (K.taken sink.new) (O.contents out.new) result }
+        OnceRun O.contents given (start options.settings moment) before (K.taken sink.new) out.old out.new result }
 
     // Whatever the ends tell: a build leaves the input alone, and the output too where it did not come to build,
     ensures build_input { (options : Options) → jobs_order words.now moment ≡ Ok (order.Build options) → input.new ≡ input.old }
@@ -112,7 +113,7 @@ fn run_session<H: Wait, S: SourceTree, O: OutTree, I: ByteSource, K: ByteSink>(
     requires { is_moment moment ≡ true }
     ensures run { (given : Given) (text before : List ℕ) → given.why ≡ options.why → S.files source.old ≡ Some given.source → O.contents out.old ≡ Some given.output →
         I.left input.old ≡ Some text → K.taken sink.old ≡ Some before →
-        SessionRun given (start options.settings moment) text before (I.left input.new) (K.taken sink.new) (O.contents out.new)
+        SessionRun O.contents given (start options.settings moment) text before (I.left input.new) (K.taken sink.new) out.old out.new
         (record { source_first = S.faults source.old; source_now = S.faults source.new; output_first = O.faults out.old; output_now = O.faults out.new }) result }
     ensures status { EndsSession result }
     ensures input_fault { result ≡ Status.InputFault → Rose (I.faults input.old) (I.faults input.new) }
@@ -144,7 +145,7 @@ fn do_lines<H: Wait, S: SourceTree, O: OutTree, I: ByteSource, K: ByteSink>(
 ) -> Status
     ensures run { (given : Given) (text before : List ℕ) → given.why ≡ why → S.files source.old ≡ Some given.source → Holds (O.contents out.old) session.old.belief given.output →
         I.left input.old ≡ Some text → K.taken sink.old ≡ Some before →
-        SessionRun given session.old text before (I.left input.new) (K.taken sink.new) (O.contents out.new)
+        SessionRun O.contents given session.old text before (I.left input.new) (K.taken sink.new) out.old out.new
         (record { source_first = S.faults source.old; source_now = S.faults source.new; output_first = O.faults out.old; output_now = O.faults out.new }) result }
     ensures status { EndsSession result }
     ensures input_fault { result ≡ Status.InputFault → Rose (I.faults input.old) (I.faults input.new) }
@@ -183,10 +184,10 @@ fn turn<S: SourceTree, O: OutTree, K: ByteSink>(
 ) -> Option<Status>
     requires { IsInTime line }
     ensures next { (given : Given) (before : List ℕ) → given.why ≡ why → S.files source.old ≡ Some given.source → Holds (O.contents out.old) session.old.belief given.output →
-        K.taken sink.old ≡ Some before → IfNone result (GoesOn given session.old number line before session.new (K.taken sink.new)
+        K.taken sink.old ≡ Some before → IfNone result (GoesOn O.contents given session.old number line before session.new (K.taken sink.new) out.old out.new
         (record { source_first = S.faults source.old; source_now = S.faults source.new; output_first = O.faults out.old; output_now = O.faults out.new })) }
     ensures ends { (given : Given) (before : List ℕ) → given.why ≡ why → S.files source.old ≡ Some given.source → Holds (O.contents out.old) session.old.belief given.output →
-        K.taken sink.old ≡ Some before → IfSome result (λ status. EndsAt given session.old number line before session.new (K.taken sink.new) (O.contents out.new) status) }
+        K.taken sink.old ≡ Some before → IfSome result (λ status. EndsAt O.contents given session.old number line before session.new (K.taken sink.new) out.old out.new status) }
     ensures belief { (first : Files) → Holds (O.contents out.old) session.old.belief first → Holds (O.contents out.new) session.new.belief first }
     ensures status { IfSome result (λ status. EndsSession status) }
     ensures input { result ≡ Some Status.InputFault → line ≡ Line.Failed }

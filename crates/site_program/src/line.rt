@@ -40,7 +40,7 @@ pub(crate) fn do_line<S: SourceTree, O: OutTree, K: ByteSink>(
     // Where the run is cut short, the line was not done, or done without its whole reply.
     ensures stopped { (given : Given) (before : List ℕ) → given.why ≡ why → S.files source.old ≡ Some given.source →
         Holds (O.contents out.old) session.old.belief given.output → K.taken sink.old ≡ Some before →
-        IfErr result (λ stop. (part : List ℕ) × Stopped given session.old number line (O.contents out.new) part
+        IfErr result (λ stop. (part : List ℕ) × Stopped O.contents given session.old number line out.old out.new part
         × (K.taken sink.new ≡ Some (before ++ part)) × (stop ≡ Stop.Memory → part ≡ [])) }
 
     ensures source_same { S.files source.new ≡ S.files source.old }

@@ -45,7 +45,7 @@ pub fn run_once<S: SourceTree, O: OutTree, K: ByteSink>(
     // and that the run is one of a session over the script `scan`, `build`.
     ensures once_run { (given : Given) (settings : Settings) (before : List ℕ) → once_order words.now moment ≡ Ok (order.Once settings) → given.why ≡ false →
         S.files source.old ≡ Some given.source → O.contents out.old ≡ Some given.output → K.taken sink.old ≡ Some before →
-        OnceRun given (start settings moment) before (K.taken sink.new) (O.contents out.new) result }
+        OnceRun O.contents given (start settings moment) before (K.taken sink.new) out.old out.new result }
 
     // Of `check`: when each status comes,
     ensures check { (given : Given) (settings : Settings) → once_order words.now moment ≡ Ok (order.Check settings) →
@@ -100,7 +100,7 @@ pub(crate) fn scan_and_build<S: SourceTree, O: OutTree, K: ByteSink>(
         K.taken sink.old ≡ Some before → Took given (after_scan given (start settings moment)) before (K.taken sink.new) result }
     ensures run { (given : Given) (before : List ℕ) → given.why ≡ why →
         S.files source.old ≡ Some given.source → O.contents out.old ≡ Some given.output → K.taken sink.old ≡ Some before →
-        OnceRun given (start settings moment) before (K.taken sink.new) (O.contents out.new) result }
+        OnceRun O.contents given (start settings moment) before (K.taken sink.new) out.old out.new result }
     ensures no_usage { (kind : UsageKind) → result ≡ Status.Usage kind → ⊥ }
     ensures no_input { result ≡ Status.InputFault → ⊥ }
     ensures untouched { Untouched result → out.new ≡ out.old }

@@ -329,3 +329,27 @@ memory_rest number count path text bytes after r few =
     by : (b : Bool) → length bytes ≤ length text → length bytes + length (let made : Line × List ℕ = if b then (line.Bad number kind.Cut, []) else (line.Put path (take count text), drop count text) in made.1) ≤ length text
     by true all = omega (arith, all)
     by false all = let d : length (drop count text) ≡ length text - count = dropped count text in omega (arith, all, few, d)
+
+-- nothing was taken
+pub none_spares : (number : ℕ) (text : List ℕ) (after : Option (List ℕ)) → after ≡ Some text → Spares (first_line number text).1 text after
+none_spares number text after left =
+    let less : length (after_line text) ≤ length text = length_drop _ text in
+    ([], read_none text after left, omega (arith, first_length number text, less))
+
+-- a text never says that its input failed
+pub never_failed : (number : ℕ) (text : List ℕ) → (first_line number text).0 ≡ line.Failed → ⊥
+never_failed number [] e = cc (e)
+never_failed number (b ∷ text) e = by (head_of (content (b ∷ text))) e
+  where
+    cut : (count : ℕ) (path rest : List ℕ) (c : Bool) → (let made : Line × List ℕ = if c then (line.Bad number kind.Cut, []) else (line.Put path (take count rest), drop count rest) in made.0) ≡ line.Failed → ⊥
+    cut count path rest true e = cc (e)
+    cut count path rest false e = cc (e)
+
+    by : (h : Head) → (whole_line number h (after_line (b ∷ text))).0 ≡ line.Failed → ⊥
+    by head.Scan e = cc (e)
+    by head.Build e = cc (e)
+    by head.End e = cc (e)
+    by (head.Delete path) e = cc (e)
+    by (head.Time seconds) e = cc (e)
+    by (head.Bad k) e = cc (e)
+    by (head.Put path count) e = cut count path (after_line (b ∷ text)) (nat_lt (length (after_line (b ∷ text))) count) e

@@ -1,5 +1,6 @@
 -- What a build makes of a session.
-use Rattle.std.proofs.Common.{◌≡◌, ℕ, Bool, true, false, List, [], ◌∷◌, length, refl, sym, ◌∙◌, ap, subst, Option, Some, None, Result, Ok, Err, arith}
+use Rattle.std.proofs.Common.{◌≡◌, inl, inr, ℕ, Bool, true, false, List, [], ◌∷◌, ◌++◌, append_assoc, map, length, refl, sym, ◌∙◌, ap, subst, Option, Some, None, Result, Ok, Err, OnOk, OnErr, arith}
+use Rattle.std.proofs.lemmas.List.{append-nil}
 use Rattle.std.specs.Option.{IsSome}
 use Rattle.site_base.specs.Places.{Files, is_listed}
 use Rattle.out_tree.specs.Belief.{Belief, after, believed, all_marked, IsTrueOf, HoldsOf}
@@ -8,11 +9,15 @@ use Rattle.out_tree.specs.Keep.{is_kept}
 use Rattle.out_tree.specs.declared.state.State.TheVariants as state
 use Rattle.std.specs.FinMap.{get}
 use Rattle.out_tree.specs.Plan.{planned}
-use Rattle.out_tree.specs.Tries.{DoneBut, InOrder, StaysTrue}
+use Rattle.out_tree.specs.Device.{Calls}
+use Rattle.out_tree.specs.Tries.{CallsFor, DoneBut, InOrder, StaysTrue}
+use Rattle.out_tree.specs.declared.step.Call.{Call}
+use Rattle.out_tree.specs.declared.step.Call.TheVariants as call
+use Rattle.site_base.specs.declared.faults.SiteFault.{SiteFault}
 use Rattle.out_tree.specs.declared.step.Step.{Step}
 use Rattle.site_session.specs.Standing.{Standing, TrueTo, Holds, MakesBut, MarksExactly}
 use Rattle.site_session.specs.Session.{Given, Reply, Event, Built, Marked, Unlisted, Nothing, TheScan, TheList, TheSteps, event_of, failed_in, failed_of, build_listed, build_reply, build_tree, report}
-use Rattle.site_session.specs.Replies.{built_reply}
+use Rattle.site_session.specs.Replies.{built_reply, build_calls, Called, ListsAtMost}
 use Rattle.site_session.specs.declared.output.Output.{Output}
 use Rattle.site_session.specs.declared.build.Report.{Report}
 use Rattle.site_session.specs.declared.build.Rebuilt.{Rebuilt}
@@ -123,3 +128,50 @@ holds_again told (Some belief) first other some h = record { there = h.there; to
 pub same_told : (failed : List (List ℕ)) (output : Output) (told was tells : Option Files) → told ≡ was → MakesBut failed output told tells → MakesBut failed output was tells
 same_told failed output told was tells same made =
     record { old = made.old; new = made.new; told_is = sym same ∙ made.told_is; tells_is = made.tells_is; exactly = made.exactly }
+
+-- ---- how the output was called
+
+pub on_err : {T E P Q : Type 0} (r : Result T E) → (P → Q) → OnErr r P → OnErr r Q
+on_err (Ok value) f p = p
+on_err (Err error) f p = f p
+
+pub no_calls : (calls : Option (List Call)) → Calls calls calls []
+no_calls calls = λ all is. (all, is, sym (append-nil all))
+
+calls_then : (old mid new : Option (List Call)) (first second : List Call) → Calls old mid first → Calls mid new second → Calls old new (first ++ second)
+calls_then old mid new first second a b = λ all is.
+    let l = b all is in
+    let f = a l.0 l.1 in
+    (f.0, f.1, l.2 ∙ ap (λ (c : List Call). c ++ second) f.2 ∙ append_assoc f.0 first second)
+
+-- an output that had been listed is not listed again
+pub record ListedBy (was : Option Belief) (old new : Option (List Call)) : Type 0 where
+  pub again : IsSome was → new ≡ old
+  pub once : was ≡ None → Calls old new (call.List ∷ [])
+
+-- the steps follow the list
+build_called : (was mid : Option Belief) (told : Option Files) (first : Files) (output : Output) (old between new : Option (List Call)) → Listed was mid told → Holds told was first → ListedBy was old between
+    → CallsFor (planned (believed mid) output.tree output.keep) between new → Calls old new (build_calls was first output)
+build_called (Some belief) mid told first output old between new l h by steps =
+    let same : believed mid ≡ belief = ap believed (l.again refl) in
+    subst (λ (c : Option (List Call)). Calls c new (map call.Try (planned belief output.tree output.keep))) (by.again refl)
+    (subst (λ (b : Belief). CallsFor (planned b output.tree output.keep) between new) same steps)
+build_called None mid told first output old between new l h by steps =
+    let same : believed mid ≡ all_marked first = ap believed (l.marks refl first (h.told_is ∙ ap Some h.is_true)) in
+    calls_then old between new (call.List ∷ []) (map call.Try (planned (all_marked first) output.tree output.keep)) (by.once refl)
+    (subst (λ (b : Belief). CallsFor (planned b output.tree output.keep) between new) same steps)
+
+-- no step was tried
+lists_at_most : (was : Option Belief) (old new : Option (List Call)) → ListedBy was old new → ListsAtMost was old new
+lists_at_most (Some belief) old new by = inl (subst (λ (c : Option (List Call)). Calls c new []) (by.again refl) (no_calls new))
+lists_at_most None old new by = inr (refl, by.once refl)
+
+pub called : (was mid : Option Belief) (told : Option Files) (first : Files) (output : Output) (old between new : Option (List Call)) (result : Result Rebuilt Memory) → Listed was mid told → Holds told was first → ListedBy was old between
+    → ((fault : SiteFault) → result ≡ Ok (rebuilt.Fault fault) → ⊥) → ((reply : Reply) → built_reply result ≡ Some reply → event_of reply ≡ TheList → ⊥)
+    → OnOk result (CallsFor (planned (believed mid) output.tree output.keep) between new) → OnErr result (new ≡ between) → Called was first output result old new
+called was mid told first output old between new (Ok (rebuilt.Built report)) l h by fault unlisted steps same = build_called was mid told first output old between new l h by steps
+called was mid told first output old between new (Ok (rebuilt.Marked paths)) l h by fault unlisted steps same = build_called was mid told first output old between new l h by steps
+called was mid told first output old between new (Ok (rebuilt.Fault f)) l h by fault unlisted steps same = absurd (fault f refl)
+called was mid told first output old between new (Ok rebuilt.Unlisted) l h by fault unlisted steps same = absurd (unlisted Unlisted refl refl)
+called was mid told first output old between new (Err error) l h by fault unlisted steps same =
+    subst (λ (c : Option (List Call)). ListsAtMost was old c) (sym same) (lists_at_most was old between by)

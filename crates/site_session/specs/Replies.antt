@@ -1,11 +1,17 @@
 -- The reply that an answer of a session's call goes with; want of memory has none.
-use Rattle.std.specs.Prelude.{◌≡◌, ℕ, Bool, true, false, List, [], Option, Some, None, Result, Ok, Err}
+use Rattle.std.specs.Prelude.{◌≡◌, ◌⊎◌, ℕ, ◌+◌, Bool, true, false, List, [], ◌∷◌, map, Option, Some, None, Result, Ok, Err}
 use Rattle.site_base.specs.declared.errors.Memory.{Memory}
+use Rattle.site_script.specs.Line.{line_number}
+use Rattle.site_script.specs.declared.line.Line.{Line}
 use Rattle.source_tree.specs.declared.scan_error.ScanError.{ScanError}
 use Rattle.source_tree.specs.declared.scan_error.ScanError.TheVariants as scan_error
-use Rattle.site_session.specs.Session.{full_now, Reply, Scanned, ScanFault, Faulty, Fine, Absent, Built, Marked, Unlisted, BadLine, Silent, output_faults}
+use Rattle.site_session.specs.Session.{Given, event_of, full_now, step, Reply, Scanned, ScanFault, Faulty, Fine, Absent, Built, Marked, Unlisted, BadLine, Silent, output_faults}
 use Rattle.site_base.specs.Places.{Files}
-use Rattle.out_tree.specs.Belief.{Belief}
+use Rattle.out_tree.specs.Belief.{Belief, all_marked}
+use Rattle.out_tree.specs.Device.{Calls}
+use Rattle.out_tree.specs.Plan.{planned}
+use Rattle.out_tree.specs.declared.step.Call.{Call}
+use Rattle.out_tree.specs.declared.step.Call.TheVariants as call
 use Rattle.site_session.specs.Standing.{Standing, MakesBut, MarksExactly}
 use Rattle.site_session.specs.declared.output.Output.{Output}
 use Rattle.site_session.specs.declared.build.Rebuilt.{Rebuilt}
@@ -69,3 +75,33 @@ has_called_output Silent = false
 pub record IsQuiet (reply : Reply) : Type 0 where
   pub called : has_called_output reply ≡ false
   pub faults : output_faults reply ≡ 0
+
+-- the calls of a build on the output: a list where it was not listed, and then each step of the plan
+abbrev pub build_calls : Option Belief → Files → Output → List Call
+build_calls (Some belief) first output = map call.Try (planned belief output.tree output.keep)
+build_calls None first output = call.List ∷ map call.Try (planned (all_marked first) output.tree output.keep)
+
+-- where memory was wanting: no call, or the first list
+abbrev pub ListsAtMost : Option Belief → Option (List Call) → Option (List Call) → Type 0
+ListsAtMost belief old new = Calls old new [] ⊎ ((belief ≡ None) × Calls old new (call.List ∷ []))
+
+-- where the output tells its calls, how a build called it that ended so; one that gives no list is called for nothing else
+abbrev pub Called : Option Belief → Files → Output → Result Rebuilt Memory → Option (List Call) → Option (List Call) → Type 0
+Called belief first output (Ok (rebuilt.Built report)) old new = Calls old new (build_calls belief first output)
+Called belief first output (Ok (rebuilt.Marked paths)) old new = Calls old new (build_calls belief first output)
+Called belief first output (Ok rebuilt.Unlisted) old new = Calls old new (call.List ∷ [])
+Called belief first output (Ok (rebuilt.Fault fault)) old new = Calls old new []
+Called belief first output (Err error) old new = ListsAtMost belief old new
+
+-- what a line has left of the output that is replied so: one that was not called is the same value, and a build leaves what `LeavesBy` says
+pub record LineLeaves {D : Type 0} (contents : D → Option Files) (now : Standing) (reply : Reply) (belief : Option Belief) (before after : D) : Type 0 where
+  pub built : LeavesBy now reply (contents before) (contents after) belief
+  pub untouched : has_called_output reply ≡ false → after ≡ before
+
+-- after so many lines, the session gives these replies to these lines, and each has left of the output what it may
+abbrev pub AllLeave : {D : Type 0} → (D → Option Files) → Given → Standing → ℕ → List Line → List Reply → D → D → Type 0
+AllLeave contents given old before [] replies first last = last ≡ first
+AllLeave contents given old before (line ∷ lines) [] first last = ⊥
+AllLeave {D} contents given old before (line ∷ lines) (reply ∷ replies) first last =
+    let new = (step given old (line_number before) line (event_of reply)).0 in
+    (there : D) × LineLeaves contents old reply new.belief first there × AllLeave contents given new (before + 1) lines replies there last

@@ -5,11 +5,14 @@ ghost use Rattle.site_base.specs.Places.{Files};
 ghost use Rattle.out_tree.specs.Belief.{Belief, believed, IsTrueOf};
 ghost use Rattle.site_session.specs.Standing.{Standing, Holds, MakesBut, MarksExactly};
 ghost use Rattle.site_session.specs.Session.{Given, Reply, event_of, failed_of, build_tree, build_listed, output_faults, TheList};
-ghost use Rattle.site_session.specs.Replies.{built_reply, FailedAt};
+ghost use Rattle.out_tree.specs.Plan.{planned};
+ghost use Rattle.out_tree.specs.Tries.{CallsFor};
+ghost use Rattle.site_session.specs.Replies.{built_reply, Called, FailedAt};
+ghost use Rattle.site_session.specs.declared.build.Report.{Report};
 
 use crate::output::Output;
 use crate::why::Whys;
-use out_tree::{OutKeeper, OutTree, Touched};
+use out_tree::{OutKeeper, OutTree};
 use site_base::{ListError, Memory, PathList, SiteFault};
 use std::alloc::Global;
 
@@ -58,6 +61,9 @@ pub(crate) fn make<O: OutTree>(
     ensures no_fault { (fault : SiteFault) → result ≡ Ok (Rebuilt.Fault fault) → ⊥ }
     ensures later { O.faults out.old ≤ O.faults out.new }
     ensures cause { (reply : Reply) → built_reply result ≡ Some reply → min (O.faults out.old + output_faults reply) (2 ^ 64 - 1) ≤ O.faults out.new }
+    ensures steady { (report : Report) → result ≡ Ok (Rebuilt.Built report) → O.faults out.new ≡ O.faults out.old }
+    ensures called { (first : Files) → Holds (O.contents out.old) keeper.old first →
+        Called keeper.old first output result (O.calls out.old) (O.calls out.new) }
     ensures err { OnErr result (O.contents out.new ≡ O.contents out.old) }
 {
     match keeper.list_once(alloc, out) {
@@ -87,15 +93,11 @@ fn make_listed<O: OutTree>(
     ensures later { O.faults out.old ≤ O.faults out.new }
     ensures cause { (reply : Reply) → built_reply result ≡ Some reply → min (O.faults out.old + output_faults reply) (2 ^ 64 - 1) ≤ O.faults out.new }
     ensures unlisted { (reply : Reply) → built_reply result ≡ Some reply → event_of reply ≡ TheList → ⊥ }
+    ensures steady { (report : Report) → result ≡ Ok (Rebuilt.Built report) → O.faults out.new ≡ O.faults out.old }
+    ensures called { OnOk result (CallsFor (planned (believed keeper.old) output.tree output.keep) (O.calls out.old) (O.calls out.new)) }
     ensures err { OnErr result ((keeper.new ≡ keeper.old) × (out.new ≡ out.old)) }
 {
-    let applied = match keeper.make_equal(
-        alloc,
-        &output.tree,
-        &output.keep,
-        &Touched::anywhere(),
-        out,
-    ) {
+    let applied = match keeper.make_equal(alloc, &output.tree, &output.keep, out) {
         Ok(applied) => applied,
         Err(Memory) => return Err(Memory),
     };

@@ -8,8 +8,10 @@ ghost use Rattle.site_base.specs.declared.faults.SiteFault.{SiteFault};
 ghost use Rattle.site_script.specs.Line.{IsInTime, is_moment};
 ghost use Rattle.site_session.specs.Full.{full, fault_of};
 ghost use Rattle.site_session.specs.Standing.{Holds};
-ghost use Rattle.site_session.specs.Session.{Given, Reply, Fine, Absent, Answers, start, output_faults, source_faults};
-ghost use Rattle.site_session.specs.Replies.{scan_reply, built_reply, FailedAt, Leaves, LeavesBy, IsQuiet, has_called_output};
+ghost use Rattle.site_session.specs.Session.{Given, Reply, Fine, Absent, Answers, full_now, start, output_faults, source_faults};
+ghost use Rattle.site_session.specs.declared.build.Report.{Report};
+ghost use Rattle.site_session.specs.declared.output.Output.{Output};
+ghost use Rattle.site_session.specs.Replies.{scan_reply, built_reply, Called, FailedAt, Leaves, LeavesBy, IsQuiet, has_called_output};
 ghost use Rattle.site_script.specs.declared.line.Line.TheVariants as line;
 
 use crate::build::{Rebuilt, make};
@@ -120,8 +122,14 @@ impl Session {
             Leaves self.old failed (O.contents out.old) (O.contents out.new) self.new.belief }
         ensures unlisted { result ≡ Ok Rebuilt.Unlisted → O.contents out.new ≡ O.contents out.old }
         ensures fault { (fault : SiteFault) → result ≡ Ok (Rebuilt.Fault fault) → (full self.old.files self.old.moment self.old.settings ≡ Err fault) × (self.new ≡ self.old) × (out.new ≡ out.old) }
+        // Files with a fault make no call on the output; others list it where it was not listed, and then try each step of the plan once.
+        ensures quiet { (fault : SiteFault) → full_now self.old ≡ Err fault → out.new ≡ out.old }
+        ensures called { (first : Files) (output : Output) → Holds (O.contents out.old) self.old.belief first → full_now self.old ≡ Ok output →
+            Called self.old.belief first output result (O.calls out.old) (O.calls out.new) }
+        // The output's count of failures rises by at least what the answer shows, and stays where all went well.
         ensures later { O.faults out.old ≤ O.faults out.new }
         ensures cause { (reply : Reply) → built_reply result ≡ Some reply → min (O.faults out.old + output_faults reply) (2 ^ 64 - 1) ≤ O.faults out.new }
+        ensures steady { (report : Report) → result ≡ Ok (Rebuilt.Built report) → O.faults out.new ≡ O.faults out.old }
         ensures same { (self.new.files ≡ self.old.files) × (self.new.moment ≡ self.old.moment) × (self.new.settings ≡ self.old.settings) }
         ensures err { OnErr result (O.contents out.new ≡ O.contents out.old) }
     {

@@ -16,8 +16,9 @@ pub took : (given : Given) (first start : Standing) (after : Option (List ℕ)) 
     → Took given (after_scan given first) [] after status → Took given (after_scan given start) [] after status
 took given first start after status start_is h = subst (λ (s : Standing). Took given (after_scan given s) [] after status) start_is h
 
-pub session : (given : Given) (first start : Standing) (text : List ℕ) (unread after : Option (List ℕ)) (told : Option Files) (was counts : Counts) (status : Status) → first ≡ start → was ≡ counts
-    → SessionRun given first text [] unread after told was status → SessionRun given start text [] unread after told counts status
-session given first start text unread after told was counts status start_is counts_are h =
-    subst (λ (n : Counts). SessionRun given start text [] unread after told n status) counts_are
-    (subst (λ (s : Standing). SessionRun given s text [] unread after told was status) start_is h)
+pub session : {D : Type 0} (contents : D → Option Files) (given : Given) (first start : Standing) (text : List ℕ) (unread after : Option (List ℕ)) (out begun last : D) (was counts : Counts) (status : Status) → first ≡ start → out ≡ begun → was ≡ counts
+    → SessionRun contents given first text [] unread after out last was status → SessionRun contents given start text [] unread after begun last counts status
+session {D} contents given first start text unread after out begun last was counts status start_is out_is counts_are h =
+    subst (λ (n : Counts). SessionRun contents given start text [] unread after begun last n status) counts_are
+    (subst (λ (o : D). SessionRun contents given start text [] unread after o last was status) out_is
+    (subst (λ (s : Standing). SessionRun contents given s text [] unread after out last was status) start_is h))

@@ -10,6 +10,7 @@ use Rattle.site_base.specs.Path.{path_refusal}
 use Rattle.site_base.specs.Places.{AllDiffer, Files, paths_of}
 use Rattle.site_base.specs.declared.path.PathError.{PathError}
 use Rattle.site_base.specs.declared.path.PathError.TheVariants as path_error
+use Rattle.out_tree.specs.Memory.{OutState}
 use Rattle.site_session.specs.Session.{Given}
 use Rattle.site_words.specs.declared.orders.Options.{Options}
 use Rattle.site_tests.specs.declared.scenario.Scenario.{Scenario}
@@ -44,6 +45,14 @@ given_of scenario = record { source = files_of scenario.sources.now; output = fi
 -- the same where a command line says whether reasons are told
 abbrev pub told_of : Scenario → Options → Given
 told_of scenario options = record (given_of scenario) { why = options.why }
+
+-- the output before the run
+abbrev pub output_of : Scenario → OutState
+output_of scenario = record { files = files_of scenario.outputs.now; told = Some []; fail = scenario.output_fails.now; calls = 0; faults = 0; short = 0 }
+
+-- an output in memory tells its contents
+abbrev pub contents : OutState → Option Files
+contents out = Some out.files
 
 -- no call of an end is listed as one that fails
 pub record FailsNowhere (scenario : Scenario) : Type 0 where

@@ -9,7 +9,7 @@ ghost use Rattle.site_program.specs.Checks.{CheckTook, Checked};
 ghost use Rattle.site_program.specs.Sessions.{SessionRun};
 ghost use Rattle.source_tree.specs.Put.{plain};
 ghost use Rattle.site_base.specs.Places.{paths_of};
-ghost use Rattle.site_tests.specs.Scenarios.{IsFault, file_list, files_of, given_of, has_just, has_refused, told_of, FailsNowhere, word_list};
+ghost use Rattle.site_tests.specs.Scenarios.{IsFault, contents, file_list, output_of, files_of, given_of, has_just, has_refused, told_of, FailsNowhere, word_list};
 
 use crate::scenario_error::ScenarioError;
 use out_tree::MemoryOut;
@@ -119,8 +119,8 @@ impl<'a> Scenario<'a> {
             outcome.ends.input.left ≡ self.now.script.now) }
         // Of `session`: that it does the lines of the script, and tells what it did.
         ensures session { (options : Options) → jobs_order (word_list self.now.words.now) moment ≡ Ok (order.Session options) → IfOk result (λ outcome.
-            SessionRun (told_of self.now options) (start options.settings moment) self.now.script.now [] (Some outcome.ends.input.left) (Some outcome.ends.sink.taken)
-            (Some outcome.ends.out.files) (record { source_first = 0; source_now = outcome.ends.source.faults; output_first = 0; output_now = outcome.ends.out.faults }) outcome.status) }
+            SessionRun contents (told_of self.now options) (start options.settings moment) self.now.script.now [] (Some outcome.ends.input.left) (Some outcome.ends.sink.taken)
+            (output_of self.now) outcome.ends.out (record { source_first = 0; source_now = outcome.ends.source.faults; output_first = 0; output_now = outcome.ends.out.faults }) outcome.status) }
         ensures fault { IfErr result (IsFault self.now) }
     {
         let words = words(alloc, self.words)?;
@@ -138,10 +138,10 @@ impl<'a> Scenario<'a> {
         Ok(Outcome { status, ends })
     }
 
-    // The ends before the run.
-    fn ends(&self, alloc: Global) -> Result<Ends, ScenarioError>
+    /// The ends before a run: each holds what the scenario gives it and fails at the calls that are its own.
+    pub fn ends(&self, alloc: Global) -> Result<Ends, ScenarioError>
         ensures source { IfOk result (λ ends. ends.source ≡ record { files = files_of self.now.sources.now; fail = self.now.source_fails.now; calls = 0; faults = 0 }) }
-        ensures out { IfOk result (λ ends. ends.out ≡ record { files = files_of self.now.outputs.now; told = Some []; fail = self.now.output_fails.now; calls = 0; faults = 0; short = 0 }) }
+        ensures out { IfOk result (λ ends. ends.out ≡ output_of self.now) }
         ensures input { IfOk result (λ ends. ends.input ≡ record { left = self.now.script.now; fail = self.now.input_fails.now; calls = 0; faults = 0 }) }
         ensures sink { IfOk result (λ ends. ends.sink ≡ record { taken = []; fail = self.now.sink_fails.now; calls = 0; faults = 0; short = 0 }) }
         ensures fault { IfErr result (IsFault self.now) }

@@ -58,6 +58,6 @@ autolinks_14 : html (codes "https://example.com\n") ≡ codes "<p>https://exampl
 unfolding html
 autolinks_14 = refl
 
-autolinks_15 : html (codes "<http://a.b/`c'd[e]>\n") ≡ codes "<p><a href=\"http://a.b/`c'd%5Be%5D\">http://a.b/`c'd[e]</a></p>\n"
+autolinks_15 : html (codes "<http://a.b/`c'd[e]>\n") ≡ codes "<p><a href=\"http://a.b/%60c'd%5Be%5D\">http://a.b/`c'd[e]</a></p>\n"
 unfolding html
 autolinks_15 = refl

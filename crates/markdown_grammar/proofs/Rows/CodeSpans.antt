@@ -77,3 +77,7 @@ code_spans_18 = refl
 code_spans_19 : html (codes "`foo``bar``\n") ≡ codes "<p>`foo<code>bar</code></p>\n"
 unfolding html
 code_spans_19 = refl
+
+code_spans_20 : html (codes "<https://foo.bar.`baz>`\n") ≡ codes "<p><a href=\"https://foo.bar.%60baz\">https://foo.bar.`baz</a>`</p>\n"
+unfolding html
+code_spans_20 = refl

@@ -129,3 +129,7 @@ html_blocks_31 = refl
 html_blocks_32 : html (codes "<pre-a>\n*b*\n") ≡ codes "<pre-a>\n*b*\n"
 unfolding html
 html_blocks_32 = refl
+
+html_blocks_33 : html (codes "<!-- a -> *b*\n*c*\n-->\n*d*\n") ≡ codes "<!-- a -> *b*\n*c*\n-->\n<p><em>d</em></p>\n"
+unfolding html
+html_blocks_33 = refl

@@ -178,6 +178,18 @@ links_44 : html (codes "[foo<https://example.com/?search=](uri)>\n") ≡ codes "
 unfolding html
 links_44 = refl
 
+links_45 : html (codes "[a](/x`y)\n") ≡ codes "<p><a href=\"/x%60y\">a</a></p>\n"
+unfolding html
+links_45 = refl
+
+links_46 : html (codes "[a](((((((((((((((((((((((((((((((((b)))))))))))))))))))))))))))))))))\n") ≡ codes "<p><a href=\"((((((((((((((((((((((((((((((((b))))))))))))))))))))))))))))))))\">a</a></p>\n"
+unfolding html
+links_46 = refl
+
+links_47 : html (codes "[a]((((((((((((((((((((((((((((((((((b))))))))))))))))))))))))))))))))))\n") ≡ codes "<p>[a]((((((((((((((((((((((((((((((((((b))))))))))))))))))))))))))))))))))</p>\n"
+unfolding html
+links_47 = refl
+
 link_references_1 : html (codes "[foo][bar]\n\n[bar]: /url \"title\"\n") ≡ codes "<p><a href=\"/url\" title=\"title\">foo</a></p>\n"
 unfolding html
 link_references_1 = refl

@@ -1,29 +1,11 @@
-use Rattle.std.proofs.Common.{arith}
-use Rattle.cm_containers.proofs.Walking.{spot_front}
-use Rattle.cm_blocks.specs.declared.kinds.Container.TheVariants.{Quote}
-use Rattle.cm_blocks.proofs.Reaches.{all_ahead, goes_on, stops_at, stops_at_end, stops_behind}
+use Rattle.std.proofs.Common.{false, sym, true, ◌∙◌}
+use Rattle.cm_blocks.proofs.Reaches.{is_reached}
 use Rattle.cm_blocks.proofs.reaching.go_into.Goals as goal
 
-pub loop-kept-init : goal.loop-kept-init
-loop-kept-init c = record { within = omega arith; spot = spot_front c.args.line.now c.utf8.line; so_far = all_ahead c.args.is_prose c.args.is_filled c.args.stack.now c.args.line.now }
-
-pub loop-kept-smaller : goal.loop-kept-smaller
-loop-kept-smaller c = omega (arith, c.loop-kept-test.true)
-
-pub loop-kept-preserved : goal.loop-kept-preserved
-loop-kept-preserved c = record {
-  within = omega (arith, c.loop-kept-test.true);
-  spot = c.in-Some.ensures.inside;
-  so_far = goes_on c.args.is_prose c.args.is_filled c.args.stack.now c.loop-kept.kept Quote c.args.line.now c.loop-kept.spot c.in-Some.inside _ c.is_filled_at-has_block.result c.loop-kept-test.true c.is_filled_at-has_block.ensures c.in-Some.ensures.rest c.loop-kept.invariant.so_far;
-}
-
-pub returns-in-None-clause-value : goal.returns-in-None-clause-value
-returns-in-None-clause-value c =
-    stops_at c.args.is_prose c.args.is_filled c.args.stack.now c.loop-kept.kept Quote c.args.line.now c.loop-kept.spot _ c.is_filled_at-has_block.result c.is_lazy_at-is_lazy.result c.left_at.result c.loop-kept-test.true c.is_filled_at-has_block.ensures c.in-None.ensures.rest c.is_lazy_at-is_lazy.ensures c.left_at.ensures c.loop-kept.invariant.so_far
+pub returns-then-goes_on_lazily-clause-value : goal.returns-then-goes_on_lazily-clause-value
+returns-then-goes_on_lazily-clause-value c =
+    is_reached c.args.is_prose c.args.is_filled c.args.stack.now c.args.line.now c.enter-kept.result c.len-count.result true c.len-count.ensures c.enter-kept.ensures.value (sym c.if-goes_on_lazily.true ∙ c.goes_on_lazily.ensures)
 
 pub returns-clause-value : goal.returns-clause-value
-returns-clause-value c = stops_behind c.args.is_prose c.args.is_filled c.args.stack.now c.loop-kept.kept c.args.line.now c.loop-kept.spot _ c.stop-2.result c.loop-kept-test.false c.stop-2.ensures c.loop-kept.invariant.so_far
-
-pub returns-then-is_at_end-clause-value : goal.returns-then-is_at_end-clause-value
-returns-then-is_at_end-clause-value c =
-    stops_at_end c.args.is_prose c.args.is_filled c.args.stack.now c.args.quoted c.loop-kept.kept c.args.line.now c.loop-kept.spot _ c.items_kept.result c.stop.result c.requires c.if-kept-quoted.true c.loop-kept-test.true (c.is_at_end.ensures c.if-is_at_end.true) c.items_kept.ensures c.stop.ensures c.loop-kept.invariant.so_far
+returns-clause-value c =
+    is_reached c.args.is_prose c.args.is_filled c.args.stack.now c.args.line.now c.enter-kept.result c.len-count.result false c.len-count.ensures c.enter-kept.ensures.value (sym c.if-goes_on_lazily.false ∙ c.goes_on_lazily.ensures)

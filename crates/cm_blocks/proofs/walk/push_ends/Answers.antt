@@ -1,5 +1,5 @@
 use Rattle.std.proofs.Common.{arith}
-use Rattle.cm_blocks.specs.declared.kinds.Container.TheVariants.{Quote}
+use Rattle.cm_containers.specs.declared.kinds.Container.TheVariants.{Quote}
 use Rattle.cm_blocks.proofs.ClosingLaws.{closes_all, closes_first, closes_one}
 use Rattle.cm_blocks.proofs.walk.push_ends.Goals as goal
 

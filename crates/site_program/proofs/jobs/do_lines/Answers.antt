@@ -18,7 +18,7 @@ lines-init g c = record {
       replies = [];
       left = text;
       going = record {
-        gone = gone_none given c.args.session.now text;
+        gone = gone_none g.O.OutTree.contents given c.args.session.now text c.args.out.now;
         bytes = w ∙ ap Some (sym (append-nil before));
         output = out;
         counted = counted_none _ _;
@@ -33,8 +33,8 @@ pub returns-in-Some-turn-clause-run : goal.returns-in-Some-turn-clause-run
 returns-in-Some-turn-clause-run g c = λ given text before why told out bytes w.
     let so = c.lines.invariant.so_far given text before why told out bytes w in
     let told1 = c.lines.invariant.same ∙ told in
-    session_ends given c.args.session.now text before c.lines.session c.lines.reader.lines c.number.result
-    (g.I.ByteSource.left c.lines.input) (g.I.ByteSource.left c.next_line-line.new.input) (g.K.ByteSink.taken c.lines.sink) (g.O.OutTree.contents c.lines.out) _ _ _ c.next_line-line.result
+    session_ends g.O.OutTree.contents given c.args.session.now text before c.lines.session c.lines.reader.lines c.number.result
+    (g.I.ByteSource.left c.lines.input) (g.I.ByteSource.left c.next_line-line.new.input) (g.K.ByteSink.taken c.lines.sink) c.args.out.now c.lines.out _ _ _ c.next_line-line.result
     so.1 c.turn.ensures.source_later c.turn.ensures.output_later (λ left is. c.next_line-line.ensures.line left so.0 is) (c.number.ensures ∙ c.next_line-line.ensures.number so.0)
     c.turn.new.session _ _ c.in-Some-turn.status (λ b is. c.in-Some-turn.ensures.ends given b why told1 so.1.going.output is)
 
@@ -55,10 +55,10 @@ lines-preserved g c = record {
       } in
       let source_now = g.S.SourceTree.faults c.turn.new.source in
       let output_now = g.O.OutTree.faults c.turn.new.out in (
-        c.next_line-line.ensures.over ∙ (c.in-None-turn.ensures.next given _ why told1 so.1.going.output so.1.going.bytes).0,
-        subst (λ (n : ℕ). SoFar given c.args.session.now text before c.turn.new.session n (g.I.ByteSource.left c.next_line-line.new.input) (g.K.ByteSink.taken c.turn.new.sink) (g.O.OutTree.contents c.turn.new.out) (moved counts source_now output_now)) c.number.ensures
-            (session_more given c.args.session.now text before c.lines.session c.lines.reader.lines c.number.result
-            (g.I.ByteSource.left c.lines.input) (g.I.ByteSource.left c.next_line-line.new.input) (g.K.ByteSink.taken c.lines.sink) (g.O.OutTree.contents c.lines.out) counts source_now output_now c.next_line-line.result
+        c.next_line-line.ensures.over ∙ (c.in-None-turn.ensures.next given _ why told1 so.1.going.output so.1.going.bytes).goes,
+        subst (λ (n : ℕ). SoFar g.O.OutTree.contents given c.args.session.now text before c.turn.new.session n (g.I.ByteSource.left c.next_line-line.new.input) (g.K.ByteSink.taken c.turn.new.sink) c.args.out.now c.turn.new.out (moved counts source_now output_now)) c.number.ensures
+            (session_more g.O.OutTree.contents given c.args.session.now text before c.lines.session c.lines.reader.lines c.number.result
+            (g.I.ByteSource.left c.lines.input) (g.I.ByteSource.left c.next_line-line.new.input) (g.K.ByteSink.taken c.lines.sink) c.args.out.now c.lines.out counts source_now output_now c.next_line-line.result
             so.1 c.turn.ensures.source_later c.turn.ensures.output_later (λ left is. c.next_line-line.ensures.line left so.0 is) (c.number.ensures ∙ c.next_line-line.ensures.number so.0)
             c.turn.new.session _ _ (λ b is. c.in-None-turn.ensures.next given b why told1 so.1.going.output is) (c.turn.ensures.belief given.output so.1.going.output)),
       );

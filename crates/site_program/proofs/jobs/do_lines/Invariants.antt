@@ -12,6 +12,6 @@ invariant-lines g l = record {
   sink_later : g.K.ByteSink.faults l.fn.sink ≤ g.K.ByteSink.faults l.sink;
   so_far : (given : Given) (text before : List ℕ) → given.why ≡ l.why → g.S.SourceTree.files l.fn.source ≡ Some given.source → Holds (g.O.OutTree.contents l.fn.out) l.fn.session.belief given.output →
       g.I.ByteSource.left l.fn.input ≡ Some text → g.K.ByteSink.taken l.fn.sink ≡ Some before →
-      (l.reader.over ≡ false) × SoFar given l.fn.session text before l.session l.reader.lines (g.I.ByteSource.left l.input) (g.K.ByteSink.taken l.sink) (g.O.OutTree.contents l.out)
+      (l.reader.over ≡ false) × SoFar g.O.OutTree.contents given l.fn.session text before l.session l.reader.lines (g.I.ByteSource.left l.input) (g.K.ByteSink.taken l.sink) l.fn.out l.out
       (record { source_first = g.S.SourceTree.faults l.fn.source; source_now = g.S.SourceTree.faults l.source; output_first = g.O.OutTree.faults l.fn.out; output_now = g.O.OutTree.faults l.out });
 }

@@ -43,7 +43,7 @@ returns-in-Build-clause-build_run g c = λ given options before is why told out 
     let moment_is = to_z-of_z c.ranges.moment in
     let order_is = ordered call.Jobs c.args.words.now _ _ _ _ moment_is c.in-Ok.ensures is in
     let options_is = same_build c.in-Ok.order c.in-Build.options options c.in-Build.is order_is in
-    subst (λ (s : Standing). OnceRun given s before (g.K.ByteSink.taken c.scan_and_build.new.sink) (g.O.OutTree.contents c.scan_and_build.new.out) c.scan_and_build.result) (same_start _ _ _ _ (ap (λ (o : Options). o.settings) options_is) moment_is)
+    subst (λ (s : Standing). OnceRun g.O.OutTree.contents given s before (g.K.ByteSink.taken c.scan_and_build.new.sink) c.args.out.now c.scan_and_build.new.out c.scan_and_build.result) (same_start _ _ _ _ (ap (λ (o : Options). o.settings) options_is) moment_is)
     (c.scan_and_build.ensures.run given before (why ∙ ap (λ (o : Options). o.why) (sym options_is)) told out w)
 
 pub returns-in-Session-clause-session : goal.returns-in-Session-clause-session
@@ -57,13 +57,13 @@ returns-in-Session-clause-session g c = λ given options text before is why told
       output_first = g.O.OutTree.faults c.args.out.now;
       output_now = g.O.OutTree.faults c.run_session.new.out;
     } in
-    subst (λ (s : Standing). SessionRun given s text before (g.I.ByteSource.left c.run_session.new.input) (g.K.ByteSink.taken c.run_session.new.sink) (g.O.OutTree.contents c.run_session.new.out) counts c.run_session.result) (same_start _ _ _ _ (ap (λ (o : Options). o.settings) options_is) moment_is)
+    subst (λ (s : Standing). SessionRun g.O.OutTree.contents given s text before (g.I.ByteSource.left c.run_session.new.input) (g.K.ByteSink.taken c.run_session.new.sink) c.args.out.now c.run_session.new.out counts c.run_session.result) (same_start _ _ _ _ (ap (λ (o : Options). o.settings) options_is) moment_is)
     (c.run_session.ensures.run given text before (why ∙ ap (λ (o : Options). o.why) (sym options_is)) told out bytes w)
 
 pub returns-in-Err-Memory-clause-build_run : goal.returns-in-Err-Memory-clause-build_run
 returns-in-Err-Memory-clause-build_run g c = λ given options before is why told out w.
-    cut_none given (start options.settings c.args.moment) before _ _ _ refl out w refl
+    cut_none g.O.OutTree.contents given (start options.settings c.args.moment) before _ _ _ refl out w refl
 
 pub returns-in-Err-Memory-clause-session : goal.returns-in-Err-Memory-clause-session
 returns-in-Err-Memory-clause-session g c = λ given options text before is why told out bytes w.
-    session_none given (start options.settings c.args.moment) text before _ _ _ _ _ _ (holds_first (start options.settings c.args.moment) _ given.output refl out) w refl
+    session_none g.O.OutTree.contents given (start options.settings c.args.moment) text before _ _ _ _ _ _ (holds_first (start options.settings c.args.moment) _ given.output refl out) bytes w refl

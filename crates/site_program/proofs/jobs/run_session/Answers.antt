@@ -14,5 +14,5 @@ returns-clause-run g c = λ given text before why told out bytes w.
       output_first = g.O.OutTree.faults c.args.out.now;
       output_now = g.O.OutTree.faults c.do_lines.new.out;
     } in
-    subst (λ (s : Standing). SessionRun given s text before (g.I.ByteSource.left c.do_lines.new.input) (g.K.ByteSink.taken c.do_lines.new.sink) (g.O.OutTree.contents c.do_lines.new.out) counts c.do_lines.result) opened
+    subst (λ (s : Standing). SessionRun g.O.OutTree.contents given s text before (g.I.ByteSource.left c.do_lines.new.input) (g.K.ByteSink.taken c.do_lines.new.sink) c.args.out.now c.do_lines.new.out counts c.do_lines.result) opened
     (c.do_lines.ensures.run given text before why told (holds_first c.open-session.result _ given.output (ap (λ (s : Standing). s.belief) opened) out) bytes w)

@@ -14,9 +14,9 @@ returns-in-Ok-clause-next g c = λ given before why told h w.
       output_first = g.O.OutTree.faults c.args.out.now;
       output_now = g.O.OutTree.faults c.do_line.new.out;
     } in
-    subst (λ (r : Option Status). IfNone r (GoesOn given c.args.session.now c.args.number c.args.line before c.do_line.new.session (g.K.ByteSink.taken c.do_line.new.sink) counts)) (sym c.bad_status.ensures)
-    (turned given c.args.session.now c.args.number c.args.line before c.do_line.new.session _ (g.O.OutTree.contents c.do_line.new.out) counts c.in-Ok.reply c.in_default.not-End c.in_default.not-Eof (c.in_default.not-Failed, c.in_default.not-Memory)
-    (c.in-Ok.ensures.answers given told h) (c.in-Ok.ensures.bytes before w ∙ ap (λ b. Some (before ++ reply_bytes b c.in-Ok.reply)) (sym why)) (c.do_line.ensures.belief given.output h)
+    subst (λ (r : Option Status). IfNone r (GoesOn g.O.OutTree.contents given c.args.session.now c.args.number c.args.line before c.do_line.new.session (g.K.ByteSink.taken c.do_line.new.sink) c.args.out.now c.do_line.new.out counts)) (sym c.bad_status.ensures)
+    (turned g.O.OutTree.contents given c.args.session.now c.args.number c.args.line before c.do_line.new.session _ c.args.out.now c.do_line.new.out counts c.in-Ok.reply c.in_default.not-End c.in_default.not-Eof (c.in_default.not-Failed, c.in_default.not-Memory)
+    (c.in-Ok.ensures.answers given told h) (c.in-Ok.ensures.bytes before w ∙ ap (λ b. Some (before ++ reply_bytes b c.in-Ok.reply)) (sym why)) (c.do_line.ensures.belief given.output h) (record { built = c.in-Ok.ensures.leaves given.output h; untouched = c.in-Ok.ensures.untouched })
     (counted_one counts c.in-Ok.reply c.in-Ok.ensures.source_cause c.in-Ok.ensures.output_cause)).next
 
 pub returns-in-Ok-clause-ends : goal.returns-in-Ok-clause-ends
@@ -27,9 +27,9 @@ returns-in-Ok-clause-ends g c = λ given before why told h w.
       output_first = g.O.OutTree.faults c.args.out.now;
       output_now = g.O.OutTree.faults c.do_line.new.out;
     } in
-    subst (λ (r : Option Status). IfSome r (λ s. EndsAt given c.args.session.now c.args.number c.args.line before c.do_line.new.session (g.K.ByteSink.taken c.do_line.new.sink) (g.O.OutTree.contents c.do_line.new.out) s)) (sym c.bad_status.ensures)
-    (turned given c.args.session.now c.args.number c.args.line before c.do_line.new.session _ _ counts c.in-Ok.reply c.in_default.not-End c.in_default.not-Eof (c.in_default.not-Failed, c.in_default.not-Memory)
-    (c.in-Ok.ensures.answers given told h) (c.in-Ok.ensures.bytes before w ∙ ap (λ b. Some (before ++ reply_bytes b c.in-Ok.reply)) (sym why)) (c.do_line.ensures.belief given.output h)
+    subst (λ (r : Option Status). IfSome r (λ s. EndsAt g.O.OutTree.contents given c.args.session.now c.args.number c.args.line before c.do_line.new.session (g.K.ByteSink.taken c.do_line.new.sink) c.args.out.now c.do_line.new.out s)) (sym c.bad_status.ensures)
+    (turned g.O.OutTree.contents given c.args.session.now c.args.number c.args.line before c.do_line.new.session _ c.args.out.now c.do_line.new.out counts c.in-Ok.reply c.in_default.not-End c.in_default.not-Eof (c.in_default.not-Failed, c.in_default.not-Memory)
+    (c.in-Ok.ensures.answers given told h) (c.in-Ok.ensures.bytes before w ∙ ap (λ b. Some (before ++ reply_bytes b c.in-Ok.reply)) (sym why)) (c.do_line.ensures.belief given.output h) (record { built = c.in-Ok.ensures.leaves given.output h; untouched = c.in-Ok.ensures.untouched })
     (counted_one counts c.in-Ok.reply c.in-Ok.ensures.source_cause c.in-Ok.ensures.output_cause)).ends_at
 
 pub returns-in-Ok-clause-status : goal.returns-in-Ok-clause-status
@@ -38,5 +38,5 @@ returns-in-Ok-clause-status g c = subst (λ (r : Option Status). IfSome r EndsSe
 pub returns-in-Err-clause-ends : goal.returns-in-Err-clause-ends
 returns-in-Err-clause-ends g c = λ given before why told h w.
     let s = c.in-Err.ensures.stopped given before why told h w in
-    halts given c.args.session.now c.args.number c.args.line before s.0 c.do_line.new.session _ _ c.status.result (c.in_default.not-Failed, c.in_default.not-Memory) s.1 s.2
+    halts g.O.OutTree.contents given c.args.session.now c.args.number c.args.line before s.0 c.do_line.new.session _ _ _ c.status.result (c.in_default.not-Failed, c.in_default.not-Memory) s.1 s.2
     (record { cases = c.status.ensures.cases; memory = λ e. s.3 (c.status.ensures.memory e) })

@@ -6,7 +6,15 @@ pub returns-in-Err-write_reply-clause-stopped : goal.returns-in-Err-write_reply-
 returns-in-Err-write_reply-clause-stopped g c = λ given before why told h w.
     let p = c.in-Err-write_reply.ensures.err before w in (
       take p.0 (reply_bytes given.why c.in-Ok.reply),
-      inr (c.in-Ok.reply, c.answer.new.self, p.0, c.in-Ok.ensures.answers given told h, c.in-Ok.ensures.belief given.output h, refl),
+      inr (record {
+        reply = c.in-Ok.reply;
+        new = c.answer.new.self;
+        answers = c.in-Ok.ensures.answers given told h;
+        output = c.in-Ok.ensures.belief given.output h;
+        leaves = record { built = c.in-Ok.ensures.leaves given.output h; untouched = c.in-Ok.ensures.untouched };
+        taken = p.0;
+        part_is = refl;
+      }),
       p.1 ∙ ap (λ b. Some (before ++ take p.0 (reply_bytes b c.in-Ok.reply))) (sym why),
       λ e. ap (λ k. take k (reply_bytes given.why c.in-Ok.reply)) (p.2 e),
     )

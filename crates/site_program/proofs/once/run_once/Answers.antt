@@ -41,7 +41,7 @@ returns-in-Once-clause-once_run g c = λ given settings before is why told out w
     let moment_is = to_z-of_z c.ranges.moment in
     let order_is = ordered call.Once c.args.words.now _ _ _ _ moment_is c.in-Ok.ensures is in
     let settings_is = same_once c.in-Ok.order c.in-Once.settings settings c.in-Once.is order_is in
-    subst (λ (s : Standing). OnceRun given s before (g.K.ByteSink.taken c.scan_and_build.new.sink) (g.O.OutTree.contents c.scan_and_build.new.out) c.scan_and_build.result) (same_start _ _ _ _ settings_is moment_is)
+    subst (λ (s : Standing). OnceRun g.O.OutTree.contents given s before (g.K.ByteSink.taken c.scan_and_build.new.sink) c.args.out.now c.scan_and_build.new.out c.scan_and_build.result) (same_start _ _ _ _ settings_is moment_is)
     (c.scan_and_build.ensures.run given before why told out w)
 
 pub returns-in-Check-clause-check : goal.returns-in-Check-clause-check
@@ -62,4 +62,4 @@ returns-in-Check-clause-check_took g c = λ given settings before is told w.
 
 pub returns-in-Err-Memory-clause-once_run : goal.returns-in-Err-Memory-clause-once_run
 returns-in-Err-Memory-clause-once_run g c = λ given settings before is why told out w.
-    cut_none given (start settings c.args.moment) before _ _ _ refl out w refl
+    cut_none g.O.OutTree.contents given (start settings c.args.moment) before _ _ _ refl out w refl

@@ -3,7 +3,7 @@ use Rattle.site_script.specs.declared.line.Line.TheVariants as line
 use Rattle.site_session.specs.Standing.{Standing}
 use Rattle.site_session.specs.Bytes.{reply_bytes}
 use Rattle.site_session.specs.Session.{Answers, start}
-use Rattle.site_session.specs.Replies.{has_called_output}
+use Rattle.site_session.specs.Replies.{LineLeaves, has_called_output}
 use Rattle.site_program.specs.Once.{after_scan, Ended, Took, Untouched}
 use Rattle.site_program.proofs.Cases.{one_tells, two_tells, untouched_quiet, out_rose, source_rose}
 use Rattle.site_program.proofs.Onces.{holds_first, whole_one, whole_two, cut_one, cut_two}
@@ -14,7 +14,7 @@ returns-in-Err-clause-run g c = λ given before why told out w.
     let opened : c.open-session.result ≡ start c.args.settings c.args.moment = search rules in
     let h = holds_first c.open-session.result _ given.output (ap (λ (s : Standing). s.belief) opened) out in
     let s = c.in-Err.ensures.stopped given before why told h w in
-    cut_one given (start c.args.settings c.args.moment) c.open-session.result before s.0 _ _ _ opened s.1 s.2
+    cut_one g.O.OutTree.contents given (start c.args.settings c.args.moment) c.open-session.result before s.0 _ _ _ _ opened s.1 s.2
     (record { cases = c.status.ensures.cases; memory = λ e. s.3 (c.status.ensures.memory e) })
 
 pub returns-in_default-clause-told : goal.returns-in_default-clause-told
@@ -37,8 +37,9 @@ pub returns-in_default-clause-run : goal.returns-in_default-clause-run
 returns-in_default-clause-run g c = λ given before why told out w.
     let opened : c.open-session.result ≡ start c.args.settings c.args.moment = search rules in
     let h = holds_first c.open-session.result _ given.output (ap (λ (s : Standing). s.belief) opened) out in
-    whole_one given (start c.args.settings c.args.moment) c.do_line.new.session before _ _ _ c.in-Ok.scanned c.in_default.not-Scanned
+    whole_one g.O.OutTree.contents given (start c.args.settings c.args.moment) c.do_line.new.session before _ _ _ _ c.in-Ok.scanned c.in_default.not-Scanned
     (subst (λ (s : Standing). Answers given s 1 line.Scan c.in-Ok.scanned c.do_line.new.session) opened (c.in-Ok.ensures.answers given told h))
+    (subst (λ (s : Standing). LineLeaves g.O.OutTree.contents s c.in-Ok.scanned c.do_line.new.session.belief c.args.out.now c.do_line.new.out) opened (record { built = c.in-Ok.ensures.leaves given.output h; untouched = c.in-Ok.ensures.untouched }))
     (c.in-Ok.ensures.bytes before w ∙ ap (λ b. Some (before ++ reply_bytes b c.in-Ok.scanned)) (sym why)) (c.do_line.ensures.belief given.output h) c.status_of.ensures
 
 pub returns-in_default-clause-source_fault : goal.returns-in_default-clause-source_fault
@@ -89,9 +90,11 @@ returns-in-Ok-do_line-clause-run g c = λ given before why told out w.
     let h = holds_first c.open-session.result _ given.output (ap (λ (s : Standing). s.belief) opened) out in
     let h1 = c.do_line.ensures.belief given.output h in
     let told1 = c.do_line.ensures.source_same ∙ told in
-    whole_two given (start c.args.settings c.args.moment) c.do_line.new.session c.do_line-2.new.session before _ _ _ c.in-Ok.scanned c.in-Ok-do_line.built _ c.in-Scanned.is
+    whole_two g.O.OutTree.contents given (start c.args.settings c.args.moment) c.do_line.new.session c.do_line-2.new.session before _ _ _ _ _ c.in-Ok.scanned c.in-Ok-do_line.built _ c.in-Scanned.is
     (subst (λ (s : Standing). Answers given s 1 line.Scan c.in-Ok.scanned c.do_line.new.session) opened (c.in-Ok.ensures.answers given told h))
+    (subst (λ (s : Standing). LineLeaves g.O.OutTree.contents s c.in-Ok.scanned c.do_line.new.session.belief c.args.out.now c.do_line.new.out) opened (record { built = c.in-Ok.ensures.leaves given.output h; untouched = c.in-Ok.ensures.untouched }))
     (c.in-Ok-do_line.ensures.answers given told1 h1)
+    (record { built = c.in-Ok-do_line.ensures.leaves given.output h1; untouched = c.in-Ok-do_line.ensures.untouched })
     (c.in-Ok-do_line.ensures.bytes _ (c.in-Ok.ensures.bytes before w) ∙ ap (λ b. Some ((before ++ reply_bytes b c.in-Ok.scanned) ++ reply_bytes b c.in-Ok-do_line.built)) (sym why)) (c.do_line-2.ensures.belief given.output h1) c.status_of-in-Ok-do_line.ensures
 
 pub returns-in-Ok-do_line-clause-out_fault : goal.returns-in-Ok-do_line-clause-out_fault
@@ -107,6 +110,7 @@ returns-clause-run g c = λ given before why told out w.
     let h1 = c.do_line.ensures.belief given.output h in
     let told1 = c.do_line.ensures.source_same ∙ told in
     let s = c.in-Err-do_line.ensures.stopped given (before ++ reply_bytes c.args.why c.in-Ok.scanned) why told1 h1 (c.in-Ok.ensures.bytes before w) in
-    cut_two given (start c.args.settings c.args.moment) c.do_line.new.session before s.0 _ _ _ c.in-Ok.scanned _ c.in-Scanned.is
+    cut_two g.O.OutTree.contents given (start c.args.settings c.args.moment) c.do_line.new.session before s.0 _ _ _ _ _ c.in-Ok.scanned _ c.in-Scanned.is
     (subst (λ (s : Standing). Answers given s 1 line.Scan c.in-Ok.scanned c.do_line.new.session) opened (c.in-Ok.ensures.answers given told h))
+    (subst (λ (s : Standing). LineLeaves g.O.OutTree.contents s c.in-Ok.scanned c.do_line.new.session.belief c.args.out.now c.do_line.new.out) opened (record { built = c.in-Ok.ensures.leaves given.output h; untouched = c.in-Ok.ensures.untouched }))
     s.1 (s.2 ∙ ap (λ b. Some ((before ++ reply_bytes b c.in-Ok.scanned) ++ s.0)) (sym why)) (record { cases = c.status-in-Err-do_line.ensures.cases; memory = λ e. s.3 (c.status-in-Err-do_line.ensures.memory e) })

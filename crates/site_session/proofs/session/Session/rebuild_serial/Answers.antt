@@ -1,4 +1,7 @@
-use Rattle.std.proofs.Common.{◌≡◌, Ok, subst, sym, rules}
+use Rattle.std.proofs.Common.{◌≡◌, ◌∙◌, Ok, Err, subst, sym, rules}
+use Rattle.site_session.specs.Replies.{Called}
+use Rattle.site_session.specs.declared.output.Output.{Output}
+use Rattle.site_session.proofs.Builds.{no_calls}
 use Rattle.site_session.specs.Session.{full_now}
 use Rattle.site_session.specs.Standing.{Standing, Holds}
 use Rattle.site_session.proofs.session.Session.rebuild_serial.Goals as goal
@@ -17,3 +20,21 @@ returns-in-Ok-clause-leaves g c = λ first failed h is.
       made = made.0;
       marked = made.1;
     }
+
+-- what was made is what the held files stand for
+pub returns-in-Ok-clause-called : goal.returns-in-Ok-clause-called
+returns-in-Ok-clause-called g c = λ first output h is.
+    let full_is : full_now c.args.self.now ≡ Ok c.in-Ok.output = search rules in
+    let same : c.in-Ok.output ≡ output = cc (full_is, is) in
+    let there = subst (λ (s : Standing). Holds (g.O.OutTree.contents c.args.out.now) s.belief first) (sym c.self.view_is) h in
+    subst (λ (o : Output). Called c.args.self.now.belief first o c.make.result (g.O.OutTree.calls c.args.out.now) (g.O.OutTree.calls c.make.new.out)) same
+    (subst (λ (s : Standing). Called s.belief first c.in-Ok.output c.make.result (g.O.OutTree.calls c.args.out.now) (g.O.OutTree.calls c.make.new.out)) c.self.view_is (c.make.ensures.called first there))
+
+pub returns-in-Ok-clause-quiet : goal.returns-in-Ok-clause-quiet
+returns-in-Ok-clause-quiet g c = λ fault is.
+    let full_is : full_now c.args.self.now ≡ Ok c.in-Ok.output = search rules in
+    let wrong : Ok c.in-Ok.output ≡ Err fault = sym full_is ∙ is in
+    absurd (cc (wrong))
+
+pub returns-in-Err-Fault-clause-called : goal.returns-in-Err-Fault-clause-called
+returns-in-Err-Fault-clause-called g c = λ first output h is. no_calls (g.O.OutTree.calls c.args.out.now)

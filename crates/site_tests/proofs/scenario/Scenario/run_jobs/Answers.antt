@@ -6,7 +6,7 @@ use Rattle.out_tree.specs.Memory.{OutState}
 use Rattle.site_session.specs.Session.{start}
 use Rattle.site_program.specs.Once.{jobs_order}
 use Rattle.site_program.specs.Sessions.{Counts}
-use Rattle.site_tests.specs.Scenarios.{given_of, told_of}
+use Rattle.site_tests.specs.Scenarios.{contents, given_of, told_of}
 use Rattle.site_tests.proofs.Told.{ended, session, took}
 use Rattle.site_tests.proofs.scenario.Scenario.run_jobs.Goals as goal
 
@@ -41,6 +41,6 @@ returns-clause-session g c = λ options is.
     let given = told_of c.args.self.now options in
     let source_first = ap (λ (s : SourceState). s.faults) c.in_ok-ends.ensures.source in
     let output_first = ap (λ (o : OutState). o.faults) c.in_ok-ends.ensures.out in
-    session given _ _ c.args.self.now.script.now _ _ _ _ _ _ (ap (start options.settings) same)
+    session contents given _ _ c.args.self.now.script.now _ _ _ _ _ _ _ _ (ap (start options.settings) same) c.in_ok-ends.ensures.out
     (λ i. record { source_first = source_first i; source_now = c.run_jobs-status.new.source.faults; output_first = output_first i; output_now = c.run_jobs-status.new.out.faults })
     (c.run_jobs-status.ensures.session given options c.args.self.now.script.now [] order refl source out input sink)

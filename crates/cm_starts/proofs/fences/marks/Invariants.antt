@@ -1,6 +1,6 @@
 use Rattle.std.proofs.Common.{◌≡◌, ◌==◌, ◌+◌, ◌-◌, ◌≤◌, drop, length}
 use Rattle.markdown_grammar.specs.Fronts.{run_len}
-use Rattle.cm_blocks.proofs.leaf_more.marks.Given as goal
+use Rattle.cm_starts.proofs.fences.marks.Given as goal
 
 abbrev pub invariant-loop-i : goal.invariant-loop-i
 invariant-loop-i l = record {

@@ -1,5 +1,5 @@
-use Rattle.cm_blocks.proofs.QuoteLaws.{quotes_stay}
-use Rattle.cm_blocks.proofs.open_containers.OpenContainers.truncate.Goals as goal
+use Rattle.cm_containers.proofs.QuoteLaws.{quotes_stay}
+use Rattle.cm_containers.proofs.open_containers.OpenContainers.truncate.Goals as goal
 
 pub invariant_of-self-else-kept-self : goal.invariant_of-self-else-kept-self
 invariant_of-self-else-kept-self c =

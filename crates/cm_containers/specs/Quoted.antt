@@ -1,7 +1,7 @@
 -- How many containers stand up to the innermost quote. Block quotes: CommonMark 0.31.2, section 5.1.
 use Rattle.std.specs.Prelude.{Bool, List, [], false, suc, true, zero, ℕ, ◌∷◌}
-use Rattle.cm_blocks.specs.declared.kinds.Container.{Container}
-use Rattle.cm_blocks.specs.declared.kinds.Container.TheVariants.{Item, Quote}
+use Rattle.cm_containers.specs.declared.kinds.Container.{Container}
+use Rattle.cm_containers.specs.declared.kinds.Container.TheVariants.{Item, Quote}
 
 abbrev pub is_quote : Container → Bool
 is_quote Quote = true

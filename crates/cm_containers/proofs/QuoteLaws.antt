@@ -1,9 +1,22 @@
 -- How many containers stand up to the innermost quote, as containers come and go.
 use Rattle.std.proofs.Common.{Bool, List, [], ap, arith, drop, false, get_or, length, refl, suc, sym, take, true, zero, ℕ, ◌++◌, ◌-◌, ◌<◌, ◌∙◌, ◌∷◌, ◌≡◌, ◌≤◌}
-use Rattle.cm_blocks.specs.declared.kinds.Container.{Container}
-use Rattle.cm_blocks.specs.declared.kinds.Container.TheVariants.{Item, Quote}
-use Rattle.cm_blocks.specs.Quoted.{is_quote, up_to_quote, with_outer}
-use Rattle.cm_blocks.proofs.ClosingLaws.{inner_more, take_all}
+use Rattle.cm_containers.specs.declared.kinds.Container.{Container}
+use Rattle.cm_containers.specs.declared.kinds.Container.TheVariants.{Item, Quote}
+use Rattle.cm_containers.specs.Quoted.{is_quote, up_to_quote, with_outer}
+
+-- ---- the outermost containers
+
+-- one more at the end of the inner ones
+pub inner_more : (n i : ℕ) (ks : List Container) (d : Container) → n ≤ i → i < length ks → drop n (take (suc i) ks) ≡ drop n (take i ks) ++ get_or ks i d ∷ []
+inner_more n i [] d le lt = absurd (omega (arith, lt))
+inner_more zero zero (k ∷ ks) d le lt = refl
+inner_more zero (suc i) (k ∷ ks) d le lt = ap (λ (ts : List Container). k ∷ ts) (inner_more zero i ks d (omega arith) (omega (arith, lt)))
+inner_more (suc n) zero (k ∷ ks) d le lt = absurd (omega (arith, le))
+inner_more (suc n) (suc i) (k ∷ ks) d le lt = inner_more n i ks d (omega (arith, le)) (omega (arith, lt))
+
+pub take_all : (ks : List Container) → take (length ks) ks ≡ ks
+take_all [] = refl
+take_all (k ∷ ks) = ap (λ (ts : List Container). k ∷ ts) (take_all ks)
 
 -- ---- one container more
 

@@ -1,6 +1,6 @@
 use Rattle.std.proofs.Common.{arith}
-use Rattle.cm_blocks.proofs.QuoteLaws.{before_item, up_to_last}
-use Rattle.cm_blocks.proofs.open_containers.OpenContainers.push.Goals as goal
+use Rattle.cm_containers.proofs.QuoteLaws.{before_item, up_to_last}
+use Rattle.cm_containers.proofs.open_containers.OpenContainers.push.Goals as goal
 
 pub invariant_of-self-then-is_quote : goal.invariant_of-self-then-is_quote
 invariant_of-self-then-is_quote c =

@@ -1,8 +1,8 @@
 use Rattle.std.proofs.Common.{◌∙◌}
 use Rattle.markdown_grammar.specs.Lines.{trim_front}
 use Rattle.cm_containers.specs.Spots.{text_at}
-use Rattle.cm_blocks.proofs.Reaches.{kept_quote}
-use Rattle.cm_blocks.proofs.reaching.enter.Goals as goal
+use Rattle.cm_containers.proofs.Filling.{kept_quote}
+use Rattle.cm_containers.proofs.matching.enter.Goals as goal
 
 pub returns-in-Quote-clause-rest : goal.returns-in-Quote-clause-rest
 returns-in-Quote-clause-rest c =

@@ -1,7 +1,7 @@
 use Rattle.std.proofs.Common.{arith}
-use Rattle.cm_blocks.specs.declared.kinds.Container.TheVariants.{Quote}
-use Rattle.cm_blocks.proofs.QuoteLaws.{all_looked_at, item_looked_at, none_found, quote_found}
-use Rattle.cm_blocks.proofs.open_containers.up_to_quote.Goals as goal
+use Rattle.cm_containers.specs.declared.kinds.Container.TheVariants.{Quote}
+use Rattle.cm_containers.proofs.QuoteLaws.{all_looked_at, item_looked_at, none_found, quote_found}
+use Rattle.cm_containers.proofs.open_containers.up_to_quote.Goals as goal
 
 pub loop-end-init : goal.loop-end-init
 loop-end-init c = record { within = omega arith; so_far = all_looked_at c.args.containers.now }

@@ -1,8 +1,12 @@
 // The containers that are open.
-ghost use Rattle.std.specs.Prelude.{◌≡◌, ◌++◌, ◌∷◌, [], OnOk, length, take};
-ghost use Rattle.cm_blocks.specs.Quoted.{is_quote, up_to_quote};
+ghost use Rattle.std.specs.Prelude.{◌≡◌, ◌++◌, ◌∷◌, ◌≤◌, [], OnOk, length, take};
+ghost use Rattle.markdown_grammar.specs.Columns.{own_line};
+ghost use Rattle.cm_containers.specs.Entries.{entered_at, matched_by};
+ghost use Rattle.cm_containers.specs.Quoted.{is_quote, up_to_quote};
+ghost use Rattle.cm_containers.specs.Spots.{IsSpot};
 
 use crate::kinds::Container;
+use crate::matching::{Entered, enter_all};
 use site_base::Memory;
 use std::alloc::Global;
 use std::marker::Model;
@@ -10,15 +14,15 @@ use std::marker::Model;
 /// The containers that are open, the innermost last, which clauses see as their list. How many stand up
 /// to the innermost quote is known without a look at them: behind it, a line goes on with items alone.
 #[derive(Drop)]
-pub(crate) struct OpenContainers {
+pub struct OpenContainers {
     containers: Vec<Container>,
     quoted: usize,
 }
 
 impl Model for OpenContainers {
     ghost use Rattle.std.specs.Prelude.{List, ◌≡◌};
-    ghost use Rattle.cm_blocks.specs.declared.kinds.Container.{Container};
-    ghost use Rattle.cm_blocks.specs.Quoted.{up_to_quote};
+    ghost use Rattle.cm_containers.specs.declared.kinds.Container.{Container};
+    ghost use Rattle.cm_containers.specs.Quoted.{up_to_quote};
 
     ghost Value = { List Container };
 
@@ -50,11 +54,15 @@ impl OpenContainers {
         self.containers.as_slice()
     }
 
-    /// How many containers stand up to the innermost quote, this one included; 0 where there is none.
-    pub fn quoted(&self) -> usize
-        ensures { result ≡ up_to_quote self.now }
+    /// How many of them a line without its line end goes on with, each by its own rule, and where its rest
+    /// begins. `is_filled` says whether the innermost has a block; all others have one. That a line may be
+    /// lazy is not looked at here. CommonMark 0.31.2, sections 2.2, 5.1 and 5.2.
+    pub fn enter(&self, is_filled: bool, line: &str) -> Entered
+        ensures value { entered_at line.now result ≡ matched_by is_filled self.now (own_line 0 line.now) }
+        ensures spot { IsSpot line.now result.spot }
+        ensures kept { result.kept ≤ length self.now }
     {
-        self.quoted
+        enter_all(&self.containers, self.quoted, is_filled, line)
     }
 
     /// One more container, as the innermost.

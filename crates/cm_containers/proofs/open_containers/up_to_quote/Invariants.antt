@@ -1,6 +1,6 @@
 use Rattle.std.proofs.Common.{length, take, ◌≡◌, ◌≤◌}
-use Rattle.cm_blocks.specs.Quoted.{up_to_quote}
-use Rattle.cm_blocks.proofs.open_containers.up_to_quote.Given as goal
+use Rattle.cm_containers.specs.Quoted.{up_to_quote}
+use Rattle.cm_containers.proofs.open_containers.up_to_quote.Given as goal
 
 abbrev pub invariant-loop-end : goal.invariant-loop-end
 invariant-loop-end l = record {
