@@ -1,212 +1,221 @@
 // Worked runs of `once`.
-use crate::scenario::Scenario;
-use crate::seen::{NEW_YEAR, comes_out};
+use crate::scenario::{Outcome, Scenario};
+use crate::seen::{NEW_YEAR, PLAIN, Row, check, replies_are};
 use site_program::Status;
 use site_words::UsageKind;
-use std::str;
-use std::test::Fail;
+use std::alloc::Global;
 
 const PAGE: &str = "---\ntitle: Hi\n---\n<h1>{{ page.title }}</h1>\n";
 
-#[test]
-fn builds_and_refuses(rt: HostRuntime) -> Result<(), Fail> {
-    let alloc = rt.alloc();
-    comes_out(
-        &rt,
-        alloc,
-        Scenario::once(&[("index.html", PAGE)]),
-        0,
-        "scanned 1\nbuilt rendered=1 reused=0 written=1 removed=0\n",
-        &[("index.html", "<h1>Hi</h1>\n")],
-    )?;
-    comes_out(
-        &rt,
-        alloc,
-        Scenario::once(&[("index.html", PAGE), ("a.txt", "x")]),
-        0,
-        "scanned 2\nbuilt rendered=1 reused=0 written=2 removed=0\n",
-        &[("a.txt", "x"), ("index.html", "<h1>Hi</h1>\n")],
-    )?;
+const ROWS: &[Row] = &[
+    Row {
+        given: Scenario {
+            sources: &[("index.html", PAGE)],
+            ..PLAIN
+        },
+        status: 0,
+        replies: "scanned 1\nbuilt rendered=1 reused=0 written=1 removed=0\n",
+        outputs: &[("index.html", "<h1>Hi</h1>\n")],
+    },
+    Row {
+        given: Scenario {
+            sources: &[("index.html", PAGE), ("a.txt", "x")],
+            ..PLAIN
+        },
+        status: 0,
+        replies: "scanned 2\nbuilt rendered=1 reused=0 written=2 removed=0\n",
+        outputs: &[("a.txt", "x"), ("index.html", "<h1>Hi</h1>\n")],
+    },
     // A form that is not built yet: the output is untouched.
-    comes_out(
-        &rt,
-        alloc,
-        Scenario {
+    Row {
+        given: Scenario {
+            sources: &[("a.md", "---\n---\nx")],
             outputs: &[("old.html", "old")],
-            ..Scenario::once(&[("a.md", "---\n---\nx")])
+            ..PLAIN
         },
-        1,
-        "scanned 1\nfault F0 0 a.md\n",
-        &[("old.html", "old")],
-    )?;
+        status: 1,
+        replies: "scanned 1\nfault F0 0 a.md\n",
+        outputs: &[("old.html", "old")],
+    },
     // What is kept stays, what the site lacks goes.
-    comes_out(
-        &rt,
-        alloc,
-        Scenario {
+    Row {
+        given: Scenario {
             outputs: &[(".git/HEAD", "ref"), ("old.html", "old")],
-            ..Scenario::once(&[])
+            ..PLAIN
         },
-        0,
-        "scanned 0\nbuilt rendered=0 reused=0 written=0 removed=1\n",
-        &[(".git/HEAD", "ref")],
-    )?;
+        status: 0,
+        replies: "scanned 0\nbuilt rendered=0 reused=0 written=0 removed=1\n",
+        outputs: &[(".git/HEAD", "ref")],
+    },
     // The source gives no list.
-    comes_out(
-        &rt,
-        alloc,
-        Scenario {
+    Row {
+        given: Scenario {
+            sources: &[("a.txt", "x")],
             outputs: &[("old.html", "old")],
             source_fails: &[1],
-            ..Scenario::once(&[("a.txt", "x")])
+            ..PLAIN
         },
-        3,
-        "scan-fault\n",
-        &[("old.html", "old")],
-    )?;
+        status: 3,
+        replies: "scan-fault\n",
+        outputs: &[("old.html", "old")],
+    },
     // The source gives no bytes of its second file.
-    comes_out(
-        &rt,
-        alloc,
-        Scenario {
+    Row {
+        given: Scenario {
+            sources: &[("a.txt", "x"), ("b.txt", "y")],
             source_fails: &[3],
-            ..Scenario::once(&[("a.txt", "x"), ("b.txt", "y")])
+            ..PLAIN
         },
-        3,
-        "scan-fault\n",
-        &[],
-    )?;
+        status: 3,
+        replies: "scan-fault\n",
+        outputs: &[],
+    },
     // The output gives no list.
-    comes_out(
-        &rt,
-        alloc,
-        Scenario {
+    Row {
+        given: Scenario {
+            sources: &[("a.txt", "x")],
             outputs: &[("old.html", "old")],
             output_fails: &[1],
-            ..Scenario::once(&[("a.txt", "x")])
+            ..PLAIN
         },
-        4,
-        "scanned 1\nout-fault 0\n",
-        &[("old.html", "old")],
-    )?;
+        status: 4,
+        replies: "scanned 1\nout-fault 0\n",
+        outputs: &[("old.html", "old")],
+    },
     // A write fails: the path is named, and the other file is right.
-    comes_out(
-        &rt,
-        alloc,
-        Scenario {
+    Row {
+        given: Scenario {
+            sources: &[("p.html", "p"), ("q.html", "q")],
             output_fails: &[2],
-            ..Scenario::once(&[("p.html", "p"), ("q.html", "q")])
+            ..PLAIN
         },
-        4,
-        "scanned 2\nout-fault 1\nmarked p.html\n",
-        &[("q.html", "q")],
-    )?;
+        status: 4,
+        replies: "scanned 2\nout-fault 1\nmarked p.html\n",
+        outputs: &[("q.html", "q")],
+    },
     // A removal fails: all else is done all the same.
-    comes_out(
-        &rt,
-        alloc,
-        Scenario {
+    Row {
+        given: Scenario {
+            sources: &[("p.html", "p")],
             outputs: &[("n.html", "n"), ("o.html", "o")],
             output_fails: &[2],
-            ..Scenario::once(&[("p.html", "p")])
+            ..PLAIN
         },
-        4,
-        "scanned 1\nout-fault 1\nmarked n.html\n",
-        &[("n.html", "n"), ("p.html", "p")],
-    )?;
+        status: 4,
+        replies: "scanned 1\nout-fault 1\nmarked n.html\n",
+        outputs: &[("n.html", "n"), ("p.html", "p")],
+    },
     // A file where a folder has to be is removed first.
-    comes_out(
-        &rt,
-        alloc,
-        Scenario {
+    Row {
+        given: Scenario {
+            sources: &[("a/index.html", "y")],
             outputs: &[("a", "x")],
-            ..Scenario::once(&[("a/index.html", "y")])
+            ..PLAIN
         },
-        0,
-        "scanned 1\nbuilt rendered=0 reused=0 written=1 removed=1\n",
-        &[("a/index.html", "y")],
-    )?;
+        status: 0,
+        replies: "scanned 1\nbuilt rendered=0 reused=0 written=1 removed=1\n",
+        outputs: &[("a/index.html", "y")],
+    },
     // The sink fails at its first call, and at its second.
-    comes_out(
-        &rt,
-        alloc,
-        Scenario {
+    Row {
+        given: Scenario {
+            sources: &[("a.txt", "x")],
             sink_fails: &[1],
-            ..Scenario::once(&[("a.txt", "x")])
+            ..PLAIN
         },
-        6,
-        "",
-        &[],
-    )?;
-    comes_out(
-        &rt,
-        alloc,
-        Scenario {
+        status: 6,
+        replies: "",
+        outputs: &[],
+    },
+    Row {
+        given: Scenario {
+            sources: &[("a.txt", "x")],
             sink_fails: &[2],
-            ..Scenario::once(&[("a.txt", "x")])
+            ..PLAIN
         },
-        6,
-        "scanned 1\n",
-        &[("a.txt", "x")],
-    )?;
-    Ok(())
+        status: 6,
+        replies: "scanned 1\n",
+        outputs: &[("a.txt", "x")],
+    },
+];
+
+#[test]
+fn builds_and_refuses(rt: HostRuntime) {
+    check(&rt, rt.alloc(), ROWS);
+}
+
+// Words and a moment, what is wrong with them, and the reply.
+const WRONG_WORDS: &[(&[&str], i64, UsageKind, &str)] = &[
+    (&[], NEW_YEAR, UsageKind::Missing, "usage 1\n"),
+    (&["build"], NEW_YEAR, UsageKind::Command, "usage 2\n"),
+    (&[""], NEW_YEAR, UsageKind::Command, "usage 2\n"),
+    (&["Once"], NEW_YEAR, UsageKind::Command, "usage 2\n"),
+    (
+        &["build", "once"],
+        NEW_YEAR,
+        UsageKind::Command,
+        "usage 2\n",
+    ),
+    (
+        &["make", "1", "2"],
+        NEW_YEAR,
+        UsageKind::Command,
+        "usage 2\n",
+    ),
+    (&["once", "--why"], -1, UsageKind::Option, "usage 3\n"),
+    (
+        &["check", "--drafts", "--drafts"],
+        NEW_YEAR,
+        UsageKind::Option,
+        "usage 3\n",
+    ),
+    (&["once", "once"], NEW_YEAR, UsageKind::Option, "usage 3\n"),
+    (&["once"], -1, UsageKind::Moment, "usage 5\n"),
+    (&["check", "--future"], -1, UsageKind::Moment, "usage 5\n"),
+    (&["once"], 253_402_214_400, UsageKind::Moment, "usage 5\n"),
+];
+
+const SITE: &[(&str, &str)] = &[("a.txt", "x")];
+
+fn is_usage(outcome: &Outcome, kind: UsageKind) -> bool {
+    match &outcome.status {
+        Status::Usage(other) => *other == kind && outcome.status.number() == 2,
+        _ => false,
+    }
+}
+
+fn is_refused(alloc: Global, words: &[&str], moment: i64, kind: UsageKind, reply: &str) -> bool {
+    let given = Scenario {
+        words,
+        ..Scenario::once(SITE)
+    };
+    match given.run(alloc, moment) {
+        Ok(outcome) => {
+            is_usage(&outcome, kind) && replies_are(&outcome, reply) && outcome.ends.out.is_empty()
+        }
+        Err(_) => false,
+    }
 }
 
 #[test]
-fn refuses_words(rt: HostRuntime) -> Result<(), Fail> {
-    let alloc = rt.alloc();
-    let site: &[(&str, &str)] = &[("a.txt", "x")];
-    let rows: [(&[&str], i64, UsageKind, &str); 12] = [
-        (&[], NEW_YEAR, UsageKind::Missing, "usage 1\n"),
-        (&["build"], NEW_YEAR, UsageKind::Command, "usage 2\n"),
-        (&[""], NEW_YEAR, UsageKind::Command, "usage 2\n"),
-        (&["Once"], NEW_YEAR, UsageKind::Command, "usage 2\n"),
-        (
-            &["build", "once"],
-            NEW_YEAR,
-            UsageKind::Command,
-            "usage 2\n",
-        ),
-        (
-            &["make", "1", "2"],
-            NEW_YEAR,
-            UsageKind::Command,
-            "usage 2\n",
-        ),
-        (&["once", "--why"], -1, UsageKind::Option, "usage 3\n"),
-        (
-            &["check", "--drafts", "--drafts"],
-            NEW_YEAR,
-            UsageKind::Option,
-            "usage 3\n",
-        ),
-        (&["once", "once"], NEW_YEAR, UsageKind::Option, "usage 3\n"),
-        (&["once"], -1, UsageKind::Moment, "usage 5\n"),
-        (&["check", "--future"], -1, UsageKind::Moment, "usage 5\n"),
-        (&["once"], 253_402_214_400, UsageKind::Moment, "usage 5\n"),
-    ];
-    for (words, moment, kind, reply) in rows {
-        let given = Scenario {
-            words,
-            ..Scenario::once(site)
-        };
-        let outcome = given.run(alloc, moment)?;
+fn refuses_words(rt: HostRuntime) {
+    for (words, moment, kind, reply) in WRONG_WORDS {
         assert!(rt;
-            matches!(outcome.status, Status::Usage(other) if other == kind),
-            "{reply}"
+            is_refused(rt.alloc(), words, *moment, *kind, reply),
+            "no {reply}"
         );
-        assert_eq!(rt;
-            (
-                outcome.status.number(),
-                str::from_utf8(outcome.ends.sink.bytes())?
-            ),
-            (2, reply)
-        );
-        assert!(rt; outcome.ends.out.is_empty());
     }
-    for moment in [0, 253_402_214_399] {
-        let outcome = Scenario::once(site).run(alloc, moment)?;
-        assert_eq!(rt; outcome.status.number(), 0, "moment {moment}");
+}
+
+fn is_done(alloc: Global, moment: i64) -> bool {
+    match Scenario::once(SITE).run(alloc, moment) {
+        Ok(outcome) => outcome.status.number() == 0,
+        Err(_) => false,
     }
-    Ok(())
+}
+
+#[test]
+fn takes_the_first_moment_and_the_last(rt: HostRuntime) {
+    assert!(rt; is_done(rt.alloc(), 0));
+    assert!(rt; is_done(rt.alloc(), 253_402_214_399));
 }
