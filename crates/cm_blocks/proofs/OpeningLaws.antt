@@ -67,11 +67,11 @@ open_item col kind number digits t (c ∷ cs) same within e =
     let size : suc digits ≡ digits + 1 = omega arith in
     ap (opening_at col t cs) (sym e) ∙ ap (λ (n : ℕ). item_opening kind number (indent col t) (col + indent col t + digits + 1) digits (drop n (c ∷ cs))) size
 
-pub item_opens : (line : List ℕ) (s w a i : Spot) (kind number digits pad content : ℕ) → BehindWhite line s w → IsMark (drop w.at line) (digits + 1)
+pub item_opens : (line : List ℕ) (s w a i : Spot) (mark kind number digits pad content : ℕ) → mark ≡ kind → BehindWhite line s w → IsMark (drop w.at line) (digits + 1)
     → item_start kind number digits ≡ start_of not_in_paragraph s.column (text_at line s) → a.column ≡ w.column + (digits + 1) → text_at line a ≡ drop (digits + 1) (drop w.at line)
     → pad ≡ grammar.padding a.column (text_at line a) → content ≡ a.column - s.column + pad → rest_at line i ≡ shifted pad a.column (text_at line a)
-    → opening (rest_at line s) ≡ opens_container (grammar.list_item kind number content) (rest_at line i)
-item_opens line s w a i kind number digits pad content h m e col text p z r =
+    → opening (rest_at line s) ≡ opens_container (grammar.list_item mark number content) (rest_at line i)
+item_opens line s w a i mark kind number digits pad content same h m e col text p z r =
     let t = text_at line s in
     let at : a.column ≡ s.column + indent s.column t + digits + 1 = omega (arith, col, h.column) in
     let width : indent s.column t + digits + 1 + pad ≡ content = omega (arith, at, z) in
@@ -81,6 +81,7 @@ item_opens line s w a i kind number digits pad content h m e col text p z r =
     ∙ ap (λ (n : ℕ). (let o : Opening Line leaves.Leaf grammar.Container = opens_container (grammar.list_item kind number (indent s.column t + digits + 1 + n)) (shifted n a.column (text_at line a)) in o)) (sym p)
     ∙ ap (λ (n : ℕ). (let o : Opening Line leaves.Leaf grammar.Container = opens_container (grammar.list_item kind number n) (shifted pad a.column (text_at line a)) in o)) width
     ∙ ap (λ (l : Line). (let o : Opening Line leaves.Leaf grammar.Container = opens_container (grammar.list_item kind number content) l in o)) (sym r)
+    ∙ ap (λ (k : ℕ). (let o : Opening Line leaves.Leaf grammar.Container = opens_container (grammar.list_item k number content) (rest_at line i) in o)) (sym same)
 
 -- the inside of a container begins further on
 pub further : (line : List ℕ) (s w a i : Spot) (n k : ℕ) → BehindWhite line s w → 0 < n → a.column ≡ w.column + n → rest_at line i ≡ shifted k a.column (text_at line a) → s.column < i.column

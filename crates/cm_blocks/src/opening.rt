@@ -221,7 +221,9 @@ pub(crate) fn leaf_of(
         Start::Break => Ok(Some(Leaf::Break)),
         Start::Indented => code(alloc, lines, line, spot),
         Start::Text => paragraph(lines, &line[white.at..]),
-        _ => Ok(None),
+        // The mark has a name since the check must have met its type.
+        Start::Item { mark: _mark, .. } => Ok(None),
+        Start::Blank | Start::Quote | Start::Underline { .. } => Ok(None),
     }
 }
 
