@@ -4,30 +4,9 @@ use crate::{
     is_thematic_break, line_start, list_mark, underline,
 };
 use markdown_grammar::HtmlKind;
-use std::process::Abort;
 use std::test::Fail;
 
 const PARAGRAPH: Place = Place::Paragraph { has_text: true };
-
-fn told<'a>(rt: &impl Abort, start: &Start<'a>, wanted: &Start<'a>) -> Result<(), Fail> {
-    assert!(rt; start == wanted);
-    Ok(())
-}
-
-fn headed(number: usize, text: &str) -> Start<'_> {
-    match HeadingLevel::of(number) {
-        Some(level) => Start::Heading { level, text },
-        None => Start::Text,
-    }
-}
-
-fn numbered(mark: ListMark, number: u32, digits: usize) -> Start<'static> {
-    Start::Item {
-        mark,
-        number,
-        digits,
-    }
-}
 
 #[test]
 fn breaks_are_told(rt: HostRuntime) -> Result<(), Fail> {
@@ -47,107 +26,140 @@ fn breaks_are_told(rt: HostRuntime) -> Result<(), Fail> {
     Ok(())
 }
 
+// The level of the heading that a line starts, as a digit, and its text; a space where it starts none.
+fn headed(text: &str) -> (char, &str) {
+    match heading(text) {
+        Start::Heading { level, text } => (level.digit() as char, text),
+        Start::Text => (' ', ""),
+        _ => ('?', ""),
+    }
+}
+
 #[test]
 fn headings_are_told(rt: HostRuntime) -> Result<(), Fail> {
-    told(&rt, &heading("# foo"), &headed(1, "foo"))?;
-    told(&rt, &heading("###### foo \t"), &headed(6, "foo"))?;
-    told(&rt, &heading("####### foo"), &Start::Text)?;
-    told(&rt, &heading("#5 bolt"), &Start::Text)?;
-    told(&rt, &heading("## foo ##    "), &headed(2, "foo"))?;
-    told(&rt, &heading("### foo ### b"), &headed(3, "foo ### b"))?;
-    told(&rt, &heading("# foo#"), &headed(1, "foo#"))?;
-    told(&rt, &heading("#"), &headed(1, ""))?;
-    told(&rt, &heading("### ###"), &headed(3, ""))?;
-    told(&rt, &heading("a"), &Start::Text)?;
-    told(&rt, &heading(""), &Start::Text)?;
-    let one = Start::Underline {
-        level: HeadingLevel::one(),
-    };
-    let two = Start::Underline {
-        level: HeadingLevel::two(),
-    };
-    assert_eq!(rt; underline(PARAGRAPH, "=== "), one);
-    assert_eq!(rt; underline(PARAGRAPH, "-"), two);
-    assert_eq!(rt; underline(PARAGRAPH, "= ="), Start::Text);
-    assert_eq!(rt;
-        underline(Place::Paragraph { has_text: false }, "==="),
-        Start::Text
-    );
-    assert_eq!(rt; underline(Place::Beside, "---"), Start::Text);
+    let rows = [
+        ("# foo", ('1', "foo")),
+        ("###### foo \t", ('6', "foo")),
+        ("####### foo", (' ', "")),
+        ("#5 bolt", (' ', "")),
+        ("## foo ##    ", ('2', "foo")),
+        ("### foo ### b", ('3', "foo ### b")),
+        ("# foo#", ('1', "foo#")),
+        ("#", ('1', "")),
+        ("### ###", ('3', "")),
+        ("a", (' ', "")),
+        ("", (' ', "")),
+    ];
+    for (text, wanted) in rows {
+        assert_eq!(rt; headed(text), wanted, "{text}");
+    }
     Ok(())
 }
 
-fn fenced(mark: char, len: usize, info: &str) -> Start<'_> {
-    Start::Fence {
-        indent: 2,
-        mark,
-        len,
-        info,
+// The level of the heading that a line underlines, as a digit; a space where it underlines none.
+fn underlined(place: Place, text: &str) -> char {
+    match underline(place, text) {
+        Start::Underline { level } => level.digit() as char,
+        Start::Text => ' ',
+        _ => '?',
+    }
+}
+
+#[test]
+fn underlines_are_told(rt: HostRuntime) -> Result<(), Fail> {
+    let rows = [
+        (PARAGRAPH, "=== ", '1'),
+        (PARAGRAPH, "-", '2'),
+        (PARAGRAPH, "= =", ' '),
+        (Place::Paragraph { has_text: false }, "===", ' '),
+        (Place::Beside, "---", ' '),
+    ];
+    for (place, text, level) in rows {
+        assert_eq!(rt; underlined(place, text), level, "{text}");
+    }
+    Ok(())
+}
+
+// The mark of the fence that a line starts, how many there are, and the info string; none where it starts no fence.
+fn fenced(text: &str) -> (char, usize, &str) {
+    match fence(2, text) {
+        Start::Fence {
+            indent: 2,
+            mark,
+            len,
+            info,
+        } => (mark, len, info),
+        Start::Text => (' ', 0, ""),
+        _ => ('?', 0, ""),
     }
 }
 
 #[test]
 fn fences_are_told(rt: HostRuntime) -> Result<(), Fail> {
-    told(&rt, &fence(2, "```"), &fenced('`', 3, ""))?;
-    told(
-        &rt,
-        &fence(2, "~~~~    ruby startline=3 $%@#$"),
-        &fenced('~', 4, "ruby startline=3 $%@#$"),
-    )?;
-    told(
-        &rt,
-        &fence(2, "~~~ aa ``` ~~~"),
-        &fenced('~', 3, "aa ``` ~~~"),
-    )?;
-    told(&rt, &fence(2, "``` aa ```"), &Start::Text)?;
-    told(&rt, &fence(2, "``"), &Start::Text)?;
-    told(&rt, &fence(2, ""), &Start::Text)?;
-    assert!(rt; closes_fence('`', 3, 3, "```` "));
-    assert!(rt; !closes_fence('`', 3, 4, "```"));
-    assert!(rt; !closes_fence('`', 3, 0, "``"));
-    assert!(rt; !closes_fence('`', 3, 0, "``` a"));
-    assert!(rt; !closes_fence('`', 3, 0, "~~~"));
+    let rows = [
+        ("```", ('`', 3, "")),
+        (
+            "~~~~    ruby startline=3 $%@#$",
+            ('~', 4, "ruby startline=3 $%@#$"),
+        ),
+        ("~~~ aa ``` ~~~", ('~', 3, "aa ``` ~~~")),
+        ("``` aa ```", (' ', 0, "")),
+        ("``", (' ', 0, "")),
+        ("", (' ', 0, "")),
+    ];
+    for (text, wanted) in rows {
+        assert_eq!(rt; fenced(text), wanted, "{text}");
+    }
     Ok(())
 }
 
 #[test]
+fn closing_fences_are_told(rt: HostRuntime) -> Result<(), Fail> {
+    let rows = [
+        (3, "```` ", true),
+        (4, "```", false),
+        (0, "``", false),
+        (0, "``` a", false),
+        (0, "~~~", false),
+    ];
+    for (indent, text, closes) in rows {
+        assert_eq!(rt; closes_fence('`', 3, indent, text), closes, "{text}");
+    }
+    Ok(())
+}
+
+// The mark of the item that a line starts, its number, and how many digits it has; none where it starts no item.
+fn numbered(place: Place, text: &str) -> (char, u32, usize) {
+    match list_mark(place, text) {
+        Start::Item {
+            mark,
+            number,
+            digits,
+        } => (mark.as_char(), number, digits),
+        Start::Text => (' ', 0, 0),
+        _ => ('?', 0, 0),
+    }
+}
+
+#[test]
 fn items_are_told(rt: HostRuntime) -> Result<(), Fail> {
-    told(
-        &rt,
-        &list_mark(Place::Fresh, "- a"),
-        &numbered(ListMark::Hyphen, 1, 0),
-    )?;
-    told(
-        &rt,
-        &list_mark(Place::Beside, "*"),
-        &numbered(ListMark::Star, 1, 0),
-    )?;
-    told(&rt, &list_mark(PARAGRAPH, "*"), &Start::Text)?;
-    told(&rt, &list_mark(Place::Fresh, "-a"), &Start::Text)?;
-    told(
-        &rt,
-        &list_mark(Place::Fresh, "123456789. ok"),
-        &numbered(ListMark::FullStop, 123_456_789, 9),
-    )?;
-    told(
-        &rt,
-        &list_mark(Place::Fresh, "1234567890. not ok"),
-        &Start::Text,
-    )?;
-    told(
-        &rt,
-        &list_mark(Place::Fresh, "003) ok"),
-        &numbered(ListMark::Parenthesis, 3, 3),
-    )?;
-    told(&rt, &list_mark(Place::Fresh, "-1. not ok"), &Start::Text)?;
-    told(&rt, &list_mark(PARAGRAPH, "14. a"), &Start::Text)?;
-    told(
-        &rt,
-        &list_mark(PARAGRAPH, "1. a"),
-        &numbered(ListMark::FullStop, 1, 1),
-    )?;
-    told(&rt, &list_mark(Place::Fresh, "1"), &Start::Text)?;
-    told(&rt, &list_mark(Place::Fresh, ""), &Start::Text)?;
+    let rows = [
+        (Place::Fresh, "- a", ('-', 1, 0)),
+        (Place::Beside, "*", ('*', 1, 0)),
+        (PARAGRAPH, "*", (' ', 0, 0)),
+        (Place::Fresh, "-a", (' ', 0, 0)),
+        (Place::Fresh, "123456789. ok", ('.', 123_456_789, 9)),
+        (Place::Fresh, "1234567890. not ok", (' ', 0, 0)),
+        (Place::Fresh, "003) ok", (')', 3, 3)),
+        (Place::Fresh, "-1. not ok", (' ', 0, 0)),
+        (PARAGRAPH, "14. a", (' ', 0, 0)),
+        (PARAGRAPH, "1. a", ('.', 1, 1)),
+        (Place::Fresh, "1", (' ', 0, 0)),
+        (Place::Fresh, "", (' ', 0, 0)),
+    ];
+    for (place, text, wanted) in rows {
+        assert_eq!(rt; numbered(place, text), wanted, "{text}");
+    }
     Ok(())
 }
 
@@ -191,42 +203,80 @@ fn html_is_told(rt: HostRuntime) -> Result<(), Fail> {
     Ok(())
 }
 
+fn heading_sign(level: HeadingLevel, text: &str) -> char {
+    if level.digit() == b'1' && text == "a" {
+        '#'
+    } else {
+        '?'
+    }
+}
+
+fn underline_sign(level: HeadingLevel) -> char {
+    if level.digit() == b'2' { '=' } else { '?' }
+}
+
+fn fence_sign(indent: u128, mark: char, len: usize, info: &str) -> char {
+    if indent == 2 && mark == '~' && len == 3 && info == "a" {
+        '~'
+    } else {
+        '?'
+    }
+}
+
+fn item_sign(mark: ListMark, number: u32, digits: usize) -> char {
+    if number == 1 && digits == 0 {
+        mark.as_char()
+    } else {
+        '?'
+    }
+}
+
+// A sign for each of the blocks that lines start below.
+fn started(place: Place, indent: u128, text: &str) -> char {
+    match line_start(place, indent, text) {
+        Start::Blank => '_',
+        Start::Quote => '>',
+        Start::Heading { level, text } => heading_sign(level, text),
+        Start::Fence {
+            indent,
+            mark,
+            len,
+            info,
+        } => fence_sign(indent, mark, len, info),
+        Start::Html { kind } => { if kind == HtmlKind::Listed { '<' } else { '?' } }
+        Start::Underline { level } => underline_sign(level),
+        Start::Break => '*',
+        Start::Item {
+            mark,
+            number,
+            digits,
+        } => item_sign(mark, number, digits),
+        Start::Indented => 'i',
+        Start::Text => 't',
+    }
+}
+
 #[test]
 fn marks_are_tried_in_their_order(rt: HostRuntime) -> Result<(), Fail> {
-    told(&rt, &line_start(Place::Fresh, 0, ""), &Start::Blank)?;
-    told(&rt, &line_start(Place::Fresh, 9, ""), &Start::Blank)?;
-    told(&rt, &line_start(PARAGRAPH, 3, "> a"), &Start::Quote)?;
-    told(
-        &rt,
-        &line_start(PARAGRAPH, 0, "---"),
-        &Start::Underline {
-            level: HeadingLevel::two(),
-        },
-    )?;
-    told(&rt, &line_start(Place::Fresh, 0, "---"), &Start::Break)?;
-    told(
-        &rt,
-        &line_start(Place::Fresh, 0, "- -"),
-        &numbered(ListMark::Hyphen, 1, 0),
-    )?;
-    told(&rt, &line_start(Place::Fresh, 0, "* * *"), &Start::Break)?;
-    told(&rt, &line_start(Place::Fresh, 0, "==="), &Start::Text)?;
-    told(&rt, &line_start(Place::Fresh, 0, "# a"), &headed(1, "a"))?;
-    told(
-        &rt,
-        &line_start(Place::Fresh, 2, "~~~ a"),
-        &fenced('~', 3, "a"),
-    )?;
-    told(
-        &rt,
-        &line_start(Place::Fresh, 0, "<div>"),
-        &Start::Html {
-            kind: HtmlKind::Listed,
-        },
-    )?;
-    told(&rt, &line_start(Place::Fresh, 4, "> a"), &Start::Indented)?;
-    told(&rt, &line_start(Place::Beside, 4, "> a"), &Start::Text)?;
-    told(&rt, &line_start(PARAGRAPH, 4, "> a"), &Start::Text)?;
-    told(&rt, &line_start(Place::Fresh, 0, "a"), &Start::Text)?;
+    let rows = [
+        (Place::Fresh, 0, "", '_'),
+        (Place::Fresh, 9, "", '_'),
+        (PARAGRAPH, 3, "> a", '>'),
+        (PARAGRAPH, 0, "---", '='),
+        (Place::Fresh, 0, "---", '*'),
+        (Place::Fresh, 0, "- -", '-'),
+        (Place::Fresh, 0, "* * *", '*'),
+        (Place::Fresh, 0, "===", 't'),
+        (Place::Fresh, 0, "# a", '#'),
+        (Place::Fresh, 2, "~~~ a", '~'),
+        (Place::Fresh, 0, "<div>", '<'),
+        (Place::Fresh, 4, "> a", 'i'),
+        (Place::Beside, 4, "> a", 't'),
+        (PARAGRAPH, 4, "> a", 't'),
+        (Place::Fresh, 0, "a", 't'),
+    ];
+    for (place, indent, text, wanted) in rows {
+        assert_eq!(rt; started(place, indent, text), wanted, "{text}");
+    }
     Ok(())
 }
