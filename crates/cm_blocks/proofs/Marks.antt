@@ -12,7 +12,7 @@ use Rattle.markdown_grammar.specs.Lines.{is_blank, trim_front}
 use Rattle.markdown_grammar.specs.LineStarts.{mark_at, quote_at, start_of}
 use Rattle.markdown_grammar.specs.ListMarks.{item_at, item_if}
 use Rattle.markdown_grammar.specs.Places.{not_in_paragraph}
-use Rattle.markdown_grammar.specs.References.{number_in}
+use Rattle.std.specs.Str.Parse.{digits_value}
 use Rattle.markdown_grammar.specs.Starts.{Start, atx_start, blank_start, break_start, fence_start, html_start, indented_start, item_start, quote_start, text_start, underline_start, ◌elsewise◌}
 use Rattle.cm_containers.specs.Rests.{behind_byte, column_behind}
 use Rattle.cm_blocks.specs.Opening.{IsMark}
@@ -93,12 +93,12 @@ item_mark t =
     let d = first_byte (drop (run_len is_digit t) t) in
     either_mark t ((first_byte t == 43) || ((first_byte t == 45) || (first_byte t == 42))) (item_if not_in_paragraph (first_byte t) 1 0 (drop 1 t))
     (cond ((nat_lt 0 (run_len is_digit t) && nat_lt (run_len is_digit t) 10) && ((first_byte (drop (run_len is_digit t) t) == 46) || (first_byte (drop (run_len is_digit t) t) == 41)))
-    (item_if not_in_paragraph (first_byte (drop (run_len is_digit t) t)) (number_in 10 0 (take (run_len is_digit t) t)) (run_len is_digit t) (drop (run_len is_digit t + 1) t)) text_start)
+    (item_if not_in_paragraph (first_byte (drop (run_len is_digit t) t)) (digits_value 10 (take (run_len is_digit t) t)) (run_len is_digit t) (drop (run_len is_digit t + 1) t)) text_start)
     (λ e. either_mark t ((is_empty (drop 1 t) || is_space (first_byte (drop 1 t))) && true) (item_start (first_byte t) 1 0) text_start (λ f. bullet t e) tt)
     (either_mark t ((nat_lt 0 (run_len is_digit t) && nat_lt (run_len is_digit t) 10) && ((first_byte (drop (run_len is_digit t) t) == 46) || (first_byte (drop (run_len is_digit t) t) == 41)))
-    (item_if not_in_paragraph (first_byte (drop (run_len is_digit t) t)) (number_in 10 0 (take (run_len is_digit t) t)) (run_len is_digit t) (drop (run_len is_digit t + 1) t)) text_start
+    (item_if not_in_paragraph (first_byte (drop (run_len is_digit t) t)) (digits_value 10 (take (run_len is_digit t) t)) (run_len is_digit t) (drop (run_len is_digit t + 1) t)) text_start
     (λ e. either_mark t ((is_empty (drop (run_len is_digit t + 1) t) || is_space (first_byte (drop (run_len is_digit t + 1) t))) && true)
-    (item_start (first_byte (drop (run_len is_digit t) t)) (number_in 10 0 (take (run_len is_digit t) t)) (run_len is_digit t)) text_start (λ f. ordered t e) tt) tt) where
+    (item_start (first_byte (drop (run_len is_digit t) t)) (digits_value 10 (take (run_len is_digit t) t)) (run_len is_digit t)) text_start (λ f. ordered t e) tt) tt) where
       bullet : (t : List ℕ) → ((first_byte t == 43) || ((first_byte t == 45) || (first_byte t == 42))) ≡ true → IsMark t (0 + 1)
       bullet t e = let size : 1 ≡ 0 + 1 = omega arith in subst (λ (n : ℕ). IsMark t n) size (bullet_mark t e)
 

@@ -1,8 +1,8 @@
 -- Where parts of a definition end.
-use Rattle.std.proofs.Common.{arith, drop, subst, List, ℕ, ◌+◌, ◌-◌, ◌<◌, ◌≡◌, ◌≤◌}
+use Rattle.std.proofs.Common.{arith, drop, subst, List, ℕ, ◌+◌, ◌-◌, ◌≡◌}
 use Rattle.std.specs.Str.{IsCharBoundary}
 use Rattle.std.proofs.lemmas.Str.{IsCharBoundary-from_rest}
-use Rattle.cm_links.specs.Cuts.{IsEnd, IsFront}
+use Rattle.cm_links.specs.Cuts.{IsEnd}
 
 -- k bytes further
 pub end_here : (n k : ℕ) (text : List ℕ) → IsCharBoundary text k → IsEnd n text (n + k)

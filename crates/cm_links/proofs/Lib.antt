@@ -1,4 +1,5 @@
 pub mod Numbers
+mod Classing
 pub mod Squeezing
 pub mod Boundaries
 pub mod ResolvingLaws

@@ -2,7 +2,7 @@
 use Rattle.std.proofs.Common.{◌≡◌, ◌∙◌, ap, List, length, drop, get_or, sym, subst, add-one, ℕ, zero, suc, ◌+◌, ◌*◌, ◌<◌, ◌≤◌, arith}
 use Rattle.std.proofs.lemmas.List.{drop_more}
 use Rattle.std.specs.Char.{digit_value}
-use Rattle.markdown_grammar.specs.References.{number_in}
+use Rattle.std.specs.Str.Parse.{digits_value_after}
 use Rattle.std.proofs.Math.Nat.{mul-le-mul_left}
 
 -- above what i digits spell
@@ -36,6 +36,6 @@ mul_fits value base i h k lt = omega (arith, shifted_small value base h, cap_sma
 pub add_fits : (value base d i : ℕ) → base ≤ 16 → d ≤ 36 → i < 7 → value < cap i → value * base + d < 18446744073709551616
 add_fits value base d i h e k lt = omega (arith, shifted_small value base h, cap_small i k, lt, e)
 
-pub number_more : (base value d i : ℕ) (ds : List ℕ) (n : ℕ) → i < length ds → d ≡ digit_value (get_or ds i 0) → number_in base value (drop i ds) ≡ n → number_in base (value * base + d) (drop (i + 1) ds) ≡ n
+pub number_more : (base value d i : ℕ) (ds : List ℕ) (n : ℕ) → i < length ds → d ≡ digit_value (get_or ds i 0) → digits_value_after base value (drop i ds) ≡ n → digits_value_after base (value * base + d) (drop (i + 1) ds) ≡ n
 number_more base value d i ds n lt e h =
-    ap (λ (k : ℕ). number_in base (value * base + k) (drop (i + 1) ds)) e ∙ sym (ap (number_in base value) (drop_more ds i 0 lt)) ∙ h
+    ap (λ (k : ℕ). digits_value_after base (value * base + k) (drop (i + 1) ds)) e ∙ sym (ap (digits_value_after base value) (drop_more ds i 0 lt)) ∙ h

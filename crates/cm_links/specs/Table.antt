@@ -1,5 +1,5 @@
 -- Where the first definition of a label stands: CommonMark 0.31.2, section 4.7.
-use Rattle.std.specs.Prelude.{◌≡◌, ℕ, suc, List, [], ◌∷◌, Bool, true, false, Option, Some, None, option_map, if◌then◌else◌, String, chars, IsUtf8}
+use Rattle.std.specs.Prelude.{◌≡◌, ℕ, suc, List, [], ◌∷◌, true, false, Option, Some, None, option_map, if◌then◌else◌, String, chars, IsUtf8}
 use Rattle.std.specs.HashMap.{HashMap, get_by_text}
 use Rattle.std.specs.Str.{bytes_eq}
 use Rattle.markdown_grammar.specs.Definitions.{Definition, Target}

@@ -6,7 +6,7 @@ ghost use Rattle.cm_links.specs.Answers.{link_part};
 ghost use Rattle.cm_links.specs.Bare.{bare_next, IsSmall, IsStop};
 ghost use Rattle.cm_links.specs.Cuts.{HasByte};
 
-use crate::bytes::is_punctuation;
+use crate::classes::is_punctuation;
 use crate::gaps::begins;
 use crate::parts::{LinkPart, enclosed};
 use crate::resolving::resolved;

@@ -7,7 +7,7 @@ ghost use Rattle.markdown_grammar.specs.Fronts.{run_len, begins_with};
 ghost use Rattle.markdown_grammar.specs.Readers as readers;
 ghost use Rattle.markdown_grammar.specs.Definitions as grammar;
 
-use crate::bytes::is_space;
+use crate::classes::is_space;
 
 /// How many spaces and tabs a text begins with.
 pub fn spaces(text: &str) -> usize

@@ -7,7 +7,7 @@ ghost use Rattle.markdown_grammar.specs.Labels as grammar;
 ghost use Rattle.markdown_grammar.specs.Labels.{label_key, squeezed};
 ghost use Rattle.cm_links.specs.Cuts.{HasByte, IsLabelled};
 
-use crate::bytes::is_white;
+use crate::classes::is_white;
 use crate::gaps::begins;
 use caseless::default_case_fold_str;
 use site_base::{Memory, Text};

@@ -1,8 +1,9 @@
 //! The parts of which Markdown's links are made: labels, character references, destinations, titles
-//! and link reference definitions, each read from the front of a text.
+//! and link reference definitions, each read from the front of a text; and classes of bytes, with the
+//! runs of them that texts begin with.
 #![tactic(auto)]
 
-mod bytes;
+mod classes;
 mod definitions;
 mod destinations;
 mod gaps;
@@ -14,7 +15,7 @@ mod references;
 mod resolving;
 mod titles;
 
-pub use bytes::is_punctuation;
+pub use classes::{Class, class_run, is_alnum, is_letter, is_one_of, is_punctuation, is_space};
 pub use definitions::{LinkDef, definition};
 pub use destinations::destination;
 pub use gaps::{spaces, white_gap};

@@ -2,12 +2,13 @@
 ghost use Rattle.std.specs.Prelude.{◌≡◌, ◌≤◌, ◌<◌, ◌+◌, ◌-◌, ◌^◌, IfSome, drop, length, option_map};
 ghost use Rattle.std.specs.Str.{IsCharBoundary};
 ghost use Rattle.std.specs.Char.{digit_value};
+ghost use Rattle.std.specs.Str.Parse.{digits_value};
 ghost use Rattle.cm_links.specs.Answers.{char_ref};
 ghost use Rattle.cm_links.specs.Resolving.{HasEnd};
 ghost use Rattle.markdown_grammar.specs.Bytes as bytes;
 ghost use Rattle.markdown_grammar.specs.References as grammar;
 
-use crate::bytes::{alnums, digits, hex_digits};
+use crate::classes::{Class, class_run};
 use crate::names::named;
 
 /// A character reference in a text: its character, and the place where it ends.
@@ -51,7 +52,7 @@ fn with_name(text: &[u8]) -> Option<(char, usize)>
     ensures value { result ≡ grammar.named_reference text.now }
     ensures ends { IfSome result (λ found. HasEnd 1 text.now found.1) }
 {
-    let n = alnums(text);
+    let n = class_run(Class::Alphanumeric, text);
     if n == text.len() || text[n] != b';' {
         return None;
     }
@@ -65,7 +66,7 @@ fn decimal(text: &[u8]) -> Option<(char, usize)>
     ensures value { result ≡ grammar.numeric_reference 10 bytes.is_digit 7 2 text.now }
     ensures ends { IfSome result (λ found. HasEnd 2 text.now found.1) }
 {
-    let n = digits(text);
+    let n = class_run(Class::Digit, text);
     if n == 0 || 7 < n || n == text.len() || text[n] != b';' {
         return None;
     }
@@ -78,7 +79,7 @@ fn hexadecimal(text: &[u8]) -> Option<(char, usize)>
     ensures value { result ≡ grammar.numeric_reference 16 bytes.is_hex 6 3 text.now }
     ensures ends { IfSome result (λ found. HasEnd 3 text.now found.1) }
 {
-    let n = hex_digits(text);
+    let n = class_run(Class::HexDigit, text);
     if n == 0 || 6 < n || n == text.len() || text[n] != b';' {
         return None;
     }
@@ -89,7 +90,7 @@ fn hexadecimal(text: &[u8]) -> Option<(char, usize)>
 fn number(base: u64, digits: &[u8]) -> u64
     requires base { base ≤ 16 }
     requires few { length digits.now ≤ 7 }
-    ensures { result ≡ grammar.number_in base 0 digits.now }
+    ensures { result ≡ digits_value base digits.now }
 {
     let mut value = 0;
     let mut i = 0;

@@ -5,7 +5,7 @@ ghost use Rattle.markdown_grammar.specs.Fronts.{run_len};
 ghost use Rattle.markdown_grammar.specs.References as grammar;
 ghost use Rattle.cm_links.specs.Resolving.{may_mean, StartsAscii, EndsAscii, Resolves};
 
-use crate::bytes::is_punctuation;
+use crate::classes::is_punctuation;
 use crate::references::front_reference;
 use site_base::{Memory, Text};
 use std::alloc::{AllocError, Global};

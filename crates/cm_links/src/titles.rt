@@ -5,7 +5,7 @@ ghost use Rattle.markdown_grammar.specs.Titles as grammar;
 ghost use Rattle.cm_links.specs.Answers.{link_part};
 ghost use Rattle.cm_links.specs.Cuts.{HasByte};
 
-use crate::bytes::is_punctuation;
+use crate::classes::is_punctuation;
 use crate::parts::{LinkPart, enclosed};
 use site_base::Memory;
 use std::alloc::Global;

@@ -1,4 +1,3 @@
-pub mod Classes
 pub mod Code
 pub mod Words
 pub mod Missing

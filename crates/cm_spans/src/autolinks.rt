@@ -4,12 +4,11 @@ ghost use Rattle.markdown_grammar.specs.Autolinks as grammar;
 ghost use Rattle.markdown_grammar.specs.Readers as readers;
 ghost use Rattle.markdown_grammar.specs.Readers.{◌then◌};
 ghost use Rattle.cm_links.specs.Cuts.{IsLabelled};
-ghost use Rattle.cm_spans.specs.Classes.{is_in};
-ghost use Rattle.cm_spans.specs.declared.classes.Class.TheVariants.{Address, Mailbox};
+ghost use Rattle.cm_links.specs.Classes.{is_in};
+ghost use Rattle.cm_links.specs.declared.classes.Class.TheVariants.{Address, Mailbox};
 
-use crate::classes::{Class, class_run};
 use crate::tags::word;
-use cm_starts::{is_alnum, is_letter};
+use cm_links::{Class, class_run, is_alnum, is_letter};
 
 /// How many bytes the autolink with a scheme takes that a text begins with, its pointed brackets
 /// included, or none.
@@ -132,7 +131,7 @@ fn host_part(text: &[u8]) -> Option<usize>
     ensures value { result ≡ grammar.host_part text.now }
     ensures within { IfSome result (λ n. n ≤ length text.now) }
 {
-    let n = class_run(Class::Host, text);
+    let n = class_run(Class::Hyphenated, text);
     if n == 0 || 63 < n || !is_alnum(text[0]) || !is_alnum(text[n - 1]) {
         return None;
     }

@@ -3,7 +3,6 @@
 #![tactic(auto)]
 
 mod autolinks;
-mod classes;
 mod code;
 mod flanking;
 mod missing_ends;

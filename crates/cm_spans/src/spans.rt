@@ -5,20 +5,19 @@ ghost use Rattle.markdown_grammar.specs.CodeSpans as code;
 ghost use Rattle.markdown_grammar.specs.Spans as grammar;
 ghost use Rattle.cm_spans.specs.Cuts.{Ends};
 ghost use Rattle.markdown_grammar.specs.Fronts.{first_byte, run_len};
-ghost use Rattle.cm_spans.specs.Classes.{is_in};
-ghost use Rattle.cm_spans.specs.declared.classes.Class.TheVariants.{Textual};
+ghost use Rattle.cm_links.specs.Classes.{is_in};
+ghost use Rattle.cm_links.specs.declared.classes.Class.TheVariants.{Textual};
 ghost use Rattle.cm_links.specs.Cuts.{IsLabelled};
 ghost use Rattle.cm_spans.specs.Missing.{Lacks, LacksRuns};
 ghost use Rattle.cm_spans.specs.Pieces.{bracket_or_text, email_or_html, html_or_text, mark_byte, marks_at, taken_of};
 
 use crate::autolinks::{email, uri};
-use crate::classes::{Class, class_run};
 use crate::code::{code_text, next_run};
 use crate::flanking::{Mark, Marks, char_after, char_before, marks_between};
 use crate::missing_ends::MissingEnds;
 use crate::missing_runs::MissingRuns;
 use crate::tags::html_tag;
-use cm_links::{is_punctuation, reference};
+use cm_links::{Class, class_run, is_punctuation, reference};
 use cm_starts::run;
 
 /// What stands at a place of a text.

@@ -2,7 +2,6 @@
 use Rattle.std.proofs.Common.{◌≡◌, ◌∙◌, Bool, List, [], ap, arith, cond, drop, false, get_or, length, nat_lt, not, refl, reverse, suc, sym, take, true, zero, ℕ, ◌&&◌, ◌-◌, ◌<◌, ◌==◌, ◌∷◌, ◌≤◌}
 use Rattle.std.proofs.lemmas.List.{reverse-append}
 use Rattle.std.proofs.Math.Seq.{take-suc}
-use Rattle.markdown_grammar.specs.Bytes.{is_digit}
 use Rattle.markdown_grammar.specs.Fronts.{is_empty, run_len}
 use Rattle.markdown_grammar.specs.Fences.{fence_at}
 use Rattle.markdown_grammar.specs.Lines.{trim}
@@ -18,9 +17,6 @@ mark_ascii Plus = omega arith
 mark_ascii Star = omega arith
 mark_ascii FullStop = omega arith
 mark_ascii Parenthesis = omega arith
-
-pub digit_ascii : (c : ℕ) → is_digit c ≡ true → c < 128
-digit_ascii c h = grind arith
 
 -- ---- the end of a text, byte by byte
 

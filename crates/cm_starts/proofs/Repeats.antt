@@ -1,17 +1,8 @@
 -- Patterns that are read again and again.
-use Rattle.std.proofs.Common.{◌≡◌, ◌∙◌, Bool, List, None, Option, Some, [], ap, arith, cond, drop, false, length, refl, suc, sym, take, true, zero, ℕ, ◌+◌, ◌-◌, ◌<◌, ◌==◌, ◌∷◌, ◌≤◌, ◌||◌}
-use Rattle.std.specs.List.{list_any}
+use Rattle.std.proofs.Common.{◌≡◌, ◌∙◌, Bool, List, None, Option, Some, [], ap, arith, cond, drop, false, length, refl, suc, sym, take, true, zero, ℕ, ◌+◌, ◌-◌, ◌<◌, ◌==◌, ◌∷◌, ◌≤◌}
 use Rattle.std.proofs.lemmas.List.{length-drop}
-use Rattle.markdown_grammar.specs.Fronts.{has_one}
 use Rattle.markdown_grammar.specs.Readers.{Reader, perhaps, plus, repeat, repeat_by, some_white_gap, white_gap, ◌then◌}
 use Rattle.markdown_grammar.specs.Tags.{attribute, attribute_name, value_part}
-
-pub any_is : (c : ℕ) (t : List ℕ) → list_any (λ d. d == c) t ≡ has_one (λ d. d == c) t
-any_is c [] = refl
-any_is c (d ∷ ds) = go (d == c) (any_is c ds) where
-  go : (b : Bool) → list_any (λ d. d == c) ds ≡ has_one (λ d. d == c) ds → (b || list_any (λ d. d == c) ds) ≡ elim b as (λ x. Bool) [ true ↦ true | false ↦ has_one (λ d. d == c) ds ]
-  go true h = refl
-  go false h = h
 
 -- a pattern that takes something, and something of a text that has something
 abbrev pub Goes : Reader → Type 0

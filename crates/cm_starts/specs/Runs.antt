@@ -6,7 +6,7 @@ use Rattle.markdown_grammar.specs.Fronts.{first_byte, has_one, run_len}
 use Rattle.markdown_grammar.specs.Lines.{is_blank}
 use Rattle.markdown_grammar.specs.ListMarks.{item_if}
 use Rattle.markdown_grammar.specs.Places.{Place}
-use Rattle.markdown_grammar.specs.References.{number_in}
+use Rattle.std.specs.Str.Parse.{digits_value}
 use Rattle.markdown_grammar.specs.Starts.{Start, text_start}
 
 -- what follows a run at the front
@@ -46,4 +46,4 @@ abbrev pub ordered_at : Place → List ℕ → Start
 ordered_at place t =
     let n = run_len is_digit t in
     let d = first_byte (drop n t) in
-    if (nat_lt 0 n && nat_lt n 10) && ((d == full_stop) || (d == right_paren)) then item_if place d (number_in 10 0 (take n t)) n (drop (n + 1) t) else text_start
+    if (nat_lt 0 n && nat_lt n 10) && ((d == full_stop) || (d == right_paren)) then item_if place d (digits_value 10 (take n t)) n (drop (n + 1) t) else text_start

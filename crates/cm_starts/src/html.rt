@@ -9,11 +9,10 @@ ghost use Rattle.markdown_grammar.specs.Readers as readers;
 ghost use Rattle.cm_starts.specs.Answers.{as_place, as_start};
 ghost use Rattle.cm_starts.specs.HtmlParts.{marked_at, tagged_at};
 
-use crate::classes::{Class, class_run, is_letter};
 use crate::kinds::{Place, Start};
 use crate::names::{is_block, is_verbatim};
 use crate::tags::is_alone;
-use crate::texts::is_space;
+use cm_links::{Class, class_run, is_letter, is_space};
 use markdown_grammar::HtmlKind;
 
 /// The block of HTML that a line starts, by its text behind the white space in front, or `Text` where
@@ -111,7 +110,7 @@ fn tag_text(text: &[u8]) -> &[u8]
 fn name_of(text: &[u8]) -> &[u8]
     ensures { result.now ≡ take (run_len (λ c. bytes.is_alnum c || (c == bytes.hyphen)) text.now) text.now }
 {
-    let n = class_run(Class::TagName, text);
+    let n = class_run(Class::Hyphenated, text);
     &text[..n]
 }
 

@@ -10,7 +10,8 @@ ghost use Rattle.cm_starts.specs.Runs.{is_bullet_mark, is_delimiter_mark, ordere
 
 use crate::kinds::{Place, Start};
 use crate::list_marks::ListMark;
-use crate::texts::{digits, is_apart, is_blank};
+use crate::texts::{is_apart, is_blank};
+use cm_links::{Class, class_run};
 
 /// The list item that a line starts, by its text behind the white space in front, or `Text` where it
 /// starts none: `+`, `-` or `*`, or one to nine digits with `.` or `)`, before white space or the end. In
@@ -57,11 +58,12 @@ fn delimiter(c: u8) -> Option<ListMark>
 fn ordered<'a>(place: Place, text: &'a str) -> Start<'a>
     ensures { as_start result ≡ ordered_at (as_place place) text.now }
 {
-    let n = digits(text);
+    let bytes = text.as_bytes();
+    let n = class_run(Class::Digit, bytes);
     if n == 0 || n > 9 || n == text.len() {
         return Start::Text;
     }
-    let Some(mark) = delimiter(text.as_bytes()[n]) else {
+    let Some(mark) = delimiter(bytes[n]) else {
         return Start::Text;
     };
     match text[..n].parse() {

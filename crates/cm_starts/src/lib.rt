@@ -3,7 +3,6 @@
 #![tactic(auto)]
 
 mod breaks;
-mod classes;
 mod fences;
 mod heading_level;
 mod headings;
@@ -17,7 +16,6 @@ mod tags;
 mod texts;
 
 pub use breaks::is_thematic_break;
-pub use classes::{is_alnum, is_letter, is_one_of};
 pub use fences::{closes_fence, fence};
 pub use heading_level::HeadingLevel;
 pub use headings::{heading, underline};

@@ -5,10 +5,10 @@ ghost use Rattle.markdown_grammar.specs.Readers.{◌or◌, ◌then◌};
 ghost use Rattle.markdown_grammar.specs.Fronts.{has};
 ghost use Rattle.markdown_grammar.specs.HtmlStarts as starts;
 ghost use Rattle.markdown_grammar.specs.Tags as grammar;
-ghost use Rattle.cm_starts.specs.Classes.{is_in};
-ghost use Rattle.cm_starts.specs.declared.classes.Class.TheVariants.{NoDoubleQuote, NoSingleQuote};
+ghost use Rattle.cm_links.specs.Classes.{is_in};
+ghost use Rattle.cm_links.specs.declared.classes.Class.TheVariants.{NoDoubleQuote, NoSingleQuote};
 
-use crate::classes::{Class, class_run, is_letter, is_one_of};
+use cm_links::{Class, class_run, is_letter, is_one_of};
 
 /// One byte.
 fn byte(text: &[u8], c: u8) -> Option<usize>
@@ -28,7 +28,7 @@ fn tag_name(text: &[u8]) -> Option<usize>
     if text.len() == 0 || !is_letter(text[0]) {
         return None;
     }
-    Some(1 + class_run(Class::TagName, &text[1..]))
+    Some(1 + class_run(Class::Hyphenated, &text[1..]))
 }
 
 // Spaces and tabs, with up to one line end among them.

@@ -6,19 +6,7 @@ ghost use Rattle.markdown_grammar.specs.Fronts.{first_byte, has_one, is_empty, r
 ghost use Rattle.markdown_grammar.specs.Lines as lines;
 ghost use Rattle.cm_starts.specs.Runs.{behind_run};
 
-use cm_links::spaces;
-
-pub(crate) fn is_space(c: u8) -> bool
-    ensures { result ≡ bytes.is_space c }
-{
-    c == b' ' || c == b'\t'
-}
-
-pub(crate) fn is_digit(c: u8) -> bool
-    ensures { result ≡ bytes.is_digit c }
-{
-    48 <= c && c <= 57
-}
+use cm_links::{is_space, spaces};
 
 /// How many of a byte a text begins with.
 pub fn run(text: &str, c: u8) -> usize
@@ -29,19 +17,6 @@ pub fn run(text: &str, c: u8) -> usize
     let bytes = text.as_bytes();
     let mut i = 0;
     while i < bytes.len() && bytes[i] == c {
-        i += 1;
-    }
-    i
-}
-
-/// How many ASCII digits a text begins with.
-pub(crate) fn digits(text: &str) -> usize
-    ensures value { result ≡ run_len bytes.is_digit text.now }
-    ensures cut { IsCharBoundary text.now result }
-{
-    let bytes = text.as_bytes();
-    let mut i = 0;
-    while i < bytes.len() && is_digit(bytes[i]) {
         i += 1;
     }
     i

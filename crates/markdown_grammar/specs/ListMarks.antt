@@ -4,7 +4,7 @@ use Rattle.markdown_grammar.specs.Bytes.{full_stop, hyphen, is_digit, is_space, 
 use Rattle.markdown_grammar.specs.Fronts.{first_byte, is_empty, run_len}
 use Rattle.markdown_grammar.specs.Lines.{is_blank}
 use Rattle.markdown_grammar.specs.Places.{Place, beside_paragraph, in_paragraph, not_in_paragraph}
-use Rattle.markdown_grammar.specs.References.{number_in}
+use Rattle.std.specs.Str.Parse.{digits_value}
 use Rattle.markdown_grammar.specs.Starts.{Start, item_start, text_start}
 
 -- in a paragraph, only an item that is not empty, and starts with 1 if it is ordered
@@ -25,5 +25,5 @@ item_at place t =
     let n = run_len is_digit t in
     let d = first_byte (drop n t) in
     if (c == plus_sign) || ((c == hyphen) || (c == star)) then item_if place c 1 0 (drop 1 t)
-    else if ((nat_lt 0 n && nat_lt n 10) && ((d == full_stop) || (d == right_paren))) then item_if place d (number_in 10 0 (take n t)) n (drop (n + 1) t)
+    else if ((nat_lt 0 n && nat_lt n 10) && ((d == full_stop) || (d == right_paren))) then item_if place d (digits_value 10 (take n t)) n (drop (n + 1) t)
     else text_start

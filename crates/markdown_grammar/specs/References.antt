@@ -1,6 +1,7 @@
 -- Character references and backslash escapes: CommonMark 0.31.2, sections 2.4 and 2.5.
-use Rattle.std.specs.Char.{digit_value, encode_utf8}
-use Rattle.std.specs.Prelude.{Bool, List, None, Option, Some, [], drop, false, if◌then◌else◌, length, nat_le, nat_lt, not, take, true, ℕ, ◌&&◌, ◌*◌, ◌++◌, ◌+◌, ◌-◌, ◌==◌, ◌||◌, ◌∷◌}
+use Rattle.std.specs.Char.{encode_utf8}
+use Rattle.std.specs.Str.Parse.{digits_value}
+use Rattle.std.specs.Prelude.{Bool, List, None, Option, Some, [], drop, false, if◌then◌else◌, length, nat_le, nat_lt, not, take, true, ℕ, ◌&&◌, ◌++◌, ◌+◌, ◌-◌, ◌==◌, ◌||◌, ◌∷◌}
 use Rattle.site_base.specs.Recursion.{down}
 use Rattle.markdown_grammar.specs.Bytes.{ampersand, backslash, between, is_alnum, is_digit, is_hex, is_punct, lower_x, number_sign, semicolon, upper_x}
 use Rattle.markdown_grammar.specs.CharacterNames.{character_names}
@@ -10,11 +11,6 @@ use Rattle.markdown_grammar.specs.Fronts.{first_byte, run_len, same_bytes}
 abbrev pub named_in : List (List ℕ × ℕ) → List ℕ → Option ℕ
 named_in [] w = None
 named_in (r ∷ rs) w = elim (same_bytes r.0 w) [ true ↦ Some r.1 | false ↦ named_in rs w ]
-
--- the number that digits spell
-abbrev pub number_in : ℕ → ℕ → List ℕ → ℕ
-number_in base n [] = n
-number_in base n (c ∷ cs) = number_in base (n * base + digit_value c) cs
 
 -- a character's code is no surrogate and at most U+10FFFF; 0 and other numbers give U+FFFD
 abbrev pub valid_code : ℕ → ℕ
@@ -28,7 +24,7 @@ CharRef = ℕ × ℕ
 abbrev pub numeric_reference : ℕ → (ℕ → Bool) → ℕ → ℕ → List ℕ → Option CharRef
 numeric_reference base p most skip t =
     let n = run_len p t in
-    if (nat_le 1 n && nat_le n most) && (first_byte (drop n t) == semicolon) then Some (valid_code (number_in base 0 (take n t)), skip + n + 1) else None
+    if (nat_le 1 n && nat_le n most) && (first_byte (drop n t) == semicolon) then Some (valid_code (digits_value base (take n t)), skip + n + 1) else None
 
 -- a name and `;` behind `&`
 abbrev pub named_reference : List ℕ → Option CharRef

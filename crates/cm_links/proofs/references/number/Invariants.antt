@@ -1,5 +1,5 @@
 use Rattle.std.proofs.Common.{length, ◌-◌, ◌≡◌, ◌<◌, ◌≤◌, drop}
-use Rattle.markdown_grammar.specs.References.{number_in}
+use Rattle.std.specs.Str.Parse.{digits_value, digits_value_after}
 use Rattle.cm_links.proofs.Numbers.{cap}
 use Rattle.cm_links.proofs.references.number.Given as goal
 
@@ -7,7 +7,7 @@ abbrev pub invariant-loop-i : goal.invariant-loop-i
 invariant-loop-i l = record {
   within : l.i ≤ length l.digits;
   small : l.value < cap l.i;
-  so_far : number_in l.base l.value (drop l.i l.digits) ≡ number_in l.base 0 l.digits;
+  so_far : digits_value_after l.base l.value (drop l.i l.digits) ≡ digits_value l.base l.digits;
 }
 
 abbrev pub decreases-loop-i : goal.decreases-loop-i

@@ -1,4 +1,4 @@
-use Rattle.std.proofs.Common.{◌<◌, arith, get_or, sym}
+use Rattle.std.proofs.Common.{◌<◌, arith, get_or}
 use Rattle.std.proofs.lemmas.Str.{IsCharBoundary-after_ascii}
 use Rattle.cm_starts.proofs.Ends.{mark_ascii}
 use Rattle.cm_starts.proofs.items.list_mark.Goals as goal
