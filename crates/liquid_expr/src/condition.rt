@@ -71,7 +71,7 @@ impl FromTokens for Condition {
     fn read(alloc: Global, tokens: Tokens) -> Result<(Condition, usize), Stop> {
         let (first, len) = Test::read(alloc, tokens)?;
         let (others, more) = many::<Tests>(alloc, rest(tokens, len))?;
-        let rest = Extras::from_several(alloc, others)?;
+        let rest = Extras::from_sequence(alloc, others)?;
         Ok((Condition { first, rest }, len + more))
     }
 }

@@ -10,8 +10,8 @@ use crate::reading::{FromTokens, Repeats, many};
 use crate::stop::Stop;
 use crate::token::mark_at;
 use crate::tokens::{Tokens, rest};
-use liquid_grammar::{Expr, Extras, Filter, Mark, Operand, Several};
-use site_base::Text;
+use liquid_grammar::{Expr, Extras, Filter, Mark, Operand};
+use site_base::{Sequence, Text};
 use std::alloc::Global;
 
 /// No more brackets than these may be open.
@@ -99,16 +99,16 @@ impl Repeats for Arguments {
 }
 
 /// Puts a value in front of others.
-pub(crate) fn in_front<T: Drop>(first: T, others: Several<T>) -> Result<Several<T>, Stop>
+pub(crate) fn in_front<T: Drop>(first: T, others: Sequence<T>) -> Result<Sequence<T>, Stop>
     ensures { MatchResult result (λ all. all ≡ first ∷ others) (λ error. error ≡ Stop.Memory) }
 {
     let mut list = others.into_vec();
     list.insert(0, first)?;
-    Ok(Several::from_vec(list))
+    Ok(Sequence::fitted(list))
 }
 
 /// The arguments of a filter, or the values of a tag: operands between commas.
-pub(crate) fn operands(alloc: Global, tokens: Tokens) -> Result<(Several<Operand>, usize), Stop>
+pub(crate) fn operands(alloc: Global, tokens: Tokens) -> Result<(Sequence<Operand>, usize), Stop>
     ensures value { IsRead result (arguments (tokens_of tokens.entry)) }
     ensures within { IfOk result (λ found. found.1 ≤ count tokens.entry) }
 {
@@ -127,7 +127,7 @@ fn filter_end(alloc: Global, name: Text, tokens: Tokens) -> Result<(Filter, usiz
         return Ok((Filter { name, arguments }, 0));
     }
     let (arguments, len) = operands(alloc, rest(tokens, 1))?;
-    let arguments = Extras::from_several(alloc, arguments)?;
+    let arguments = Extras::from_sequence(alloc, arguments)?;
     Ok((Filter { name, arguments }, 1 + len))
 }
 
@@ -163,7 +163,7 @@ impl FromTokens for Expr {
     fn read(alloc: Global, tokens: Tokens) -> Result<(Expr, usize), Stop> {
         let (operand, len) = Operand::read(alloc, tokens)?;
         let (filters, more) = many::<Filters>(alloc, rest(tokens, len))?;
-        let filters = Extras::from_several(alloc, filters)?;
+        let filters = Extras::from_sequence(alloc, filters)?;
         Ok((Expr { operand, filters }, len + more))
     }
 }

@@ -13,8 +13,8 @@ use crate::places::{begins, is_white, tail, white_end_len, white_len};
 use crate::reads::{read_expr, read_params};
 use crate::stop::ReadExprError;
 use crate::token::{is_letter, name_len as token_name_len};
-use liquid_grammar::{Include, NamePart, NamePlace, PieceKind, Several, Span};
-use site_base::Text;
+use liquid_grammar::{Include, NamePart, NamePlace, PieceKind, Span};
+use site_base::{Sequence, Text};
 use std::alloc::Global;
 
 /// The part of a text that a span is of.
@@ -81,7 +81,7 @@ fn part(alloc: Global, kind: PieceKind, text: &str) -> Result<NamePart, ReadExpr
 }
 
 /// The parts of a name: texts and outputs. An empty name is none.
-pub fn read_name_parts(alloc: Global, text: &str) -> Result<Several<NamePart>, ReadExprError>
+pub fn read_name_parts(alloc: Global, text: &str) -> Result<Sequence<NamePart>, ReadExprError>
     ensures { GivesRead result (read_name_parts text.now) }
 {
     if text.is_empty() {
@@ -94,7 +94,7 @@ pub fn read_name_parts(alloc: Global, text: &str) -> Result<Several<NamePart>, R
     }
     match pieces.unclosed {
         Some(_) => Err(ReadExprError::Syntax),
-        None => Ok(Several::from_vec(parts)),
+        None => Ok(Sequence::fitted(parts)),
     }
 }
 
@@ -135,7 +135,7 @@ fn first_word<'a>(text: &'a str) -> &'a str
 }
 
 /// What stands in a `link` or a `post_url`: a name, which may hold white space.
-pub fn read_path(alloc: Global, text: &str) -> Result<Several<NamePart>, ReadExprError>
+pub fn read_path(alloc: Global, text: &str) -> Result<Sequence<NamePart>, ReadExprError>
     ensures { GivesRead result (read_path text.now) }
 {
     read_name_parts(alloc, trimmed(text))

@@ -7,7 +7,7 @@ ghost use Rattle.liquid_expr.specs.Readings.{IsRead, IsMore, GivesRead};
 
 use crate::stop::{ReadExprError, Stop};
 use crate::tokens::{Places, Tokens, rest, token_places};
-use liquid_grammar::Several;
+use site_base::Sequence;
 use std::alloc::Global;
 
 /// What can be read at the front of tokens.
@@ -40,7 +40,7 @@ pub(crate) trait Repeats {
 pub(crate) fn many<R: Repeats>(
     alloc: Global,
     tokens: Tokens,
-) -> Result<(Several<R::Item>, usize), Stop>
+) -> Result<(Sequence<R::Item>, usize), Stop>
     ensures value { IsRead result (many R.more (tokens_of tokens.entry)) }
     ensures within { IfOk result (λ found. found.1 ≤ count tokens.entry) }
 {
@@ -50,7 +50,7 @@ pub(crate) fn many<R: Repeats>(
         list.push(item)?;
         used += len;
     }
-    Ok((Several::from_vec(list), used))
+    Ok((Sequence::fitted(list), used))
 }
 
 /// Reads a whole text.

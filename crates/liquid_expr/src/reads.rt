@@ -8,8 +8,8 @@ use crate::looping::{ForLoop, RowLoop};
 use crate::reading::read_whole;
 use crate::stop::ReadExprError;
 use crate::tag::{Name, Nothing, Values};
-use liquid_grammar::{Assign, Condition, Cycle, Expr, Loop, LoopKind, Operand, Params, Several};
-use site_base::Text;
+use liquid_grammar::{Assign, Condition, Cycle, Expr, Loop, LoopKind, Operand, Params};
+use site_base::{Sequence, Text};
 use std::alloc::Global;
 
 /// The expression that a text is: an operand, and filters behind bars.
@@ -55,7 +55,7 @@ pub fn read_assign(alloc: Global, text: &str) -> Result<Assign, ReadExprError>
 }
 
 /// What stands in a `when`: values between commas and `or`.
-pub fn read_values(alloc: Global, text: &str) -> Result<Several<Operand>, ReadExprError>
+pub fn read_values(alloc: Global, text: &str) -> Result<Sequence<Operand>, ReadExprError>
     ensures { GivesRead result (read_values text.now) }
 {
     read_whole::<Values>(alloc, text)

@@ -11,8 +11,8 @@ use crate::expression::{Arguments, in_front, operands};
 use crate::reading::{FromTokens, Repeats, many};
 use crate::stop::Stop;
 use crate::tokens::{Tokens, rest};
-use liquid_grammar::{Assign, Cycle, Expr, Operand, Several};
-use site_base::Text;
+use liquid_grammar::{Assign, Cycle, Expr, Operand};
+use site_base::{Sequence, Text};
 use std::alloc::Global;
 
 /// What stands in a tag that is its name alone.
@@ -87,11 +87,11 @@ impl Repeats for Choices {
 pub(crate) enum Values {}
 
 impl FromTokens for Values {
-    type Value = Several<Operand>;
+    type Value = Sequence<Operand>;
 
     ghost reading = { values };
 
-    fn read(alloc: Global, tokens: Tokens) -> Result<(Several<Operand>, usize), Stop> {
+    fn read(alloc: Global, tokens: Tokens) -> Result<(Sequence<Operand>, usize), Stop> {
         let (first, len) = Operand::read(alloc, tokens)?;
         let (others, more) = many::<Choices>(alloc, rest(tokens, len))?;
         Ok((in_front(first, others)?, len + more))

@@ -1,6 +1,6 @@
 // Expressions.
-use crate::{Extras, Operand, Several};
-use site_base::Text;
+use crate::{Extras, Operand};
+use site_base::{Sequence, Text};
 
 /// A filter with its arguments.
 #[derive(Drop)]
@@ -24,4 +24,4 @@ pub struct Parameter {
 }
 
 /// The parameters of a tag, in their order.
-pub type Params = Several<Parameter>;
+pub type Params = Sequence<Parameter>;

@@ -1,16 +1,15 @@
 // What may follow something.
 ghost use Rattle.std.specs.Prelude.{◌≡◌, [], IfOk};
 
-use crate::Several;
-use site_base::{Boxed, Memory};
+use site_base::{Boxed, Memory, Sequence};
 use std::alloc::Global;
 use std::marker::Model;
 
-/// Values one after another, which clauses see as their list. Most often there are none, so it takes less room than `Several`
+/// Values one after another, which clauses see as their list. Most often there are none, so it takes less room than `Sequence`
 /// where it is empty, and more where it is not.
 #[derive(Drop)]
 pub struct Extras<T> {
-    list: Option<Boxed<Several<T>>>,
+    list: Option<Boxed<Sequence<T>>>,
 }
 
 impl<T> Model for Extras<T> {
@@ -22,13 +21,13 @@ impl<T> Model for Extras<T> {
 }
 
 impl<T: Drop> Extras<T> {
-    pub fn from_several(alloc: Global, several: Several<T>) -> Result<Extras<T>, Memory>
-        ensures { IfOk result (λ extras. extras ≡ several) }
+    pub fn from_sequence(alloc: Global, values: Sequence<T>) -> Result<Extras<T>, Memory>
+        ensures { IfOk result (λ extras. extras ≡ values) }
     {
-        if several.as_slice().is_empty() {
+        if values.as_slice().is_empty() {
             return Ok(Extras { list: None });
         }
-        let list = Some(Boxed::new(alloc, several)?);
+        let list = Some(Boxed::new(alloc, values)?);
         Ok(Extras { list })
     }
 }

@@ -1,6 +1,6 @@
 // What the pieces of a template say.
-use crate::{Assign, Condition, Cycle, Expr, Include, Loop, NamePart, Operand, Several};
-use site_base::{Boxed, FaultKind, Text};
+use crate::{Assign, Condition, Cycle, Expr, Include, Loop, NamePart, Operand};
+use site_base::{Boxed, FaultKind, Sequence, Text};
 
 /// What holds nothing else.
 #[derive(Drop)]
@@ -16,8 +16,8 @@ pub enum Leaf {
     Continue,
     Include(Boxed<Include>),
     IncludeRelative(Boxed<Include>),
-    Link(Several<NamePart>),
-    PostUrl(Several<NamePart>),
+    Link(Sequence<NamePart>),
+    PostUrl(Sequence<NamePart>),
 }
 
 /// What a block's tag says.
@@ -55,7 +55,7 @@ pub enum Part {
     /// With the test of an `if`, an `unless` or an `elsif`.
     Test(Boxed<Condition>),
     /// With the values of a `when`.
-    When(Boxed<Several<Operand>>),
+    When(Boxed<Sequence<Operand>>),
     /// With an `else`.
     Otherwise,
 }

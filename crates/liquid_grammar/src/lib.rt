@@ -11,7 +11,6 @@ mod literal;
 mod mark;
 mod operand;
 mod piece;
-mod several;
 mod step;
 mod tag;
 
@@ -23,6 +22,5 @@ pub use literal::Literal;
 pub use mark::{Comparison, Joint, Mark};
 pub use operand::Operand;
 pub use piece::{Front, Piece, PieceKind, Span};
-pub use several::Several;
 pub use step::Step;
 pub use tag::{Assign, Cycle, Include, Loop, LoopKey, LoopKind, LoopPart, NamePart, NamePlace};

@@ -1,6 +1,6 @@
 // What the tags of a template say.
-use crate::{Expr, Operand, Params, Several};
-use site_base::Text;
+use crate::{Expr, Operand, Params};
+use site_base::{Sequence, Text};
 
 /// `assign name = value`
 #[derive(Drop)]
@@ -14,7 +14,7 @@ pub struct Assign {
 pub struct Cycle {
     /// What names the group; where nothing does, the text of the tag is its name.
     pub group: Option<Operand>,
-    pub values: Several<Operand>,
+    pub values: Sequence<Operand>,
 }
 
 /// Which tag a loop is of.
@@ -44,7 +44,7 @@ pub enum LoopPart {
 pub struct Loop {
     pub name: Text,
     pub list: Expr,
-    pub parts: Several<LoopPart>,
+    pub parts: Sequence<LoopPart>,
 }
 
 /// A part of a name that a tag is given: text, or what an output in it writes.
@@ -66,6 +66,6 @@ pub enum NamePlace {
 /// `include file k=e ..`
 #[derive(Drop)]
 pub struct Include {
-    pub file: Several<NamePart>,
+    pub file: Sequence<NamePart>,
     pub params: Params,
 }

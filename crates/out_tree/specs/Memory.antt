@@ -12,13 +12,13 @@ use Rattle.out_tree.specs.declared.step.Step.TheVariants.{Remove, Write}
 use Rattle.out_tree.specs.declared.step.Call.{Call}
 use Rattle.out_tree.specs.declared.step.Call.TheVariants as call
 
--- its files, its calls where it tells them, the calls at which it fails, and counts of calls, of faults and of wants of memory
+-- its files, its calls where it tells them, the calls at which it fails, and counts of calls, of failures and of wants of memory
 pub record OutState : Type 0 where
   pub files : Files
   pub told : Option (List Call)
   pub fail : List ℕ
   pub calls : ℕ
-  pub faults : ℕ
+  pub failures : ℕ
   pub short : ℕ
 
 -- a map's files, with their bytes as lists
@@ -47,7 +47,7 @@ pub record Counts (old new : OutState) (made : Call) (ok : Bool) : Type 0 where
   pub told : Calls old.told new.told (made ∷ [])
   pub fail : new.fail ≡ old.fail
   pub calls : new.calls ≡ next old.calls
-  pub faults : new.faults ≡ (if ok then old.faults else next old.faults)
+  pub failures : new.failures ≡ (if ok then old.failures else next old.failures)
 
 -- a step is done where it succeeds, and changes no file where it fails. It fails where it is refused, and besides only for want of memory, which `short` counts
 pub record Tries (old new : OutState) (step : Step) (ok : Bool) : Type 0 where

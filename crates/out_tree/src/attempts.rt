@@ -22,7 +22,7 @@ pub(crate) fn try_all<O: OutTree>(
     requires failed_room { vec_len failed.old + vec_len steps ≤ vec_capacity failed.old }
     ensures tried { Tried (map (λ p. p.step) steps.items) (as_map belief.old) (as_map belief.new)
         (O.contents device.old) (O.contents device.new) (O.calls device.old) (O.calls device.new)
-        (O.faults device.old) (O.faults device.new) failed.old.items failed.new.items }
+        (O.failures device.old) (O.failures device.new) failed.old.items failed.new.items }
     ensures room { room belief.old ≤ room belief.new + vec_len steps }
     ensures failed_room { vec_len failed.new + vec_capacity failed.old ≤ vec_len failed.old + vec_len steps + vec_capacity failed.new }
     ensures idle { steps.items ≡ [] → device.new ≡ device.old }
@@ -41,9 +41,9 @@ fn try_step<O: OutTree>(belief: &mut PathMap<State>, device: &mut O, step: Step)
     ensures belief { as_map belief.new ≡ after_one (as_map belief.old) step result }
     ensures tells { Tells (O.contents device.old) (O.contents device.new) step result }
     ensures calls { Calls (O.calls device.old) (O.calls device.new) (call.Try step ∷ []) }
-    ensures later { O.faults device.old ≤ O.faults device.new }
-    ensures rose { result ≡ false → Rose (O.faults device.old) (O.faults device.new) }
-    ensures steady { result ≡ true → O.faults device.new ≡ O.faults device.old }
+    ensures later { O.failures device.old ≤ O.failures device.new }
+    ensures rose { result ≡ false → Rose (O.failures device.old) (O.failures device.new) }
+    ensures steady { result ≡ true → O.failures device.new ≡ O.failures device.old }
     ensures room { room belief.old ≤ room belief.new + 1 }
 {
     match step {

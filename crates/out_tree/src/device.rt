@@ -20,24 +20,24 @@ pub trait OutTree {
     ghost calls: { Self → Option (List Call) };
 
     /// How often it has failed.
-    ghost faults: { Self → ℕ };
+    ghost failures: { Self → ℕ };
 
     /// The paths of its files, each once. It changes nothing, and `Failed` is a failure of the output.
     fn list(&mut self, alloc: Global) -> Result<Vec<SitePath>, ListError>
         ensures lists { Lists (contents self.old) result }
         ensures same { contents self.new ≡ contents self.old }
         ensures calls { Calls (calls self.old) (calls self.new) (call.List ∷ []) }
-        ensures cause { HasCauseOf ListError.Failed (faults self.old) (faults self.new) result };
+        ensures cause { HasCauseOf ListError.Failed (failures self.old) (failures self.new) result };
 
     /// Gives the path these bytes. Where that fails, this one path may have any bytes, or be absent.
     fn write(&mut self, path: &SitePath, bytes: &[u8]) -> Result<(), Failed>
         ensures tells { Tells (contents self.old) (contents self.new) (Write path.now bytes.now) (is_ok result) }
         ensures calls { Calls (calls self.old) (calls self.new) (call.Try (Write path.now bytes.now) ∷ []) }
-        ensures cause { HasCause (faults self.old) (faults self.new) result };
+        ensures cause { HasCause (failures self.old) (failures self.new) result };
 
     /// Takes the path away, if it is there. Where that fails, this one path may have any bytes, or be absent.
     fn remove(&mut self, path: &SitePath) -> Result<(), Failed>
         ensures tells { Tells (contents self.old) (contents self.new) (Remove path.now) (is_ok result) }
         ensures calls { Calls (calls self.old) (calls self.new) (call.Try (Remove path.now) ∷ []) }
-        ensures cause { HasCause (faults self.old) (faults self.new) result };
+        ensures cause { HasCause (failures self.old) (failures self.new) result };
 }

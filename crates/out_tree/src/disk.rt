@@ -28,20 +28,20 @@ const MOST_PARTS: u32 = 1024;
 #[derive(Drop)]
 pub struct DiskOut<R: Files + AllocGlobal + Clone + Drop> {
     rt: R,
-    faults: u64,
+    failures: u64,
 }
 
 impl<R: Files + AllocGlobal + Clone + Drop> DiskOut<R> {
     pub fn new(rt: R) -> DiskOut<R> {
-        DiskOut { rt, faults: 0 }
+        DiskOut { rt, failures: 0 }
     }
 
     // Counts a failure.
-    fn fault(&mut self)
-        ensures later { self.old.faults ≤ self.new.faults }
-        ensures rose { Rose self.old.faults self.new.faults }
+    fn fail(&mut self)
+        ensures later { self.old.failures ≤ self.new.failures }
+        ensures rose { Rose self.old.failures self.new.failures }
     {
-        self.faults = self.faults.saturating_add(1);
+        self.failures = self.failures.saturating_add(1);
     }
 }
 
@@ -50,7 +50,7 @@ impl<R: Files + AllocGlobal + Clone + Drop> OutTree for DiskOut<R> {
 
     ghost calls = { λ out. None };
 
-    ghost faults = { λ out. out.faults };
+    ghost failures = { λ out. out.failures };
 
     fn list(&mut self, alloc: Global) -> Result<Vec<SitePath>, ListError> {
         let found = match list_folder(&self.rt, alloc, DESTINATION, EVERYTHING) {
@@ -58,7 +58,7 @@ impl<R: Files + AllocGlobal + Clone + Drop> OutTree for DiskOut<R> {
             Ok(None) => PathMap::new(alloc),
             Err(ListError::Memory) => return Err(ListError::Memory),
             Err(ListError::Failed) => {
-                self.fault();
+                self.fail();
                 return Err(ListError::Failed);
             }
         };
@@ -70,7 +70,7 @@ impl<R: Files + AllocGlobal + Clone + Drop> OutTree for DiskOut<R> {
 
     fn write(&mut self, path: &SitePath, bytes: &[u8]) -> Result<(), Failed> {
         if write_file(&self.rt, path.text(), bytes).is_err() {
-            self.fault();
+            self.fail();
             return Err(Failed);
         }
         Ok(())
@@ -78,7 +78,7 @@ impl<R: Files + AllocGlobal + Clone + Drop> OutTree for DiskOut<R> {
 
     fn remove(&mut self, path: &SitePath) -> Result<(), Failed> {
         if remove_file(&self.rt, path.text()).is_err() {
-            self.fault();
+            self.fail();
             return Err(Failed);
         }
         Ok(())
@@ -300,7 +300,7 @@ mod tests {
                 "at {path} {text}"
             );
         }
-        assert_eq!(rt; out.faults, 4);
+        assert_eq!(rt; out.failures, 4);
         Ok(())
     }
 }

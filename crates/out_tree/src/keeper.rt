@@ -83,7 +83,7 @@ impl OutKeeper {
         ensures calls { self.old ≡ None
             → Calls (O.calls device.old) (O.calls device.new) (call.List ∷ []) }
         ensures cause { HasCauseOf ListError.Failed
-            (O.faults device.old) (O.faults device.new) result }
+            (O.failures device.old) (O.failures device.new) result }
     {
         if self.belief.is_some() {
             return Ok(());
@@ -137,9 +137,9 @@ impl OutKeeper {
         ensures calls { OnOk result (CallsFor (planned (believed self.old) tree.now keep.now)
             (O.calls device.old) (O.calls device.new)) }
         ensures cause { IfOk result (λ applied.
-            RoseBy (length applied.failed) (O.faults device.old) (O.faults device.new)) }
-        ensures later { O.faults device.old ≤ O.faults device.new }
-        ensures steady { IfOk result (λ applied. applied.failed ≡ [] → O.faults device.new ≡ O.faults device.old) }
+            RoseBy (length applied.failed) (O.failures device.old) (O.failures device.new)) }
+        ensures later { O.failures device.old ≤ O.failures device.new }
+        ensures steady { IfOk result (λ applied. applied.failed ≡ [] → O.failures device.new ≡ O.failures device.old) }
         ensures idle { planned (believed self.old) tree.now keep.now ≡ [] → device.new ≡ device.old }
 
         // Where the belief was true of the output, it is now exactly the tree, but for the paths that failed.
@@ -169,9 +169,9 @@ impl OutKeeper {
             (believed self.old) (believed self.new) (O.contents device.old)
             (O.contents device.new) }
         ensures calls { CallsFor (steps_of plan) (O.calls device.old) (O.calls device.new) }
-        ensures cause { RoseBy (length result.failed) (O.faults device.old) (O.faults device.new) }
-        ensures later { O.faults device.old ≤ O.faults device.new }
-        ensures steady { result.failed ≡ [] → O.faults device.new ≡ O.faults device.old }
+        ensures cause { RoseBy (length result.failed) (O.failures device.old) (O.failures device.new) }
+        ensures later { O.failures device.old ≤ O.failures device.new }
+        ensures steady { result.failed ≡ [] → O.failures device.new ≡ O.failures device.old }
         ensures idle { steps_of plan ≡ [] → device.new ≡ device.old }
     {
         let Plan {

@@ -26,7 +26,7 @@ pub struct MemoryOut {
     told: Option<Vec<Call>>,
     fail: Vec<u64>,
     calls: u64,
-    faults: u64,
+    failures: u64,
     short: u64,
 }
 
@@ -47,7 +47,7 @@ impl Model for MemoryOut {
       told = option_map (λ calls. calls.items) out.told;
       fail = out.fail.items;
       calls = out.calls;
-      faults = out.faults;
+      failures = out.failures;
       short = out.short;
     } };
 
@@ -59,7 +59,7 @@ impl MemoryOut {
     pub fn new(alloc: Global, files: Vec<(SitePath, Vec<u8>)>, fail: Vec<u64>) -> MemoryOut
         requires differ { AllDiffer (paths_of files.items) }
         requires clash_free { ClashFree (paths_of files.items) }
-        ensures { result ≡ record { files = plain_files (finmap.from_entries files.items); told = Some []; fail = fail.items; calls = 0; faults = 0; short = 0 } }
+        ensures { result ≡ record { files = plain_files (finmap.from_entries files.items); told = Some []; fail = fail.items; calls = 0; failures = 0; short = 0 } }
     {
         MemoryOut {
             alloc,
@@ -67,7 +67,7 @@ impl MemoryOut {
             told: Some(Vec::new(alloc)),
             fail,
             calls: 0,
-            faults: 0,
+            failures: 0,
             short: 0,
         }
     }
@@ -113,7 +113,7 @@ impl MemoryOut {
     fn begins(&mut self, call: Result<Call, Memory>) -> bool
         ensures files { self.new.files ≡ self.old.files }
         ensures fail { self.new.fail ≡ self.old.fail }
-        ensures faults { self.new.faults ≡ self.old.faults }
+        ensures failures { self.new.failures ≡ self.old.failures }
         ensures short { self.new.short ≡ self.old.short }
         ensures calls { self.new.calls ≡ next self.old.calls }
         ensures told { MatchResult call (λ made. Calls self.old.told self.new.told (made ∷ [])) (λ _. self.new.told ≡ None) }
@@ -125,11 +125,11 @@ impl MemoryOut {
     }
 
     // Counts a failure.
-    fn fault(&mut self)
-        ensures counted { self.new ≡ record self.old { faults = next self.old.faults } }
-        ensures later { self.old.faults ≤ self.new.faults }
+    fn fail(&mut self)
+        ensures counted { self.new ≡ record self.old { failures = next self.old.failures } }
+        ensures later { self.old.failures ≤ self.new.failures }
     {
-        self.faults = self.faults.saturating_add(1);
+        self.failures = self.failures.saturating_add(1);
     }
 
     // Counts a want of memory.
@@ -171,20 +171,20 @@ impl OutTree for MemoryOut {
 
     ghost calls = { λ out. out.told };
 
-    ghost faults = { λ out. out.faults };
+    ghost failures = { λ out. out.failures };
 
     fn list(&mut self, alloc: Global) -> Result<Vec<SitePath>, ListError>
         ensures lists { Lists (Some self.old.files) result }
         ensures same { Some self.new.files ≡ Some self.old.files }
         ensures calls { Calls self.old.told self.new.told (call.List ∷ []) }
-        ensures cause { HasCauseOf ListError.Failed self.old.faults self.new.faults result }
+        ensures cause { HasCauseOf ListError.Failed self.old.failures self.new.failures result }
         // It fails exactly at the listed calls.
         ensures listed { IsErrOf result ListError.Failed ↔ IsTrue (is_listed_call self.old) }
         ensures counts { Counts self.old self.new call.List (not (is_listed_call self.old)) }
         ensures short { self.new.short ≡ self.old.short }
     {
         if self.begins(Ok(Call::List)) {
-            self.fault();
+            self.fail();
             return Err(ListError::Failed);
         }
         let paths = self.files.paths(alloc)?;
@@ -194,20 +194,20 @@ impl OutTree for MemoryOut {
     fn write(&mut self, path: &SitePath, bytes: &[u8]) -> Result<(), Failed>
         ensures tells { Tells (Some self.old.files) (Some self.new.files) (Write path.now bytes.now) (is_ok result) }
         ensures calls { Calls self.old.told self.new.told (call.Try (Write path.now bytes.now) ∷ []) }
-        ensures cause { HasCause self.old.faults self.new.faults result }
+        ensures cause { HasCause self.old.failures self.new.failures result }
         // It fails at the listed calls and where the path stands in the way, and besides only for want of memory.
         ensures tries { Tries self.old self.new (Write path.now bytes.now) (is_ok result) }
     {
         let call = write_call(self.alloc, path, bytes);
         if self.begins(call) || self.stands_in_way(path) {
-            self.fault();
+            self.fail();
             return Err(Failed);
         }
         match self.store(path, bytes) {
             Ok(()) => Ok(()),
             Err(Memory) => {
                 self.fall_short();
-                self.fault();
+                self.fail();
                 Err(Failed)
             }
         }
@@ -216,14 +216,14 @@ impl OutTree for MemoryOut {
     fn remove(&mut self, path: &SitePath) -> Result<(), Failed>
         ensures tells { Tells (Some self.old.files) (Some self.new.files) (Remove path.now) (is_ok result) }
         ensures calls { Calls self.old.told self.new.told (call.Try (Remove path.now) ∷ []) }
-        ensures cause { HasCause self.old.faults self.new.faults result }
+        ensures cause { HasCause self.old.failures self.new.failures result }
         ensures tries { Tries self.old self.new (Remove path.now) (is_ok result) }
         // It fails exactly at the listed calls.
         ensures listed { is_ok result ≡ not (is_listed_call self.old) }
     {
         let call = remove_call(self.alloc, path);
         if self.begins(call) {
-            self.fault();
+            self.fail();
             return Err(Failed);
         }
         self.take(path);

@@ -4,6 +4,7 @@ ghost use Rattle.std.specs.FinMap as finmap;
 ghost use Rattle.site_base.specs.PathMap.{as_map};
 ghost use Rattle.out_tree.specs.Plan.{plan_of, removals, writes, is_known_as, is_surplus};
 
+use crate::keep::is_kept;
 use crate::plan::{Planned, push_step};
 use crate::{KeepList, Plan, State, Step, Tree};
 use site_base::{Memory, PathMap, SharedBytes, SitePath};
@@ -85,7 +86,7 @@ fn all_writes(alloc: Global, belief: &PathMap<State>, tree: &Tree) -> Result<Vec
 fn is_surplus(tree: &Tree, keep: &KeepList, path: &SitePath) -> bool
     ensures { result ≡ is_surplus tree.now keep.now path.now }
 {
-    tree.get(path).is_none() && !keep.keeps(path)
+    tree.get(path).is_none() && !is_kept(keep, path)
 }
 
 // Whether the path is believed to have these bytes.

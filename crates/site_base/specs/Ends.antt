@@ -1,26 +1,26 @@
 -- When an end outside the program may fail, and what byte ends tell of their bytes.
 use Rattle.std.specs.Prelude.{◌≡◌, ◌⊎◌, ◌≤◌, ◌+◌, ◌-◌, ◌^◌, min, ℕ, List, ◌++◌, take, Result, Option, Some, OnErr, OnOk, IfOk, IfErr, drop, length, [], ◌<◌, Contains, IsErr, IsErrOf}
 
--- a sink in memory: the bytes taken, the calls at which it fails, and counts of calls, of faults and of wants of memory
+-- a sink in memory: the bytes taken, the calls at which it fails, and counts of calls, of failures and of wants of memory
 pub record SinkState : Type 0 where
   pub taken : List ℕ
   pub fail : List ℕ
   pub calls : ℕ
-  pub faults : ℕ
+  pub failures : ℕ
   pub short : ℕ
 
--- an input in memory: the bytes left, the calls at which it fails, and counts of calls and of faults
+-- an input in memory: the bytes left, the calls at which it fails, and counts of calls and of failures
 pub record InputState : Type 0 where
   pub left : List ℕ
   pub fail : List ℕ
   pub calls : ℕ
-  pub faults : ℕ
+  pub failures : ℕ
 
--- a u64 count of faults rose, or stands at its last value
+-- a u64 count of failures rose, or stands at its last value
 abbrev pub Rose : ℕ → ℕ → Type 0
 Rose before now = min (before + 1) (2 ^ 64 - 1) ≤ now
 
--- a count of faults rises where the call fails, and stays where it does not
+-- a count of failures rises where the call fails, and stays where it does not
 pub record HasCause {T E : Type 0} (before now : ℕ) (result : Result T E) : Type 0 where
   pub later : before ≤ now
   pub failed : OnErr result (Rose before now)
@@ -37,7 +37,7 @@ pub record FailsAsListed {T E : Type 0} (fail : List ℕ) (call short_before sho
   pub besides : OnErr result (Contains fail call ⊎ (short_now ≡ min (short_before + 1) (2 ^ 64 - 1)))
   pub same : OnOk result (short_now ≡ short_before)
 
--- a count of faults rises where this error is answered, and stays at every other answer
+-- a count of failures rises where this error is answered, and stays at every other answer
 pub record HasCauseOf {T E : Type 0} (error : E) (before now : ℕ) (result : Result T E) : Type 0 where
   pub later : before ≤ now
   pub failed : IsErrOf result error → Rose before now

@@ -1,3 +1,4 @@
+pub mod Chains
 pub mod Clash
 pub mod Code
 pub mod Decimal
@@ -6,6 +7,7 @@ pub mod Faults
 pub mod Fingerprints
 pub mod Flat
 pub mod Fronts
+pub mod Limits
 pub mod Lines
 pub mod Listing
 pub mod Path

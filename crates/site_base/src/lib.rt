@@ -8,16 +8,17 @@ mod errors;
 mod faults;
 mod folder;
 mod item_name;
+mod limits;
 mod path;
-mod path_list;
 mod path_map;
+mod sequence;
 mod settings;
 mod shared;
 mod sink;
 mod source;
 mod text;
+mod text_list;
 mod value;
-mod words;
 
 pub use boxed::Boxed;
 pub use bytes::FileBytes;
@@ -25,19 +26,26 @@ pub use errors::{Failed, ListError, Memory, ReadError};
 pub use faults::{FaultKind, SiteFault, YamlKind};
 pub use folder::{Skips, list_folder};
 pub use item_name::ItemName;
+pub use limits::{LAST_MOMENT, MOST_BYTES};
 pub use path::{PathError, SitePath};
-pub use path_list::PathList;
 pub use path_map::PathMap;
+pub use sequence::Sequence;
 pub use settings::Settings;
 pub use shared::SharedBytes;
 pub use sink::{ByteSink, MemorySink};
 pub use source::{ByteSource, MemoryInput};
 pub use text::Text;
+pub use text_list::TextList;
 pub use value::{
     GrowingHash, Hash, List, Pair, Unlike, Value, code, compare, copy, equals, is_true, same_code,
     value_text,
 };
-pub use words::Words;
+
+/// Paths in an order.
+pub type PathList = Sequence<SitePath>;
+
+/// The words of a command line, without the program's name.
+pub type Words = TextList;
 
 #[cfg(test)]
 mod tests;

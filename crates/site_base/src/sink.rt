@@ -12,12 +12,12 @@ pub trait ByteSink {
     ghost taken: { Self → Option (List ℕ) };
 
     /// How often it has failed.
-    ghost faults: { Self → ℕ };
+    ghost failures: { Self → ℕ };
 
     /// Takes all bytes, or fails having taken a front part of them.
     fn write(&mut self, bytes: &[u8]) -> Result<(), Failed>
         ensures taken { Takes (taken self.old) (taken self.new) bytes.now result }
-        ensures cause { HasCause (faults self.old) (faults self.new) result };
+        ensures cause { HasCause (failures self.old) (failures self.new) result };
 }
 
 /// A sink in memory, which fails at listed calls.
@@ -26,7 +26,7 @@ pub struct MemorySink {
     bytes: Vec<u8>,
     fail: Vec<u64>,
     calls: u64,
-    faults: u64,
+    failures: u64,
     short: u64,
 }
 
@@ -39,7 +39,7 @@ impl Model for MemorySink {
       taken = sink.bytes.items;
       fail = sink.fail.items;
       calls = sink.calls;
-      faults = sink.faults;
+      failures = sink.failures;
       short = sink.short;
     } };
 }
@@ -47,13 +47,13 @@ impl Model for MemorySink {
 impl MemorySink {
     /// A sink that has taken nothing, and fails at the calls of these numbers, counted from 1.
     pub fn new(alloc: Global, fail: Vec<u64>) -> MemorySink
-        ensures { result ≡ record { taken = []; fail = fail.items; calls = 0; faults = 0; short = 0 } }
+        ensures { result ≡ record { taken = []; fail = fail.items; calls = 0; failures = 0; short = 0 } }
     {
         MemorySink {
             bytes: Vec::new(alloc),
             fail,
             calls: 0,
-            faults: 0,
+            failures: 0,
             short: 0,
         }
     }
@@ -76,11 +76,11 @@ impl MemorySink {
 impl ByteSink for MemorySink {
     ghost taken = { λ sink. Some sink.taken };
 
-    ghost faults = { λ sink. sink.faults };
+    ghost failures = { λ sink. sink.failures };
 
     fn write(&mut self, bytes: &[u8]) -> Result<(), Failed>
         ensures taken { Takes (Some self.old.taken) (Some self.new.taken) bytes.now result }
-        ensures cause { HasCause self.old.faults self.new.faults result }
+        ensures cause { HasCause self.old.failures self.new.failures result }
         // It fails at the listed calls, and besides only where memory is wanting.
         ensures listed { FailsAsListed self.old.fail (min (self.old.calls + 1) (2 ^ 64 - 1))
             self.old.short self.new.short result }
@@ -89,12 +89,12 @@ impl ByteSink for MemorySink {
     {
         self.calls = self.calls.saturating_add(1);
         if self.fail.contains(&self.calls) {
-            self.faults = self.faults.saturating_add(1);
+            self.failures = self.failures.saturating_add(1);
             return Err(Failed);
         }
         if self.bytes.extend_from_slice(bytes).is_err() {
             self.short = self.short.saturating_add(1);
-            self.faults = self.faults.saturating_add(1);
+            self.failures = self.failures.saturating_add(1);
             return Err(Failed);
         }
         Ok(())

@@ -11,7 +11,7 @@ pub trait ByteSource {
     ghost left: { Self → Option (List ℕ) };
 
     /// How often it has failed.
-    ghost faults: { Self → ℕ };
+    ghost failures: { Self → ℕ };
 
     /// Moves the next bytes into the front of a slice and answers how many; 0 for a slice that is not empty is
     /// the end.
@@ -20,7 +20,7 @@ pub trait ByteSource {
         ensures gives { Gives (left self.old) (left self.new) into.new result }
         // Where it fails, no byte is lost.
         ensures kept { OnErr result (left self.new ≡ left self.old) }
-        ensures cause { HasCause (faults self.old) (faults self.new) result };
+        ensures cause { HasCause (failures self.old) (failures self.new) result };
 }
 
 /// An input in memory, which fails at listed calls.
@@ -30,7 +30,7 @@ pub struct MemoryInput {
     place: usize,
     fail: Vec<u64>,
     calls: u64,
-    faults: u64,
+    failures: u64,
 }
 
 impl Model for MemoryInput {
@@ -43,7 +43,7 @@ impl Model for MemoryInput {
       left = drop input.place input.bytes.items;
       fail = input.fail.items;
       calls = input.calls;
-      faults = input.faults;
+      failures = input.failures;
     } };
 
     ghost invariant = { λ input. input.place ≤ vec_len input.bytes };
@@ -52,14 +52,14 @@ impl Model for MemoryInput {
 impl MemoryInput {
     /// An input of these bytes, which fails at the calls of these numbers, counted from 1.
     pub fn new(bytes: Vec<u8>, fail: Vec<u64>) -> MemoryInput
-        ensures { result ≡ record { left = bytes.items; fail = fail.items; calls = 0; faults = 0 } }
+        ensures { result ≡ record { left = bytes.items; fail = fail.items; calls = 0; failures = 0 } }
     {
         MemoryInput {
             bytes,
             place: 0,
             fail,
             calls: 0,
-            faults: 0,
+            failures: 0,
         }
     }
 
@@ -74,20 +74,20 @@ impl MemoryInput {
 impl ByteSource for MemoryInput {
     ghost left = { λ input. Some input.left };
 
-    ghost faults = { λ input. input.faults };
+    ghost failures = { λ input. input.failures };
 
     fn read(&mut self, into: &mut [u8]) -> Result<usize, Failed>
         ensures bound { IfOk result (λ count. count ≤ length into.new) }
         ensures gives { Gives (Some self.old.left) (Some self.new.left) into.new result }
         ensures kept { OnErr result (Some self.new.left ≡ Some self.old.left) }
-        ensures cause { HasCause self.old.faults self.new.faults result }
+        ensures cause { HasCause self.old.failures self.new.failures result }
         ensures listed { IsErr result ↔ Contains self.old.fail (min (self.old.calls + 1) (2 ^ 64 - 1)) }
         ensures calls { self.new.calls ≡ min (self.old.calls + 1) (2 ^ 64 - 1) }
         ensures fail { self.new.fail ≡ self.old.fail }
     {
         self.calls = self.calls.saturating_add(1);
         if self.fail.contains(&self.calls) {
-            self.faults = self.faults.saturating_add(1);
+            self.failures = self.failures.saturating_add(1);
             return Err(Failed);
         }
         let rest = &self.bytes[self.place..];

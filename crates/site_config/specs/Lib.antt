@@ -1,7 +1,6 @@
 pub mod Answers
 pub mod Config
 pub mod Forms
-pub mod Lists
 pub mod Parts
 pub mod Table
 pub mod Texts

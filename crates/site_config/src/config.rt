@@ -1,8 +1,6 @@
 // What a configuration says.
-use crate::collections::Collections;
-use crate::names::Names;
-use crate::scopes::Scopes;
-use site_base::{Hash, Text};
+use crate::{Collection, Scope};
+use site_base::{Hash, Sequence, Text, TextList};
 
 /// A site's configuration: a field for each key that has a meaning, with its default where the key is absent or
 /// nil.
@@ -17,15 +15,15 @@ pub struct Config {
     /// The extensions of Markdown, between commas: `markdown,mkdown,mkdn,mkd,md` by default.
     pub markdown_ext: Text,
     /// Paths that are taken though hidden: `.htaccess` by default.
-    pub include: Names,
+    pub include: TextList,
     /// Paths that are left out, behind those that always are.
-    pub exclude: Names,
+    pub exclude: TextList,
     /// Paths of the output that are not removed: `.git` and `.svn` by default.
-    pub keep_files: Names,
+    pub keep_files: TextList,
     /// The collections, `posts` first, each name once.
-    pub collections: Collections,
+    pub collections: Sequence<Collection>,
     /// Values for items, by their path and type; none by default.
-    pub defaults: Scopes,
+    pub defaults: Sequence<Scope>,
     /// Posts on a page, at least 1; off by default.
     pub paginate: Option<u64>,
     /// A path that holds `:num`; `/page:num` by default.

@@ -21,12 +21,9 @@ mod value_error;
 mod values;
 
 pub use collection::Collection;
-pub use collections::Collections;
 pub use config::Config;
 pub use config_error::ConfigError;
-pub use names::Names;
 pub use scope::Scope;
-pub use scopes::Scopes;
 pub use texts::read_config;
 pub use value_error::ValueError;
 pub use values::config_of;

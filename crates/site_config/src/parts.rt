@@ -3,12 +3,12 @@ ghost use Rattle.std.specs.Prelude.{◌≡◌, IfOk};
 ghost use Rattle.site_config.specs.Forms.{given};
 ghost use Rattle.site_config.specs.Parts.{addresses, choices, documents, breaks};
 
-use crate::collections::Collections;
-use crate::names::Names;
+use crate::collections::read_collections;
 use crate::reading::{INCLUDED, KEPT, excluded, text_or, texts_or};
-use crate::scopes::Scopes;
+use crate::scopes::read_scopes;
 use crate::settings::setting;
-use site_base::{Memory, Text, Value};
+use crate::{Collection, Scope};
+use site_base::{Memory, Sequence, Text, TextList, Value};
 use std::alloc::Global;
 
 /// What URLs are made of, and whose pages are Markdown.
@@ -23,16 +23,16 @@ pub(crate) struct Addresses {
 /// Which files are taken, and which outputs stay.
 #[derive(Drop)]
 pub(crate) struct Choices {
-    pub include: Names,
-    pub exclude: Names,
-    pub keep_files: Names,
+    pub include: TextList,
+    pub exclude: TextList,
+    pub keep_files: TextList,
 }
 
 /// The collections, and values for items.
 #[derive(Drop)]
 pub(crate) struct Documents {
-    pub collections: Collections,
-    pub defaults: Scopes,
+    pub collections: Sequence<Collection>,
+    pub defaults: Sequence<Scope>,
 }
 
 /// Where posts are broken off.
@@ -73,8 +73,8 @@ impl Documents {
         ensures { IfOk result (λ made. made ≡ documents (given all.entry)) }
     {
         Ok(Documents {
-            collections: Collections::read(alloc, setting("collections", all))?,
-            defaults: Scopes::read(alloc, setting("defaults", all))?,
+            collections: read_collections(alloc, setting("collections", all))?,
+            defaults: read_scopes(alloc, setting("defaults", all))?,
         })
     }
 }

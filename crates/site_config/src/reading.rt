@@ -6,10 +6,10 @@ ghost use Rattle.site_config.specs.Forms.{given};
 ghost use Rattle.site_config.specs.Config.{config, text_or, optional_text, texts_or, flag, count_of, offset_of, pairs_in, excluded};
 
 use crate::config::Config;
-use crate::names::Names;
+use crate::names::{names_of, with_texts};
 use crate::parts::{Addresses, Breaks, Choices, Documents};
 use crate::settings::setting;
-use site_base::{Hash, Memory, Text, Value};
+use site_base::{Hash, Memory, Text, TextList, Value};
 use site_dates::read_offset;
 use std::alloc::Global;
 
@@ -84,22 +84,22 @@ pub(crate) fn texts_or(
     alloc: Global,
     others: &[&str],
     value: Option<&Value>,
-) -> Result<Names, Memory>
+) -> Result<TextList, Memory>
     ensures { IfOk result (λ names. names ≡ texts_or (map (λ t. t.now) others.now) (given value.entry)) }
 {
     match value {
-        Some(Value::List(list)) => Names::new(alloc).with_texts(alloc, list),
-        _ => Names::of(alloc, others),
+        Some(Value::List(list)) => with_texts(alloc, TextList::new(alloc), list),
+        _ => names_of(alloc, others),
     }
 }
 
 // Paths that never are source files, and those that are given.
-pub(crate) fn excluded(alloc: Global, value: Option<&Value>) -> Result<Names, Memory>
+pub(crate) fn excluded(alloc: Global, value: Option<&Value>) -> Result<TextList, Memory>
     ensures { IfOk result (λ names. names ≡ excluded ++ texts_or [] (given value.entry)) }
 {
-    let names = Names::of(alloc, &EXCLUDED)?;
+    let names = names_of(alloc, &EXCLUDED)?;
     match value {
-        Some(Value::List(list)) => names.with_texts(alloc, list),
+        Some(Value::List(list)) => with_texts(alloc, names, list),
         _ => Ok(names),
     }
 }

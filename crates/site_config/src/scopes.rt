@@ -1,61 +1,29 @@
 // Values that a configuration gives to items by their path and type.
 ghost use Rattle.std.specs.Prelude.{◌≡◌, ◌++◌, IfOk};
 ghost use Rattle.site_base.specs.Plain.{list};
+ghost use Rattle.site_config.specs.Config.{scopes_of};
 ghost use Rattle.site_config.specs.Forms.{given};
 
 use crate::scope::Scope;
-use site_base::{List, Memory, Value};
+use site_base::{List, Memory, Sequence, Value};
 use std::alloc::Global;
-use std::marker::Model;
 
-/// Scopes in their order.
-#[derive(Drop)]
-pub struct Scopes {
-    list: Vec<Scope>,
+/// The scopes of a list, in their order; none where there is no list.
+pub(crate) fn read_scopes(alloc: Global, value: Option<&Value>) -> Result<Sequence<Scope>, Memory>
+    ensures { IfOk result (λ made. made ≡ scopes_of (given value.entry)) }
+{
+    match value {
+        Some(Value::List(values)) => scopes_in(alloc, values),
+        _ => Ok(Sequence::new(alloc)),
+    }
 }
 
-impl Model for Scopes {
-    ghost use Rattle.std.specs.Prelude.{List};
-    ghost use Rattle.site_config.specs.declared.scope.Scope.{Scope};
-
-    ghost Value = { List Scope };
-
-    ghost use Rattle.site_config.specs.Lists.{scope_list_code};
-
-    ghost coded = { scope_list_code };
-
-    ghost view = { λ scopes. scopes.list.items };
-}
-
-impl Scopes {
-    ghost use Rattle.site_config.specs.Config.{scopes_of};
-
-    /// The scopes of a list.
-    pub(crate) fn read(alloc: Global, value: Option<&Value>) -> Result<Scopes, Memory>
-        ensures { IfOk result (λ made. made ≡ scopes_of (given value.entry)) }
-    {
-        let scopes = Scopes {
-            list: Vec::new(alloc),
-        };
-        match value {
-            Some(Value::List(values)) => scopes.with_scopes(alloc, values),
-            _ => Ok(scopes),
-        }
+fn scopes_in(alloc: Global, values: &List) -> Result<Sequence<Scope>, Memory>
+    ensures { IfOk result (λ made. made ≡ scopes_of (list values.now)) }
+{
+    let mut scopes = Sequence::new(alloc);
+    for value in values.as_slice() {
+        scopes.push(Scope::read(alloc, value)?)?;
     }
-
-    fn with_scopes(mut self, alloc: Global, values: &List) -> Result<Scopes, Memory>
-        ensures { IfOk result (λ made. made ≡ self ++ scopes_of (list values.now)) }
-    {
-        for value in values.as_slice() {
-            self.list.push(Scope::read(alloc, value)?)?;
-        }
-        Ok(self)
-    }
-
-    /// The scopes in their order.
-    pub fn as_slice(&self) -> &[Scope]
-        ensures { result.now ≡ self.now }
-    {
-        self.list.as_slice()
-    }
+    Ok(scopes)
 }

@@ -1,7 +1,7 @@
 // Configurations of rows of texts and values. The values are written in YAML.
-use crate::{Config, ConfigError, Names, ValueError, config_of, read_config};
+use crate::{Config, ConfigError, ValueError, config_of, read_config};
 use front_yaml::{YamlFault, read_yaml};
-use site_base::{Text, Value, YamlKind};
+use site_base::{Text, TextList, Value, YamlKind};
 use std::alloc::Global;
 
 fn made(alloc: Global, yaml: &str) -> Option<Config> {
@@ -32,7 +32,7 @@ fn is_refused(alloc: Global, yaml: &str, want: &str) -> bool {
 }
 
 // Whether there are so many names, and the last of them is this one.
-fn end_in(names: &Names, len: u64, last: &str) -> bool {
+fn end_in(names: &len: u64, last: &str) -> bool {
     if len == 0 || names.len() != len {
         return false;
     }

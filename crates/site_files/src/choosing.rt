@@ -7,7 +7,7 @@ ghost use Rattle.site_base.specs.Path.{segments};
 ghost use Rattle.site_files.specs.Choosing.{brings_in, covers, is_brought_in, is_hidden, is_taken_out, names_segment, takes_out, without_slash};
 ghost use Rattle.site_files.specs.Names.{is_slash};
 
-use site_config::Names;
+use site_base::TextList;
 
 /// Whether a segment of a path is hidden: it starts with `_`, `.`, `#` or `~`, or ends with `~`.
 pub fn is_hidden(segment: &[u8]) -> bool
@@ -18,7 +18,7 @@ pub fn is_hidden(segment: &[u8]) -> bool
 
 /// Whether an entry of `include` brings the path in: it is the path or a folder of it, or, where it has no `/`, one of the
 /// path's segments.
-pub fn is_brought_in(include: &Names, path: &[u8]) -> bool
+pub fn is_brought_in(include: &TextList, path: &[u8]) -> bool
     ensures { result ≡ is_brought_in include.now path.now }
 {
     include
@@ -28,7 +28,7 @@ pub fn is_brought_in(include: &Names, path: &[u8]) -> bool
 }
 
 /// Whether an entry of `exclude` takes the path out: it is the path or a folder of it, one `/` at the entry's end aside.
-pub fn is_taken_out(exclude: &Names, path: &[u8]) -> bool
+pub fn is_taken_out(exclude: &TextList, path: &[u8]) -> bool
     ensures { result ≡ is_taken_out exclude.now path.now }
 {
     exclude

@@ -1,6 +1,7 @@
 -- What files are that are no items: layouts, includes, and files that are copied. After Jekyll 4's manual, "Directory Structure".
 use Rattle.std.specs.Prelude.{ℕ, List, ◌∷◌, codes, Option, Some, None, is_some, Ok, Err, if◌then◌else◌}
 use Rattle.std.specs.Str.{is_utf8}
+use Rattle.site_base.specs.Chains.{◌>>=◌}
 use Rattle.site_base.specs.Path.{path_refusal}
 use Rattle.site_base.specs.Plain.{Pairs}
 use Rattle.site_base.specs.declared.faults.FaultKind.TheVariants as fault
@@ -8,7 +9,7 @@ use Rattle.site_base.specs.declared.value.Value.TheVariants as value
 use Rattle.site_config.specs.declared.config.Config.{Config}
 use Rattle.site_items.specs.Addresses.{behind, has_output, without_extension}
 use Rattle.site_items.specs.Matter.{body, own_variables}
-use Rattle.site_items.specs.Outcomes.{Outcome, ◌>>=◌}
+use Rattle.site_items.specs.Outcomes.{Outcome}
 use Rattle.site_items.specs.declared.include_file.IncludeFile.{IncludeFile}
 use Rattle.site_items.specs.declared.kind.Kind.{Kind}
 use Rattle.site_items.specs.declared.kind.Kind.TheVariants as kind

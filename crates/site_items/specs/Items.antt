@@ -3,6 +3,7 @@ use Rattle.std.specs.Prelude.{ℕ, ◌-◌, nat_lt, nat_eq, ℤ, Bool, true, fal
 use Rattle.std.specs.List.{after_last, ends_with}
 use Rattle.std.specs.Option.{option_or}
 use Rattle.std.specs.Str.{is_utf8}
+use Rattle.site_base.specs.Chains.{◌>>=◌}
 use Rattle.site_base.specs.Path.{segments}
 use Rattle.site_base.specs.Plain.{Plain, nil, bool, text, list, Pairs, no_pairs, set, key_list}
 use Rattle.site_base.specs.Values.{value_text}
@@ -17,7 +18,7 @@ use Rattle.site_items.specs.Defaults.{variable, variables}
 use Rattle.site_items.specs.Extensions.{output_ext}
 use Rattle.site_items.specs.Labels.{add_name, names_of_many, names_of_one, text_items}
 use Rattle.site_items.specs.Matter.{body, own_variables}
-use Rattle.site_items.specs.Outcomes.{Outcome, ◌>>=◌}
+use Rattle.site_items.specs.Outcomes.{Outcome}
 use Rattle.site_items.specs.Titles.{title}
 use Rattle.site_items.specs.declared.item.Item.{Item}
 use Rattle.site_items.specs.declared.kind.Kind.{Kind}

@@ -11,12 +11,6 @@ Fault = ℕ × FaultKind
 abbrev pub Outcome : Type 0 → Type 0
 Outcome A = Result A Fault
 
--- what is found first, and where it is no fault what is found then
-infixl 10 ◌>>=◌
-abbrev pub ◌>>=◌ : {A B : Type 0} → Outcome A → (A → Outcome B) → Outcome B
-(Ok x) >>= f = f x
-(Err e) >>= f = Err e
-
 -- the fault that there is, unless memory ran out
 abbrev pub IsFault : {A : Type 0} → Outcome A → ItemError → Type 0
 IsFault found item_error.Memory = Unit {0}

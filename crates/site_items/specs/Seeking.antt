@@ -1,12 +1,13 @@
 -- An item whose address is sought: the parts of its reading, by what is known of it.
 use Rattle.std.specs.Prelude.{ℕ, ℤ, List, Option, codes, map}
+use Rattle.site_base.specs.Chains.{◌>>=◌}
 use Rattle.permalinks.specs.Url.{url}
 use Rattle.site_base.specs.Plain.{Pairs, key_list}
 use Rattle.site_files.specs.Names.{file_name, stem}
 use Rattle.site_items.specs.Addresses.{found_url, template}
 use Rattle.site_items.specs.Defaults.{variable}
 use Rattle.site_items.specs.Items.{categories, dated_item, item, item_at, item_with, kind_variables, placed, slug_of, text_item}
-use Rattle.site_items.specs.Outcomes.{Outcome, ◌>>=◌}
+use Rattle.site_items.specs.Outcomes.{Outcome}
 use Rattle.site_items.specs.Parts.{sought_parts}
 use Rattle.site_items.specs.declared.addresses.Sought.{Sought}
 use Rattle.site_items.specs.declared.item.Item.{Item}

@@ -17,6 +17,7 @@ mod layout_file;
 mod lookup;
 mod matter;
 mod names;
+mod placed_variables;
 mod static_file;
 mod templates;
 mod titles;

@@ -12,10 +12,10 @@ use Rattle.site_reader.specs.Found.{Found}
 use Rattle.site_session.specs.Full.{fault_of}
 use Rattle.site_session.specs.declared.output.Output.{Output}
 use Rattle.site_session.specs.Standing.{Standing}
-use Rattle.site_session.specs.Session.{Given, Event, Nothing, TheScan, TheList, TheSteps, event_of, full_now, scan, build, build_tree, build_reply, failed_in, output_faults, source_faults}
+use Rattle.site_session.specs.Session.{Given, Event, Nothing, TheScan, TheList, TheSteps, event_of, full_now, scan, build, build_tree, build_reply, failed_in, output_failures, source_failures}
 use Rattle.site_session.specs.Replies.{LeavesBy, Leaves, has_called_output}
 use Rattle.site_session.specs.declared.reply.Reply.{Reply}
-use Rattle.site_session.specs.declared.reply.Reply.TheVariants.{Scanned, ScanFault, Faulty, Fine, Absent, Built, Marked, Unlisted, BadLine, Silent}
+use Rattle.site_session.specs.declared.reply.Reply.TheVariants.{Scanned, ScanFailed, Faulty, Fine, Absent, Built, Marked, Unlisted, BadLine, Silent}
 use Rattle.site_session.specs.Bytes.{reply_bytes, written}
 use Rattle.site_program.specs.Once.{after_scan, site_fault, LeftBut, Ended, Replies, Took, Untouched, scanned}
 use Rattle.site_program.specs.declared.status.Status.{Status}
@@ -25,7 +25,7 @@ use Rattle.site_program.specs.Runs.{reply_status}
 
 pub data ScanCase (given : Given) (old : Standing) (reply : Reply) (new : Standing) : Type 0 where
   Counted : reply ≡ Scanned (len given.source) → scan_fault (entries given.source) ≡ None → new ≡ record old { files = given.source } → ScanCase given old reply new
-  Failed : reply ≡ ScanFault → ScanCase given old reply new
+  Failed : reply ≡ ScanFailed → ScanCase given old reply new
   Limited : (fault : SiteFault) → reply ≡ Faulty fault → scan_fault (entries given.source) ≡ Some fault → ScanCase given old reply new
 
 pub scan_case : (given : Given) (old : Standing) (reply : Reply) (new : Standing) → scan given old (scan_fault (entries given.source)) (event_of reply) ≡ (new, reply) → ScanCase given old reply new
@@ -34,7 +34,7 @@ scan_case given old reply new answers = by (scan_fault (entries given.source)) r
     by : (fault : Option SiteFault) (reply : Reply) → scan_fault (entries given.source) ≡ fault → scan given old fault (event_of reply) ≡ (new, reply) → ScanCase given old reply new
     by None (Scanned count) is e = Counted (sym (ap (λ (p : Standing × Reply). p.1) e)) is (sym (ap (λ (p : Standing × Reply). p.0) e))
     by (Some fault) (Scanned count) is e = let r : Faulty fault ≡ Scanned count = ap (λ (p : Standing × Reply). p.1) e in absurd (cc (r))
-    by fault ScanFault is e = Failed refl
+    by fault ScanFailed is e = Failed refl
     by None (Faulty other) is e = let r : Scanned (len given.source) ≡ Faulty other = ap (λ (p : Standing × Reply). p.1) e in absurd (cc (r))
     by (Some fault) (Faulty other) is e = let r : Faulty fault ≡ Faulty other = ap (λ (p : Standing × Reply). p.1) e in let same : fault ≡ other = cc in Limited other refl (is ∙ ap Some same)
     by None Fine is e = let r : Scanned (len given.source) ≡ Fine = ap (λ (p : Standing × Reply). p.1) e in absurd (cc (r))
@@ -138,7 +138,7 @@ one_written why before after reply bytes = bytes ∙ ap (λ (b : List ℕ). Some
 -- by the status that a reply gives
 pub untouched_quiet : (reply : Reply) → Untouched (reply_status reply) → has_called_output reply ≡ false
 untouched_quiet (Scanned count) u = refl
-untouched_quiet ScanFault u = refl
+untouched_quiet ScanFailed u = refl
 untouched_quiet (Faulty fault) u = refl
 untouched_quiet Fine u = refl
 untouched_quiet Absent u = refl
@@ -148,9 +148,9 @@ untouched_quiet Unlisted u = absurd u
 untouched_quiet (BadLine number kind) u = refl
 untouched_quiet Silent u = refl
 
-pub out_rose : (reply : Reply) (count : ℕ) → reply_status reply ≡ OutFault count → output_faults reply ≡ max count 1
+pub out_rose : (reply : Reply) (count : ℕ) → reply_status reply ≡ OutFault count → output_failures reply ≡ max count 1
 out_rose (Scanned n) count e = absurd (cc (e))
-out_rose ScanFault count e = absurd (cc (e))
+out_rose ScanFailed count e = absurd (cc (e))
 out_rose (Faulty fault) count e = absurd (cc (e))
 out_rose Fine count e = absurd (cc (e))
 out_rose Absent count e = absurd (cc (e))
@@ -160,9 +160,9 @@ out_rose Unlisted count e = let same : 0 ≡ count = cc in ap (λ (n : ℕ). max
 out_rose (BadLine number kind) count e = absurd (cc (e))
 out_rose Silent count e = absurd (cc (e))
 
-pub source_rose : (reply : Reply) → reply_status reply ≡ SourceFault → source_faults reply ≡ 1
+pub source_rose : (reply : Reply) → reply_status reply ≡ SourceFault → source_failures reply ≡ 1
 source_rose (Scanned n) e = absurd (cc (e))
-source_rose ScanFault e = refl
+source_rose ScanFailed e = refl
 source_rose (Faulty fault) e = absurd (cc (e))
 source_rose Fine e = absurd (cc (e))
 source_rose Absent e = absurd (cc (e))
@@ -196,7 +196,7 @@ two_tells given old mid last first reply count told told_then tells status is nu
     (subst (λ (t : Option Files). Tells given (after_scan given old) t tells (reply_status reply) (reply_bytes given.why first ++ reply_bytes given.why reply)) same (by (scan_case given old first mid scans)))
   where
     by : ScanCase given old first mid → Tells given (after_scan given old) told_then tells (reply_status reply) (reply_bytes given.why first ++ reply_bytes given.why reply)
-    by (Failed is_failed) = let e : ScanFault ≡ Scanned count = cc in absurd (cc (e))
+    by (Failed is_failed) = let e : ScanFailed ≡ Scanned count = cc in absurd (cc (e))
     by (Limited fault is_faulty some) = let e : Faulty fault ≡ Scanned count = cc in absurd (cc (e))
     by (Counted is_counted none new_is) =
         let none_yet : mid.belief ≡ None = ap (λ (s : Standing). s.belief) new_is ∙ unlisted in

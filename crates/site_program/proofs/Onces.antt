@@ -9,7 +9,7 @@ use Rattle.site_session.specs.Session.{Given, Answers, Run, event_of, step}
 use Rattle.site_session.specs.Replies.{AllLeave, LineLeaves}
 use Rattle.site_session.specs.Bytes.{reply_bytes}
 use Rattle.site_session.specs.declared.reply.Reply.{Reply}
-use Rattle.site_session.specs.declared.reply.Reply.TheVariants.{Scanned, ScanFault, Faulty, Fine, Absent, Built, Marked, Unlisted, BadLine, Silent}
+use Rattle.site_session.specs.declared.reply.Reply.TheVariants.{Scanned, ScanFailed, Faulty, Fine, Absent, Built, Marked, Unlisted, BadLine, Silent}
 use Rattle.site_program.specs.Runs.{Stopped, IsCut, OnceRun, Whole, CutShort, once_lines, reply_status}
 use Rattle.site_program.specs.declared.status.Status.{Status}
 use Rattle.site_program.specs.declared.status.Status.TheVariants.{Memory}
@@ -28,7 +28,7 @@ leaves_by contents given old new number at reply was now answers leaves = subst 
 
 alone : (reply : Reply) → ((count : ℕ) → reply ≡ Scanned count → ⊥) → once_lines (reply ∷ []) ≡ line.Scan ∷ []
 alone (Scanned count) other = absurd (other count refl)
-alone ScanFault other = refl
+alone ScanFailed other = refl
 alone (Faulty fault) other = refl
 alone Fine other = refl
 alone Absent other = refl

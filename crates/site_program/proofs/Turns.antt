@@ -23,10 +23,10 @@ use Rattle.site_script.specs.declared.line.ScriptKind.{ScriptKind}
 use Rattle.site_session.specs.Standing.{Standing, Holds}
 use Rattle.site_session.specs.declared.output.Output.{Output}
 use Rattle.site_session.specs.Replies.{AllLeave, LineLeaves, has_called_output}
-use Rattle.site_session.specs.Session.{Given, Answers, Run, Nothing, event_of, step, put, scan, build, build_reply, build_tree, failed_in, full_now, source_faults, output_faults}
+use Rattle.site_session.specs.Session.{Given, Answers, Run, Nothing, event_of, step, put, scan, build, build_reply, build_tree, failed_in, full_now, source_failures, output_failures}
 use Rattle.site_session.specs.Bytes.{reply_bytes, written}
 use Rattle.site_session.specs.declared.reply.Reply.{Reply}
-use Rattle.site_session.specs.declared.reply.Reply.TheVariants.{Scanned, ScanFault, Faulty, Fine, Absent, Built, Marked, Unlisted, BadLine, Silent}
+use Rattle.site_session.specs.declared.reply.Reply.TheVariants.{Scanned, ScanFailed, Faulty, Fine, Absent, Built, Marked, Unlisted, BadLine, Silent}
 use Rattle.site_program.specs.Runs.{Stopped, IsCut}
 use Rattle.site_program.specs.Sessions.{Counts, Counted, Gone, Going, SoFar, SessionRun, AtEnd, AtBad, AtInput, AtLine, next_of, IsRead, Undone, Halted, TellsBad, EndsAt, GoesOn, EndsSession, bad_status}
 use Rattle.site_program.specs.declared.status.Status.{Status}
@@ -40,7 +40,7 @@ data Outcome (reply : Reply) : Type 0 where
 outcome : (reply : Reply) → Outcome reply
 outcome (BadLine number kind) = Ends number kind refl
 outcome (Scanned count) = Goes refl
-outcome ScanFault = Goes refl
+outcome ScanFailed = Goes refl
 outcome (Faulty fault) = Goes refl
 outcome Fine = Goes refl
 outcome Absent = Goes refl
@@ -210,10 +210,10 @@ rises first mid now some more one two = omega (arith, one, two)
 counted_more : (counts : Counts) (source output : ℕ) (replies : List Reply) (reply : Reply) → Counted counts replies → Counted (following counts source output) (reply ∷ [])
     → Counted (moved counts source output) (replies ++ reply ∷ [])
 counted_more counts source output replies reply some more = record {
-  source = subst (λ (n : ℕ). min (counts.source_first + n) (2 ^ 64 - 1) ≤ source) (sym (sum_by-append source_faults replies (reply ∷ [])))
-      (rises counts.source_first counts.source_now source (sum_by source_faults replies) (sum_by source_faults (reply ∷ [])) some.source more.source);
-  output = subst (λ (n : ℕ). min (counts.output_first + n) (2 ^ 64 - 1) ≤ output) (sym (sum_by-append output_faults replies (reply ∷ [])))
-      (rises counts.output_first counts.output_now output (sum_by output_faults replies) (sum_by output_faults (reply ∷ [])) some.output more.output);
+  source = subst (λ (n : ℕ). min (counts.source_first + n) (2 ^ 64 - 1) ≤ source) (sym (sum_by-append source_failures replies (reply ∷ [])))
+      (rises counts.source_first counts.source_now source (sum_by source_failures replies) (sum_by source_failures (reply ∷ [])) some.source more.source);
+  output = subst (λ (n : ℕ). min (counts.output_first + n) (2 ^ 64 - 1) ≤ output) (sym (sum_by-append output_failures replies (reply ∷ [])))
+      (rises counts.output_first counts.output_now output (sum_by output_failures replies) (sum_by output_failures (reply ∷ [])) some.output more.output);
 }
 
 counted_later : (counts : Counts) (source output : ℕ) (replies : List Reply) → Counted counts replies → counts.source_now ≤ source → counts.output_now ≤ output → Counted (moved counts source output) replies
@@ -223,8 +223,8 @@ counted_later counts source output replies some source_later output_later = reco
 }
 
 -- the counts of one reply
-pub counted_one : (counts : Counts) (reply : Reply) → min (counts.source_first + source_faults reply) (2 ^ 64 - 1) ≤ counts.source_now
-    → min (counts.output_first + output_faults reply) (2 ^ 64 - 1) ≤ counts.output_now → Counted counts (reply ∷ [])
+pub counted_one : (counts : Counts) (reply : Reply) → min (counts.source_first + source_failures reply) (2 ^ 64 - 1) ≤ counts.source_now
+    → min (counts.output_first + output_failures reply) (2 ^ 64 - 1) ≤ counts.output_now → Counted counts (reply ∷ [])
 counted_one counts reply source output = record { source = omega (arith, source); output = omega (arith, output) }
 
 -- a run in which nothing was done

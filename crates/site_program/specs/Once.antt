@@ -11,7 +11,7 @@ use Rattle.site_session.specs.Standing.{Standing, MakesBut}
 use Rattle.site_session.specs.Session.{Given, full_now, report}
 use Rattle.site_session.specs.declared.output.Output.{Output}
 use Rattle.site_session.specs.declared.reply.Reply.{Reply}
-use Rattle.site_session.specs.declared.reply.Reply.TheVariants.{Scanned, ScanFault, Faulty, Built, Marked, Unlisted}
+use Rattle.site_session.specs.declared.reply.Reply.TheVariants.{Scanned, ScanFailed, Faulty, Built, Marked, Unlisted}
 use Rattle.site_session.specs.Bytes.{written}
 use Rattle.site_words.specs.declared.orders.Order.{Order}
 use Rattle.site_words.specs.declared.faults.UsageKind.{UsageKind}
@@ -78,7 +78,7 @@ Replies given now Done replies = (output : Output) × (full_now now ≡ Ok outpu
 Replies given now (Site fault) replies =
     ((scan_fault (entries given.source) ≡ Some fault) × (replies ≡ Faulty fault ∷ []))
     ⊎ ((scan_fault (entries given.source) ≡ None) × (replies ≡ scanned given ∷ Faulty fault ∷ []))
-Replies given now SourceFault replies = replies ≡ ScanFault ∷ []
+Replies given now SourceFault replies = replies ≡ ScanFailed ∷ []
 Replies given now (OutFault count) replies =
     ((count ≡ 0) × (replies ≡ scanned given ∷ Unlisted ∷ []))
     ⊎ ((failed : List (List ℕ)) × (length failed ≡ count) × (replies ≡ scanned given ∷ Marked failed ∷ []))

@@ -8,7 +8,7 @@ use Rattle.site_session.specs.Standing.{Standing, Holds}
 use Rattle.site_session.specs.Session.{Given, Answers, Run}
 use Rattle.site_session.specs.Replies.{LineLeaves, AllLeave}
 use Rattle.site_session.specs.declared.reply.Reply.{Reply}
-use Rattle.site_session.specs.declared.reply.Reply.TheVariants.{Scanned, ScanFault, Faulty, Marked, Unlisted}
+use Rattle.site_session.specs.declared.reply.Reply.TheVariants.{Scanned, ScanFailed, Faulty, Marked, Unlisted}
 use Rattle.site_session.specs.Bytes.{reply_bytes, written}
 use Rattle.site_program.specs.declared.status.Status.{Status}
 use Rattle.site_program.specs.declared.status.Status.TheVariants.{Done, Site, Usage, SourceFault, OutFault, InputFault, SinkFault, Script, Memory}
@@ -27,7 +27,7 @@ status_number Memory = 8
 -- what a build, or a scan that answers no number, ends with
 abbrev pub reply_status : Reply → Status
 reply_status (Faulty fault) = Site fault
-reply_status ScanFault = SourceFault
+reply_status ScanFailed = SourceFault
 reply_status (Marked paths) = OutFault (length paths)
 reply_status Unlisted = OutFault 0
 reply_status _ = Done

@@ -7,7 +7,7 @@ use Rattle.site_script.specs.declared.line.ScriptKind.{ScriptKind}
 use Rattle.site_script.specs.declared.line.Line.{Line}
 use Rattle.site_script.specs.declared.line.Line.TheVariants as line
 use Rattle.site_session.specs.Standing.{Standing, Holds}
-use Rattle.site_session.specs.Session.{Given, Answers, Run, source_faults, output_faults}
+use Rattle.site_session.specs.Session.{Given, Answers, Run, source_failures, output_failures}
 use Rattle.site_session.specs.Replies.{LineLeaves, AllLeave}
 use Rattle.site_session.specs.declared.reply.Reply.{Reply}
 use Rattle.site_session.specs.declared.reply.Reply.TheVariants.{BadLine}
@@ -30,8 +30,8 @@ pub record Counts : Type 0 where
 
 -- the counts, which stay at the last u64, rose by at least what the replies show
 pub record Counted (counts : Counts) (replies : List Reply) : Type 0 where
-  pub source : min (counts.source_first + sum_by source_faults replies) (2 ^ 64 - 1) ≤ counts.source_now
-  pub output : min (counts.output_first + sum_by output_faults replies) (2 ^ 64 - 1) ≤ counts.output_now
+  pub source : min (counts.source_first + sum_by source_failures replies) (2 ^ 64 - 1) ≤ counts.source_now
+  pub output : min (counts.output_first + sum_by output_failures replies) (2 ^ 64 - 1) ≤ counts.output_now
 
 -- of this text these lines were taken and done, with these replies, and this is left of it; none of the lines ends the script,
 -- no reply is that of a bad line, and each line has left of the output what its reply says

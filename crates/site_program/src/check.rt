@@ -33,13 +33,13 @@ pub(crate) fn scan_and_check<S: SourceTree, K: ByteSink>(
     ensures no_usage { (kind : UsageKind) → result ≡ Status.Usage kind → ⊥ }
     ensures no_input { result ≡ Status.InputFault → ⊥ }
     ensures no_output { (count : ℕ) → result ≡ Status.OutFault count → ⊥ }
-    ensures source_fault { result ≡ Status.SourceFault → Rose (S.faults source.old) (S.faults source.new) }
-    ensures sink_fault { result ≡ Status.SinkFault → Rose (K.faults sink.old) (K.faults sink.new) }
+    ensures source_fault { result ≡ Status.SourceFault → Rose (S.failures source.old) (S.failures source.new) }
+    ensures sink_fault { result ≡ Status.SinkFault → Rose (K.failures sink.old) (K.failures sink.new) }
 {
     let mut session = Session::open(alloc, settings, moment);
     match session.scan(alloc, source) {
         Ok(count) => check_held(alloc, &session, count, sink),
-        Err(ScanError::Failed) => tell(alloc, Reply::ScanFault, sink),
+        Err(ScanError::Failed) => tell(alloc, Reply::ScanFailed, sink),
         Err(ScanError::Limit(fault)) => tell(alloc, Reply::Faulty(fault), sink),
         Err(ScanError::Memory) => Status::Memory,
     }
@@ -50,7 +50,7 @@ fn check_held<K: ByteSink>(alloc: Global, session: &Session, count: u32, sink: &
     ensures ends { EndsAs (verdict_status (fault_of (full_now session.now))) result }
     ensures took { (before : List ℕ) → K.taken sink.old ≡ Some before →
         SaidBoth (reply_bytes false (Scanned count)) (verdict (fault_of (full_now session.now))) (verdict_status (fault_of (full_now session.now))) before (K.taken sink.new) result }
-    ensures sink_fault { result ≡ Status.SinkFault → Rose (K.faults sink.old) (K.faults sink.new) }
+    ensures sink_fault { result ≡ Status.SinkFault → Rose (K.failures sink.old) (K.failures sink.new) }
 {
     match write_reply(alloc, false, &Reply::Scanned(count), sink) {
         Ok(()) => judge_held(alloc, session, sink),
@@ -63,8 +63,8 @@ fn judge_held<K: ByteSink>(alloc: Global, session: &Session, sink: &mut K) -> St
     ensures ends { EndsAs (verdict_status (fault_of (full_now session.now))) result }
     ensures took { (before : List ℕ) → K.taken sink.old ≡ Some before →
         Said (verdict (fault_of (full_now session.now))) (verdict_status (fault_of (full_now session.now))) before (K.taken sink.new) result }
-    ensures later { K.faults sink.old ≤ K.faults sink.new }
-    ensures sink_fault { result ≡ Status.SinkFault → Rose (K.faults sink.old) (K.faults sink.new) }
+    ensures later { K.failures sink.old ≤ K.failures sink.new }
+    ensures sink_fault { result ≡ Status.SinkFault → Rose (K.failures sink.old) (K.failures sink.new) }
 {
     match session.first_fault(alloc) {
         Ok(fault) => tell_verdict(alloc, fault, sink),
@@ -75,8 +75,8 @@ fn judge_held<K: ByteSink>(alloc: Global, session: &Session, sink: &mut K) -> St
 fn tell_verdict<K: ByteSink>(alloc: Global, fault: Option<SiteFault>, sink: &mut K) -> Status
     ensures ends { EndsAs (verdict_status fault) result }
     ensures took { (before : List ℕ) → K.taken sink.old ≡ Some before → Said (verdict fault) (verdict_status fault) before (K.taken sink.new) result }
-    ensures later { K.faults sink.old ≤ K.faults sink.new }
-    ensures sink_fault { result ≡ Status.SinkFault → Rose (K.faults sink.old) (K.faults sink.new) }
+    ensures later { K.failures sink.old ≤ K.failures sink.new }
+    ensures sink_fault { result ≡ Status.SinkFault → Rose (K.failures sink.old) (K.failures sink.new) }
 {
     match fault {
         Some(fault) => tell(alloc, Reply::Faulty(fault), sink),
@@ -88,8 +88,8 @@ fn tell_verdict<K: ByteSink>(alloc: Global, fault: Option<SiteFault>, sink: &mut
 fn tell<K: ByteSink>(alloc: Global, reply: Reply, sink: &mut K) -> Status
     ensures ends { EndsAs (reply_status reply) result }
     ensures took { (before : List ℕ) → K.taken sink.old ≡ Some before → Said (reply_bytes false reply) (reply_status reply) before (K.taken sink.new) result }
-    ensures later { K.faults sink.old ≤ K.faults sink.new }
-    ensures sink_fault { result ≡ Status.SinkFault → Rose (K.faults sink.old) (K.faults sink.new) }
+    ensures later { K.failures sink.old ≤ K.failures sink.new }
+    ensures sink_fault { result ≡ Status.SinkFault → Rose (K.failures sink.old) (K.failures sink.new) }
 {
     match write_reply(alloc, false, &reply, sink) {
         Ok(()) => status_of(reply),
@@ -100,8 +100,8 @@ fn tell<K: ByteSink>(alloc: Global, reply: Reply, sink: &mut K) -> Status
 fn tell_clean<K: ByteSink>(sink: &mut K) -> Status
     ensures ends { EndsAs Status.Done result }
     ensures took { (before : List ℕ) → K.taken sink.old ≡ Some before → Said (verdict None) Status.Done before (K.taken sink.new) result }
-    ensures later { K.faults sink.old ≤ K.faults sink.new }
-    ensures sink_fault { result ≡ Status.SinkFault → Rose (K.faults sink.old) (K.faults sink.new) }
+    ensures later { K.failures sink.old ≤ K.failures sink.new }
+    ensures sink_fault { result ≡ Status.SinkFault → Rose (K.failures sink.old) (K.failures sink.new) }
 {
     match sink.write(b"clean\n") {
         Ok(()) => Status::Done,

@@ -45,7 +45,7 @@ pub fn run_jobs<H: Wait, S: SourceTree, O: OutTree, I: ByteSource, K: ByteSink>(
     ensures session { (given : Given) (options : Options) (text before : List ℕ) → jobs_order words.now moment ≡ Ok (order.Session options) → given.why ≡ options.why →
         S.files source.old ≡ Some given.source → O.contents out.old ≡ Some given.output → I.left input.old ≡ Some text → K.taken sink.old ≡ Some before →
         SessionRun O.contents given (start options.settings moment) text before (I.left input.new) (K.taken sink.new) out.old out.new
-        (record { source_first = S.faults source.old; source_now = S.faults source.new; output_first = O.faults out.old; output_now = O.faults out.new }) result }
+        (record { source_first = S.failures source.old; source_now = S.failures source.new; output_first = O.failures out.old; output_now = O.failures out.new }) result }
     ensures session_status { (options : Options) → jobs_order words.now moment ≡ Ok (order.Session options) → EndsSession result }
 
     // When each status of a build comes, what the output then has,
@@ -73,22 +73,14 @@ pub fn run_jobs<H: Wait, S: SourceTree, O: OutTree, I: ByteSource, K: ByteSink>(
         (source.new ≡ source.old) × (out.new ≡ out.old) × (input.new ≡ input.old) }
 
     // A failure is answered only where that end failed in this call.
-    ensures source_fault { result ≡ Status.SourceFault → Rose (S.faults source.old) (S.faults source.new) }
-    ensures out_fault { (count : ℕ) → result ≡ Status.OutFault count → min (O.faults out.old + max count 1) (2 ^ 64 - 1) ≤ O.faults out.new }
-    ensures input_fault { result ≡ Status.InputFault → Rose (I.faults input.old) (I.faults input.new) }
-    ensures sink_fault { result ≡ Status.SinkFault → Rose (K.faults sink.old) (K.faults sink.new) }
+    ensures source_fault { result ≡ Status.SourceFault → Rose (S.failures source.old) (S.failures source.new) }
+    ensures out_fault { (count : ℕ) → result ≡ Status.OutFault count → min (O.failures out.old + max count 1) (2 ^ 64 - 1) ≤ O.failures out.new }
+    ensures input_fault { result ≡ Status.InputFault → Rose (I.failures input.old) (I.failures input.new) }
+    ensures sink_fault { result ≡ Status.SinkFault → Rose (K.failures sink.old) (K.failures sink.new) }
 {
     match read_order(alloc, words, TopCall::Jobs, moment) {
         Ok(order) => match order {
-            Order::Build(options) => scan_and_build(
-                alloc,
-                options.settings,
-                options.why,
-                moment,
-                source,
-                out,
-                sink,
-            ),
+            Order::Build(options) => scan_and_build(alloc, options, moment, source, out, sink),
             Order::Session(options) => {
                 run_session(rt, alloc, options, moment, source, out, input, sink)
             }
@@ -114,10 +106,10 @@ fn run_session<H: Wait, S: SourceTree, O: OutTree, I: ByteSource, K: ByteSink>(
     ensures run { (given : Given) (text before : List ℕ) → given.why ≡ options.why → S.files source.old ≡ Some given.source → O.contents out.old ≡ Some given.output →
         I.left input.old ≡ Some text → K.taken sink.old ≡ Some before →
         SessionRun O.contents given (start options.settings moment) text before (I.left input.new) (K.taken sink.new) out.old out.new
-        (record { source_first = S.faults source.old; source_now = S.faults source.new; output_first = O.faults out.old; output_now = O.faults out.new }) result }
+        (record { source_first = S.failures source.old; source_now = S.failures source.new; output_first = O.failures out.old; output_now = O.failures out.new }) result }
     ensures status { EndsSession result }
-    ensures input_fault { result ≡ Status.InputFault → Rose (I.faults input.old) (I.faults input.new) }
-    ensures sink_fault { result ≡ Status.SinkFault → Rose (K.faults sink.old) (K.faults sink.new) }
+    ensures input_fault { result ≡ Status.InputFault → Rose (I.failures input.old) (I.failures input.new) }
+    ensures sink_fault { result ≡ Status.SinkFault → Rose (K.failures sink.old) (K.failures sink.new) }
 {
     let mut session = Session::open(alloc, options.settings, moment);
     do_lines(
@@ -146,10 +138,10 @@ fn do_lines<H: Wait, S: SourceTree, O: OutTree, I: ByteSource, K: ByteSink>(
     ensures run { (given : Given) (text before : List ℕ) → given.why ≡ why → S.files source.old ≡ Some given.source → Holds (O.contents out.old) session.old.belief given.output →
         I.left input.old ≡ Some text → K.taken sink.old ≡ Some before →
         SessionRun O.contents given session.old text before (I.left input.new) (K.taken sink.new) out.old out.new
-        (record { source_first = S.faults source.old; source_now = S.faults source.new; output_first = O.faults out.old; output_now = O.faults out.new }) result }
+        (record { source_first = S.failures source.old; source_now = S.failures source.new; output_first = O.failures out.old; output_now = O.failures out.new }) result }
     ensures status { EndsSession result }
-    ensures input_fault { result ≡ Status.InputFault → Rose (I.faults input.old) (I.faults input.new) }
-    ensures sink_fault { result ≡ Status.SinkFault → Rose (K.faults sink.old) (K.faults sink.new) }
+    ensures input_fault { result ≡ Status.InputFault → Rose (I.failures input.old) (I.failures input.new) }
+    ensures sink_fault { result ≡ Status.SinkFault → Rose (K.failures sink.old) (K.failures sink.new) }
 {
     let mut reader = ScriptReader::new();
     'lines: for _ in rt.forever() {
@@ -185,17 +177,17 @@ fn turn<S: SourceTree, O: OutTree, K: ByteSink>(
     requires { IsInTime line }
     ensures next { (given : Given) (before : List ℕ) → given.why ≡ why → S.files source.old ≡ Some given.source → Holds (O.contents out.old) session.old.belief given.output →
         K.taken sink.old ≡ Some before → IfNone result (GoesOn O.contents given session.old number line before session.new (K.taken sink.new) out.old out.new
-        (record { source_first = S.faults source.old; source_now = S.faults source.new; output_first = O.faults out.old; output_now = O.faults out.new })) }
+        (record { source_first = S.failures source.old; source_now = S.failures source.new; output_first = O.failures out.old; output_now = O.failures out.new })) }
     ensures ends { (given : Given) (before : List ℕ) → given.why ≡ why → S.files source.old ≡ Some given.source → Holds (O.contents out.old) session.old.belief given.output →
         K.taken sink.old ≡ Some before → IfSome result (λ status. EndsAt O.contents given session.old number line before session.new (K.taken sink.new) out.old out.new status) }
     ensures belief { (first : Files) → Holds (O.contents out.old) session.old.belief first → Holds (O.contents out.new) session.new.belief first }
     ensures status { IfSome result (λ status. EndsSession status) }
     ensures input { result ≡ Some Status.InputFault → line ≡ Line.Failed }
     ensures source_same { S.files source.new ≡ S.files source.old }
-    ensures source_later { S.faults source.old ≤ S.faults source.new }
-    ensures output_later { O.faults out.old ≤ O.faults out.new }
-    ensures sink_later { K.faults sink.old ≤ K.faults sink.new }
-    ensures sink_cause { result ≡ Some Status.SinkFault → Rose (K.faults sink.old) (K.faults sink.new) }
+    ensures source_later { S.failures source.old ≤ S.failures source.new }
+    ensures output_later { O.failures out.old ≤ O.failures out.new }
+    ensures sink_later { K.failures sink.old ≤ K.failures sink.new }
+    ensures sink_cause { result ≡ Some Status.SinkFault → Rose (K.failures sink.old) (K.failures sink.new) }
 {
     match line {
         Line::End => Some(Status::Done),

@@ -4,7 +4,7 @@ ghost use Rattle.site_base.specs.Places.{Files};
 ghost use Rattle.site_base.specs.Ends.{Rose};
 ghost use Rattle.site_script.specs.Line.{IsInTime};
 ghost use Rattle.site_session.specs.Standing.{Holds};
-ghost use Rattle.site_session.specs.Session.{Given, Answers, output_faults, source_faults};
+ghost use Rattle.site_session.specs.Session.{Given, Answers, output_failures, source_failures};
 ghost use Rattle.site_session.specs.Replies.{LeavesBy, has_called_output};
 ghost use Rattle.site_session.specs.Bytes.{reply_bytes};
 ghost use Rattle.site_program.specs.Runs.{Stopped};
@@ -44,12 +44,12 @@ pub(crate) fn do_line<S: SourceTree, O: OutTree, K: ByteSink>(
         × (K.taken sink.new ≡ Some (before ++ part)) × (stop ≡ Stop.Memory → part ≡ [])) }
 
     ensures source_same { S.files source.new ≡ S.files source.old }
-    ensures source_later { S.faults source.old ≤ S.faults source.new }
-    ensures source_cause { IfOk result (λ reply. min (S.faults source.old + source_faults reply) (2 ^ 64 - 1) ≤ S.faults source.new) }
-    ensures output_later { O.faults out.old ≤ O.faults out.new }
-    ensures output_cause { IfOk result (λ reply. min (O.faults out.old + output_faults reply) (2 ^ 64 - 1) ≤ O.faults out.new) }
-    ensures sink_later { K.faults sink.old ≤ K.faults sink.new }
-    ensures sink_cause { result ≡ Err Stop.Sink → Rose (K.faults sink.old) (K.faults sink.new) }
+    ensures source_later { S.failures source.old ≤ S.failures source.new }
+    ensures source_cause { IfOk result (λ reply. min (S.failures source.old + source_failures reply) (2 ^ 64 - 1) ≤ S.failures source.new) }
+    ensures output_later { O.failures out.old ≤ O.failures out.new }
+    ensures output_cause { IfOk result (λ reply. min (O.failures out.old + output_failures reply) (2 ^ 64 - 1) ≤ O.failures out.new) }
+    ensures sink_later { K.failures sink.old ≤ K.failures sink.new }
+    ensures sink_cause { result ≡ Err Stop.Sink → Rose (K.failures sink.old) (K.failures sink.new) }
 {
     let reply = match session.answer(alloc, number, line, source, out) {
         Ok(reply) => reply,
@@ -71,8 +71,8 @@ pub(crate) fn write_reply<K: ByteSink>(
     ensures ok { (before : List ℕ) → K.taken sink.old ≡ Some before → IfOk result (λ _. K.taken sink.new ≡ Some (before ++ reply_bytes why reply.now)) }
     ensures err { (before : List ℕ) → K.taken sink.old ≡ Some before →
         IfErr result (λ stop. (k : ℕ) × (K.taken sink.new ≡ Some (before ++ take k (reply_bytes why reply.now))) × (stop ≡ Stop.Memory → k ≡ 0)) }
-    ensures later { K.faults sink.old ≤ K.faults sink.new }
-    ensures cause { result ≡ Err Stop.Sink → Rose (K.faults sink.old) (K.faults sink.new) }
+    ensures later { K.failures sink.old ≤ K.failures sink.new }
+    ensures cause { result ≡ Err Stop.Sink → Rose (K.failures sink.old) (K.failures sink.new) }
 {
     let Ok(text) = reply.text(alloc, why) else {
         return Err(Stop::Memory);

@@ -19,7 +19,7 @@ use out_tree::OutTree;
 use site_base::{ByteSink, Settings, Words};
 use site_script::Line;
 use site_session::{Reply, Session};
-use site_words::{Order, WordsError};
+use site_words::{Options, Order, WordsError};
 use source_tree::SourceTree;
 use std::alloc::Global;
 
@@ -66,14 +66,19 @@ pub fn run_once<S: SourceTree, O: OutTree, K: ByteSink>(
     ensures untouched { Untouched result → out.new ≡ out.old }
 
     // A failure is answered only where that end failed in this call.
-    ensures source_fault { result ≡ Status.SourceFault → Rose (S.faults source.old) (S.faults source.new) }
-    ensures out_fault { (count : ℕ) → result ≡ Status.OutFault count → min (O.faults out.old + max count 1) (2 ^ 64 - 1) ≤ O.faults out.new }
-    ensures sink_fault { result ≡ Status.SinkFault → Rose (K.faults sink.old) (K.faults sink.new) }
+    ensures source_fault { result ≡ Status.SourceFault → Rose (S.failures source.old) (S.failures source.new) }
+    ensures out_fault { (count : ℕ) → result ≡ Status.OutFault count → min (O.failures out.old + max count 1) (2 ^ 64 - 1) ≤ O.failures out.new }
+    ensures sink_fault { result ≡ Status.SinkFault → Rose (K.failures sink.old) (K.failures sink.new) }
 {
     match read_order(alloc, words, TopCall::Once, moment) {
         Ok(order) => match order {
             Order::Once(settings) => {
-                scan_and_build(alloc, settings, false, moment, source, out, sink)
+                let options = Options {
+                    jobs: 1,
+                    settings,
+                    why: false,
+                };
+                scan_and_build(alloc, options, moment, source, out, sink)
             }
             Order::Check(settings) => scan_and_check(alloc, settings, moment, source, sink),
             _ => unreachable!(),
@@ -86,8 +91,7 @@ pub fn run_once<S: SourceTree, O: OutTree, K: ByteSink>(
 // The session over the script `scan`, `build`, where the build is left out if the scan answers no number.
 pub(crate) fn scan_and_build<S: SourceTree, O: OutTree, K: ByteSink>(
     alloc: Global,
-    settings: Settings,
-    why: bool,
+    options: Options,
     moment: i64,
     source: &mut S,
     out: &mut O,
@@ -95,21 +99,21 @@ pub(crate) fn scan_and_build<S: SourceTree, O: OutTree, K: ByteSink>(
 ) -> Status
     requires { is_moment moment ≡ true }
     ensures told { (given : Given) → S.files source.old ≡ Some given.source → O.contents out.old ≡ Some given.output →
-        Ended (after_scan given (start settings moment)) (O.contents out.old) (O.contents out.new) result }
-    ensures took { (given : Given) (before : List ℕ) → given.why ≡ why → S.files source.old ≡ Some given.source → O.contents out.old ≡ Some given.output →
-        K.taken sink.old ≡ Some before → Took given (after_scan given (start settings moment)) before (K.taken sink.new) result }
-    ensures run { (given : Given) (before : List ℕ) → given.why ≡ why →
+        Ended (after_scan given (start options.settings moment)) (O.contents out.old) (O.contents out.new) result }
+    ensures took { (given : Given) (before : List ℕ) → given.why ≡ options.why → S.files source.old ≡ Some given.source → O.contents out.old ≡ Some given.output →
+        K.taken sink.old ≡ Some before → Took given (after_scan given (start options.settings moment)) before (K.taken sink.new) result }
+    ensures run { (given : Given) (before : List ℕ) → given.why ≡ options.why →
         S.files source.old ≡ Some given.source → O.contents out.old ≡ Some given.output → K.taken sink.old ≡ Some before →
-        OnceRun O.contents given (start settings moment) before (K.taken sink.new) out.old out.new result }
+        OnceRun O.contents given (start options.settings moment) before (K.taken sink.new) out.old out.new result }
     ensures no_usage { (kind : UsageKind) → result ≡ Status.Usage kind → ⊥ }
     ensures no_input { result ≡ Status.InputFault → ⊥ }
     ensures untouched { Untouched result → out.new ≡ out.old }
-    ensures source_fault { result ≡ Status.SourceFault → Rose (S.faults source.old) (S.faults source.new) }
-    ensures out_fault { (count : ℕ) → result ≡ Status.OutFault count → min (O.faults out.old + max count 1) (2 ^ 64 - 1) ≤ O.faults out.new }
-    ensures sink_fault { result ≡ Status.SinkFault → Rose (K.faults sink.old) (K.faults sink.new) }
+    ensures source_fault { result ≡ Status.SourceFault → Rose (S.failures source.old) (S.failures source.new) }
+    ensures out_fault { (count : ℕ) → result ≡ Status.OutFault count → min (O.failures out.old + max count 1) (2 ^ 64 - 1) ≤ O.failures out.new }
+    ensures sink_fault { result ≡ Status.SinkFault → Rose (K.failures sink.old) (K.failures sink.new) }
 {
-    let mut session = Session::open(alloc, settings, moment);
-    let scanned = match do_line(alloc, why, &mut session, 1, Line::Scan, source, out, sink) {
+    let mut session = Session::open(alloc, options.settings, moment);
+    let scanned = match do_line(alloc, options.why, &mut session, 1, Line::Scan, source, out, sink) {
         Ok(scanned) => scanned,
         Err(stop) => return stop.status(),
     };
@@ -117,7 +121,7 @@ pub(crate) fn scan_and_build<S: SourceTree, O: OutTree, K: ByteSink>(
         Reply::Scanned(_) => {}
         other => return status_of(other),
     }
-    match do_line(alloc, why, &mut session, 2, Line::Build, source, out, sink) {
+    match do_line(alloc, options.why, &mut session, 2, Line::Build, source, out, sink) {
         Ok(built) => status_of(built),
         Err(stop) => stop.status(),
     }

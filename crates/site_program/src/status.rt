@@ -75,7 +75,7 @@ pub(crate) fn status_of(reply: Reply) -> Status
 {
     match reply {
         Reply::Faulty(fault) => Status::Site(fault),
-        Reply::ScanFault => Status::SourceFault,
+        Reply::ScanFailed => Status::SourceFault,
         Reply::Marked(paths) => Status::OutFault(paths.len()),
         Reply::Unlisted => Status::OutFault(0),
         _ => Status::Done,

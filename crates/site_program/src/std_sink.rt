@@ -10,7 +10,7 @@ use std::marker::Model;
 #[derive(Drop)]
 pub struct StdSink<R: Print + Clone + Drop> {
     rt: R,
-    faults: u64,
+    failures: u64,
 }
 
 impl<R: Print + Clone + Drop> Model for StdSink<R> {
@@ -18,7 +18,7 @@ impl<R: Print + Clone + Drop> Model for StdSink<R> {
 
     ghost Value = { ℕ };
 
-    ghost view = { λ sink. sink.faults };
+    ghost view = { λ sink. sink.failures };
 }
 
 impl<R: Print + Clone + Drop> StdSink<R> {
@@ -26,18 +26,18 @@ impl<R: Print + Clone + Drop> StdSink<R> {
     pub fn new(rt: R) -> StdSink<R>
         ensures { result ≡ 0 }
     {
-        StdSink { rt, faults: 0 }
+        StdSink { rt, failures: 0 }
     }
 }
 
 impl<R: Print + Clone + Drop> ByteSink for StdSink<R> {
     ghost taken = { λ s. None };
 
-    ghost faults = { λ s. s };
+    ghost failures = { λ s. s };
 
     fn write(&mut self, bytes: &[u8]) -> Result<(), Failed> {
         if io::writer(&self.rt).write_all(bytes).is_err() {
-            self.faults = self.faults.saturating_add(1);
+            self.failures = self.failures.saturating_add(1);
             return Err(Failed);
         }
         Ok(())

@@ -7,11 +7,9 @@ ghost use Rattle.site_words.specs.Words.{Answers};
 ghost use Rattle.site_program.specs.Usage.{knows, order_of, timed, usage_line};
 
 use crate::status::Status;
-use site_base::{ByteSink, Words};
+use site_base::{ByteSink, LAST_MOMENT, Words};
 use site_words::{Order, UsageKind, WordsError, read_words};
 use std::alloc::{AllocError, Global};
-
-const LAST_MOMENT: i64 = 253_402_214_399;
 
 // A top call, which knows some of the commands.
 #[derive(Clone, Copy, Debug, PartialEq, Eq)]
@@ -75,7 +73,7 @@ pub(crate) fn tell_usage<K: ByteSink>(alloc: Global, kind: UsageKind, sink: &mut
     ensures cases { (result ≡ Status.Usage kind) ⊎ ((result ≡ Status.SinkFault) ⊎ (result ≡ Status.Memory)) }
     ensures bytes { (before : List ℕ) → K.taken sink.old ≡ Some before → result ≡ Status.Usage kind →
         K.taken sink.new ≡ Some (before ++ usage_line kind) }
-    ensures sink_fault { result ≡ Status.SinkFault → Rose (K.faults sink.old) (K.faults sink.new) }
+    ensures sink_fault { result ≡ Status.SinkFault → Rose (K.failures sink.old) (K.failures sink.new) }
 {
     let Ok(text) = usage_text(alloc, kind) else {
         return Status::Memory;

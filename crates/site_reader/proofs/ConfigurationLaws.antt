@@ -12,7 +12,7 @@ use Rattle.site_config.specs.declared.config.Config.{Config}
 use Rattle.site_items.specs.Matter as matter
 use Rattle.site_items.specs.Outcomes.{Outcome}
 use Rattle.site_reader.specs.Sites as sites
-use Rattle.site_reader.proofs.Weights.{file_found, outcome_before, outcome_value}
+use Rattle.site_reader.proofs.Weights.{file_found, found_before, found_value}
 
 -- what a mapping says, whose values have their forms
 pub record IsFormed (config : Config) : Type 0 where
@@ -20,7 +20,7 @@ pub record IsFormed (config : Config) : Type 0 where
   pub says : config ≡ of.config (hash config.all)
 
 with_pages : (number : Option ℕ) (made config : Config) → ◌≡◌ {A = Outcome Config} (sites.with_pages number made) (Ok config) → made ≡ config
-with_pages None made config e = outcome_value made config e
+with_pages None made config e = found_value made config e
 with_pages (Some number) made config e = absurd (cc (e))
 
 configured : (wrong : Option (List ℕ)) (ps : Pairs) (config : Config) → wrong ≡ wrong_key (hash ps) → ◌≡◌ {A = Outcome Config} (sites.configured wrong ps) (Ok config) → IsFormed config
@@ -31,7 +31,7 @@ configured (Some key) ps config is e = absurd (cc (e))
 
 text_config : (text : Option (List ℕ)) (config : Config) → ◌≡◌ {A = Outcome Config} (sites.text_config text) (Ok config) → IsFormed config
 text_config text config e =
-    let read = outcome_before (matter.in_file (mapping text)) _ config e in
+    let read = found_before (matter.in_file (mapping text)) _ config e in
     configured (wrong_key (hash read.0)) read.0 config refl read.2
 
 config_in : (bytes : Option (List ℕ)) (config : Config) → ◌≡◌ {A = Outcome Config} (sites.config_in bytes) (Ok config) → IsFormed config

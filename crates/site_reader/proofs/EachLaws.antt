@@ -1,10 +1,11 @@
 -- What files make one after another, at a place of their list.
 use Rattle.std.proofs.Common.{◌≡◌, ℕ, suc, ◌+◌, ◌<◌, List, [], ◌∷◌, length, drop, drop-cons, add-one, get_or, map, ◌++◌, ◌≤◌, length-drop, arith, Ok, Err, refl, sym, ap, ◌∙◌}
+use Rattle.site_base.specs.Chains.{◌>>=◌}
 use Rattle.site_base.specs.declared.faults.SiteFault.{SiteFault}
 use Rattle.site_items.specs.Outcomes.{IsFault, Outcome}
 use Rattle.site_items.specs.declared.item_error.ItemError.{ItemError}
 use Rattle.site_items.specs.declared.item_error.ItemError.TheVariants as item_error
-use Rattle.site_reader.specs.Found.{Found, IsFirst, Tells, each, in_file, ◌>>◌}
+use Rattle.site_reader.specs.Found.{Found, IsFirst, Tells, each, in_file}
 use Rattle.site_reader.specs.declared.site_error.SiteError.{SiteError}
 use Rattle.site_reader.specs.declared.site_error.SiteError.TheVariants as site_error
 
@@ -49,7 +50,7 @@ module _ {A B C : Type 0} (see : B → C) (as_placed : A → C) where
   all_placed xs made i le same = sym (nothing_behind (map see made)) ∙ ap (λ zs. map see made ++ map as_placed zs) (sym (none_left xs i le)) ∙ same
 
 module _ {A F S : Type 0} (step : F → S → Found S) (see : A → F) where
-  unfolds : (x : F) (xs : List F) (made : S) → each step (x ∷ xs) made ≡ (step x made >> each step xs)
+  unfolds : (x : F) (xs : List F) (made : S) → each step (x ∷ xs) made ≡ (step x made >>= each step xs)
   unfolding each
   unfolds x xs made = refl
 
@@ -57,7 +58,7 @@ module _ {A F S : Type 0} (step : F → S → Found S) (see : A → F) where
   pub each_next : (xs : List A) (i : ℕ) (x : A) (made more : S) → i < length xs → x ≡ get_or xs i x → step (see x) made ≡ Ok more
       → each step (map see (drop i xs)) made ≡ each step (map see (drop (i + 1) xs)) more
   each_next xs i x made more lt is e =
-      ap (λ ys. each step (map see ys) made) (at_front xs i x lt is) ∙ unfolds (see x) (map see (drop (i + 1) xs)) made ∙ ap (λ r. r >> each step (map see (drop (i + 1) xs))) e
+      ap (λ ys. each step (map see ys) made) (at_front xs i x lt is) ∙ unfolds (see x) (map see (drop (i + 1) xs)) made ∙ ap (λ r. r >>= each step (map see (drop (i + 1) xs))) e
 
   -- behind the last file
   pub each_done : (xs : List A) (i : ℕ) (made : S) (whole : Found S) → length xs ≤ i → each step (map see (drop i xs)) made ≡ whole → whole ≡ Ok made
@@ -68,7 +69,7 @@ module _ {A F S : Type 0} (step : F → S → Found S) (see : A → F) where
   pub each_stops : (xs : List A) (i : ℕ) (x : A) (made : S) (fault : SiteFault) → i < length xs → x ≡ get_or xs i x → step (see x) made ≡ Err fault
       → each step (map see (drop i xs)) made ≡ Err fault
   each_stops xs i x made fault lt is e =
-      ap (λ ys. each step (map see ys) made) (at_front xs i x lt is) ∙ unfolds (see x) (map see (drop (i + 1) xs)) made ∙ ap (λ r. r >> each step (map see (drop (i + 1) xs))) e
+      ap (λ ys. each step (map see ys) made) (at_front xs i x lt is) ∙ unfolds (see x) (map see (drop (i + 1) xs)) made ∙ ap (λ r. r >>= each step (map see (drop (i + 1) xs))) e
 
   -- the error at one file is that of all
   pub each_first : (xs : List A) (i : ℕ) (x : A) (made : S) (whole : Found S) (error : SiteError) → i < length xs → x ≡ get_or xs i x
@@ -78,7 +79,7 @@ module _ {A F S : Type 0} (step : F → S → Found S) (see : A → F) where
 
 -- the error of a file is that of what follows it
 pub first_told : {A B : Type 0} (found : Outcome A) (then : A → Found B) (path : List ℕ) (error : ItemError) (told : SiteError)
-    → IsFault found error → Tells path error told → IsFirst (in_file path found >> then) told
+    → IsFault found error → Tells path error told → IsFirst (in_file path found >>= then) told
 first_told found then path error site_error.Memory fault tells = tt
 first_told found then path item_error.Memory (site_error.Fault f) fault tells = absurd tells
-first_told found then path (item_error.Fault e) (site_error.Fault f) fault tells = ap (λ o. in_file path o >> then) fault ∙ ap Err (sym tells)
+first_told found then path (item_error.Fault e) (site_error.Fault f) fault tells = ap (λ o. in_file path o >>= then) fault ∙ ap Err (sym tells)

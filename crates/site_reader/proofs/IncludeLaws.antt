@@ -22,7 +22,7 @@ use Rattle.site_reader.specs.Lawful.{Differ}
 use Rattle.site_reader.specs.Placing.{File, Placed, placed}
 use Rattle.site_reader.specs.Sites as sites
 use Rattle.site_reader.proofs.Differing.{differ, file_once, itself, named, one, same}
-use Rattle.site_reader.proofs.Weights.{each_adds, file_found, found_before, found_value, outcome_value, weight, weight-append, weight-map, weight_le}
+use Rattle.site_reader.proofs.Weights.{each_adds, file_found, found_before, found_value, weight, weight-append, weight-map, weight_le}
 
 -- ---- which files are includes
 
@@ -98,7 +98,7 @@ included : (f : File) (made : IncludeFile) → ◌≡◌ {A = Outcome IncludeFil
 included f made e = by (is_utf8 f.1) e
   where
     by : (b : Bool) → ◌≡◌ {A = Outcome IncludeFile} (if b then Ok (record { name = behind (codes "_includes/") f.0; body = f.1 }) else Err (0, fault.NotUtf8)) (Ok made) → behind (codes "_includes/") f.0 ≡ made.name
-    by true is = ap (λ (i : IncludeFile). i.name) (outcome_value _ made is)
+    by true is = ap (λ (i : IncludeFile). i.name) (found_value _ made is)
     by false is = absurd (cc (is))
 
 module _ (q : List ℕ) where

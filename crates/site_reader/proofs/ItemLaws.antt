@@ -17,24 +17,6 @@ use Rattle.site_reader.specs.declared.rank.Rank.{Rank}
 use Rattle.site_reader.specs.declared.site_item.SiteItem.{SiteItem}
 use Rattle.site_reader.proofs.Weights.{each_adds, found_before, found_value, weight, weight-append, weight-insert_entry, weight-map}
 
-pub rank_path : (config : Config) (k : Kind) (path : List ℕ) (moment : Option ℤ) → (rank config k path moment).path ≡ path
-rank_path config kind.Page path moment = refl
-rank_path config kind.Post path (Some moment) = refl
-rank_path config kind.Post path None = refl
-rank_path config kind.Draft path (Some moment) = refl
-rank_path config kind.Draft path None = refl
-rank_path config (kind.Document n) path (Some moment) = refl
-rank_path config (kind.Document n) path None = refl
-
-pub rank_group : (config : Config) (k : Kind) (path : List ℕ) (moment : Option ℤ) → (rank config k path moment).group ≡ group_of config k
-rank_group config kind.Page path moment = refl
-rank_group config kind.Post path (Some moment) = refl
-rank_group config kind.Post path None = refl
-rank_group config kind.Draft path (Some moment) = refl
-rank_group config kind.Draft path None = refl
-rank_group config (kind.Document n) path (Some moment) = refl
-rank_group config (kind.Document n) path None = refl
-
 module _ (w : List ℕ → ℕ) where
   abbrev ranks : Ranked → ℕ
   ranks made = weight (λ e. w e.0.path) made
@@ -42,7 +24,7 @@ module _ (w : List ℕ → ℕ) where
   with_item_adds : (config : Config) (k : Kind) (path : List ℕ) (made : Option Item) (ranked : Ranked) → ranks (with_item config k path made ranked) ≤ ranks ranked + w path
   with_item_adds config k path None ranked = omega arith
   with_item_adds config k path (Some made) ranked =
-      omega (arith, ap w (rank_path config k path made.moment), weight-insert_entry rank_cmp (λ r. w r.path) (rank config k path made.moment) made ranked)
+      omega (arith, weight-insert_entry rank_cmp (λ r. w r.path) (rank config k path made.moment) made ranked)
 
   add_kind_adds : (config : Config) (scopes : List Scope) (now : ℤ) (future : Bool) (f : File) (k : Option Kind) (ranked more : Ranked)
       → sites.add_kind config scopes now future f k ranked ≡ Ok more → ranks more ≤ ranks ranked + w f.0

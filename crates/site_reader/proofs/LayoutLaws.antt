@@ -21,7 +21,7 @@ use Rattle.site_reader.specs.Lawful.{Differ, HasHash}
 use Rattle.site_reader.specs.Placing.{File, Placed}
 use Rattle.site_reader.specs.Sites as sites
 use Rattle.site_reader.proofs.Differing.{differ, named, once_in, tied}
-use Rattle.site_reader.proofs.Weights.{each_keeps, file_found, found_before, found_value, outcome_before, outcome_value, weight}
+use Rattle.site_reader.proofs.Weights.{each_keeps, file_found, found_before, found_value, weight}
 
 order : IsTotalOrder path_cmp
 order = nat_list_cmp_total
@@ -94,8 +94,8 @@ has_hash path bytes made e = by (is_utf8 bytes) e
   where
     by : (b : Bool) → (if b then file.layout_of_text path bytes else Err (0, fault.NotUtf8)) ≡ Ok made → HasHash made
     by true is =
-        let own = outcome_before (own_variables bytes) _ made is in
-        subst HasHash (outcome_value (file.layout_with path bytes own.0) made own.2) (own.0, refl)
+        let own = found_before (own_variables bytes) _ made is in
+        subst HasHash (found_value (file.layout_with path bytes own.0) made own.2) (own.0, refl)
     by false is = absurd (cc (is))
 
 record InOrder (es : Layouts) : Type 0 where

@@ -1,17 +1,14 @@
 -- The order of ranks: two that tie are one.
-use Rattle.std.proofs.Common.{◌≡◌, true, false, Ordering, Less, Equal, Greater, refl}
-use Rattle.std.specs.Cmp.{IsTotalOrder, bool_cmp_total}
+use Rattle.std.proofs.Common.{◌≡◌, ℕ, ℤ, pos, List, [], Ordering, Less, Equal, Greater, refl, ap, subst}
+use Rattle.std.specs.Cmp.{IsTotalOrder}
 use Rattle.std.specs.Cmp.Lexicographic.{nat_list_cmp_total, slice_cmp}
 use Rattle.std.specs.FinMap.{IsAntisymmetric, int_cmp-IsAntisymmetric, nat_cmp-IsAntisymmetric, slice_cmp-IsAntisymmetric}
-use Rattle.std.specs.Ordering.{bool_cmp, int_cmp, nat_cmp, ordering_then}
+use Rattle.std.specs.Ordering.{int_cmp, nat_cmp, ordering_then}
 use Rattle.std.proofs.lemmas.Cmp.{int_cmp_total, nat_cmp_total, on_total, then_total}
-use Rattle.site_reader.specs.Ranks.{rank_cmp}
+use Rattle.site_reader.specs.Ranks.{place_cmp, rank_cmp}
+use Rattle.site_reader.specs.declared.rank.GroupPlace.{GroupPlace}
+use Rattle.site_reader.specs.declared.rank.GroupPlace.TheVariants as place
 use Rattle.site_reader.specs.declared.rank.Rank.{Rank}
-
-pub rank_total : IsTotalOrder rank_cmp
-rank_total =
-    then_total (on_total (λ (r : Rank). r.group) nat_cmp_total) (then_total (on_total (λ (r : Rank). r.undated) bool_cmp_total) (then_total (on_total (λ (r : Rank). r.moment) int_cmp_total)
-    (then_total (on_total (λ (r : Rank). r.name) nat_list_cmp_total) (on_total (λ (r : Rank). r.path) nat_list_cmp_total))))
 
 first : (a b : Ordering) → ordering_then a b ≡ Equal → a ≡ Equal
 first Less b e = e
@@ -23,20 +20,64 @@ later Less b e = absurd (cc (e))
 later Equal b e = e
 later Greater b e = absurd (cc (e))
 
-same_bool : IsAntisymmetric bool_cmp
-same_bool true true e = refl
-same_bool false false e = refl
-same_bool true false e = absurd (cc (e))
-same_bool false true e = absurd (cc (e))
+-- a place by three keys that are compared one after another
+kind_of : GroupPlace → ℕ
+kind_of (place.Dated moment) = 0
+kind_of place.Undated = 1
+kind_of (place.Page name) = 2
+
+moment_of : GroupPlace → ℤ
+moment_of (place.Dated moment) = moment
+moment_of place.Undated = pos 0
+moment_of (place.Page name) = pos 0
+
+name_of : GroupPlace → List ℕ
+name_of (place.Dated moment) = []
+name_of place.Undated = []
+name_of (place.Page name) = name
+
+behind_kind : GroupPlace → GroupPlace → Ordering
+behind_kind a b = ordering_then (int_cmp (moment_of a) (moment_of b)) (slice_cmp nat_cmp (name_of a) (name_of b))
+
+then_equal : (o : Ordering) → ordering_then o Equal ≡ o
+then_equal Less = refl
+then_equal Equal = refl
+then_equal Greater = refl
+
+by_keys : (a b : GroupPlace) → ordering_then (nat_cmp (kind_of a) (kind_of b)) (behind_kind a b) ≡ place_cmp a b
+by_keys (place.Dated a) (place.Dated b) = then_equal (int_cmp a b)
+by_keys (place.Dated a) place.Undated = refl
+by_keys (place.Dated a) (place.Page n) = refl
+by_keys place.Undated (place.Dated b) = refl
+by_keys place.Undated place.Undated = refl
+by_keys place.Undated (place.Page n) = refl
+by_keys (place.Page m) (place.Dated b) = refl
+by_keys (place.Page m) place.Undated = refl
+by_keys (place.Page m) (place.Page n) = refl
+
+place_total : IsTotalOrder place_cmp
+place_total =
+    subst IsTotalOrder (λ i a b. by_keys a b i)
+    (then_total (on_total kind_of nat_cmp_total) (then_total (on_total moment_of int_cmp_total) (on_total name_of nat_list_cmp_total)))
+
+place_same : IsAntisymmetric place_cmp
+place_same (place.Dated a) (place.Dated b) e = ap place.Dated (int_cmp-IsAntisymmetric a b e)
+place_same (place.Dated a) place.Undated e = absurd (cc (e))
+place_same (place.Dated a) (place.Page n) e = absurd (cc (e))
+place_same place.Undated (place.Dated b) e = absurd (cc (e))
+place_same place.Undated place.Undated e = refl
+place_same place.Undated (place.Page n) e = absurd (cc (e))
+place_same (place.Page m) (place.Dated b) e = absurd (cc (e))
+place_same (place.Page m) place.Undated e = absurd (cc (e))
+place_same (place.Page m) (place.Page n) e = ap place.Page (slice_cmp-IsAntisymmetric nat_cmp-IsAntisymmetric m n e)
+
+pub rank_total : IsTotalOrder rank_cmp
+rank_total = then_total (on_total (λ (r : Rank). r.group) nat_cmp_total) (then_total (on_total (λ (r : Rank). r.place) place_total) (on_total (λ (r : Rank). r.path) nat_list_cmp_total))
 
 pub rank_same : IsAntisymmetric rank_cmp
 rank_same a b e =
     let behind_group = later (nat_cmp a.group b.group) _ e in
-    let behind_dates = later (bool_cmp a.undated b.undated) _ behind_group in
-    let behind_moment = later (int_cmp a.moment b.moment) _ behind_dates in
     let group = nat_cmp-IsAntisymmetric a.group b.group (first _ _ e) in
-    let undated = same_bool a.undated b.undated (first _ _ behind_group) in
-    let moment = int_cmp-IsAntisymmetric a.moment b.moment (first _ _ behind_dates) in
-    let name = slice_cmp-IsAntisymmetric nat_cmp-IsAntisymmetric a.name b.name (first _ _ behind_moment) in
-    let path = slice_cmp-IsAntisymmetric nat_cmp-IsAntisymmetric a.path b.path (later (slice_cmp nat_cmp a.name b.name) _ behind_moment) in
-    λ i. record { group = group i; undated = undated i; moment = moment i; name = name i; path = path i }
+    let place = place_same a.place b.place (first _ _ behind_group) in
+    let path = slice_cmp-IsAntisymmetric nat_cmp-IsAntisymmetric a.path b.path (later (place_cmp a.place b.place) _ behind_group) in
+    λ i. record { group = group i; place = place i; path = path i }

@@ -8,6 +8,7 @@ use Rattle.std.specs.Prelude.{ℤ, ◌==◌}
 use Rattle.std.proofs.Common.{inl, inr}
 use Rattle.std.specs.Str.{bytes_eq, is_utf8}
 use Rattle.std.proofs.lemmas.List.Elements.{All-from_recursion}
+use Rattle.site_base.specs.Chains.{◌>>=◌}
 use Rattle.site_base.specs.Plain.{Plain, nil, bool, hash, site_item, text, Pairs, no_pairs, pair, get, set}
 use Rattle.site_base.specs.declared.faults.FaultKind.TheVariants as fault
 use Rattle.site_base.proofs.Entries.{same_text, text_same}
@@ -20,7 +21,7 @@ use Rattle.site_items.specs.Defaults.{variable, variables}
 use Rattle.site_items.specs.Extensions.{output_ext}
 use Rattle.site_items.specs.Items as of
 use Rattle.site_items.specs.Matter as matter
-use Rattle.site_items.specs.Outcomes.{Outcome, ◌>>=◌}
+use Rattle.site_items.specs.Outcomes.{Outcome}
 use Rattle.site_items.specs.declared.item.Item.{Item}
 use Rattle.site_items.specs.declared.kind.Kind.{Kind}
 use Rattle.site_items.specs.declared.kind.Kind.TheVariants as kind
@@ -32,9 +33,8 @@ use Rattle.site_reader.specs.Ranks.{Ranked, group_of, rank, rank_cmp, with_item}
 use Rattle.site_reader.specs.Sites as sites
 use Rattle.site_reader.specs.declared.rank.Rank.{Rank}
 use Rattle.site_reader.specs.declared.site_item.SiteItem.{SiteItem}
-use Rattle.site_reader.proofs.ItemLaws.{rank_group, rank_path}
 use Rattle.site_reader.proofs.RankOrder.{rank_same}
-use Rattle.site_reader.proofs.Weights.{each_keeps, file_found, found_before, found_value, outcome_before, outcome_value}
+use Rattle.site_reader.proofs.Weights.{each_keeps, file_found, found_before, found_value}
 
 -- ---- what stands at a key
 
@@ -159,19 +159,19 @@ module _ (config : Config) (now : ℤ) (future : Bool) (k : Kind) (path : List �
   Named given = of.kind_named config.timezone k (stem (file_name path)) given
 
   nothing : ◌≡◌ {A = Outcome (Option Item)} (Ok None) (Ok (Some made)) → ⊥
-  nothing e = absurd (cc (outcome_value None (Some made) e))
+  nothing e = absurd (cc (found_value None (Some made) e))
 
   at_address : (moment : Option ℤ) (given : Pairs) (text_body ext address : List ℕ) → Makes (of.item_at config k path moment (Named given) text_body ext address) → IsKnown config (group_of config k) path made
   at_address moment given text_body ext address e =
-      let dest = outcome_before (dest_of config k address ext) _ (Some made) e in
-      let is = ap (λ (o : Option Item). unwrap_or o made) (outcome_value _ (Some made) dest.2) in
+      let dest = found_before (dest_of config k address ext) _ (Some made) e in
+      let is = ap (λ (o : Option Item). unwrap_or o made) (found_value _ (Some made) dest.2) in
       let own = of.placed path address (Named given) in
       subst (IsKnown config (group_of config k) path) is (known_kind path address config k moment own (known_placed path address (Named given)), record { kind = k; in_group = refl; given = given; moment = moment; are = refl })
 
   built : (moment : Option ℤ) (text_body ext : List ℕ) (given : Pairs) → Makes (of.built_with config k path moment text_body ext (Named given)) → IsKnown config (group_of config k) path made
   built moment text_body ext given e =
-      let t = outcome_before (template config ext (stem (file_name path)) k (variable (codes "permalink") (Named given))) _ (Some made) e in
-      let address = outcome_before (found_url _) (of.item_at config k path moment (Named given) text_body ext) (Some made) t.2 in
+      let t = found_before (template config ext (stem (file_name path)) k (variable (codes "permalink") (Named given))) _ (Some made) e in
+      let address = found_before (found_url _) (of.item_at config k path moment (Named given) text_body ext) (Some made) t.2 in
       at_address moment given text_body ext address.0 address.2
 
   dated : (vars : Pairs) (text_body : List ℕ) (given : Option ℤ) → Makes (of.dated_item config now future k path vars text_body given) → IsKnown config (group_of config k) path made
@@ -189,15 +189,15 @@ module _ (config : Config) (now : ℤ) (future : Bool) (k : Kind) (path : List �
     where
       by : (b : Bool) → Makes (if b then given_date config.timezone (variable (codes "date") vars) >>= of.dated_item config now future k path vars text_body else Ok None) → IsKnown config (group_of config k) path made
       by true is =
-          let given = outcome_before (given_date config.timezone (variable (codes "date") vars)) (of.dated_item config now future k path vars text_body) (Some made) is in
+          let given = found_before (given_date config.timezone (variable (codes "date") vars)) (of.dated_item config now future k path vars text_body) (Some made) is in
           dated vars text_body given.0 given.2
       by false is = absurd (nothing is)
 
   in_text : (scopes : List Scope) (s : List ℕ) → Makes (of.text_item config scopes now future k path s) → IsKnown config (group_of config k) path made
   in_text scopes s e =
-      let own = outcome_before (matter.own_variables s) _ (Some made) e in
+      let own = found_before (matter.own_variables s) _ (Some made) e in
       let vars = variables scopes path (of.type_name config k) own.0 in
-      let told = outcome_before (of.is_published (variable (codes "published") vars)) (of.published_item config now future k path vars (matter.body s)) (Some made) own.2 in
+      let told = found_before (of.is_published (variable (codes "published") vars)) (of.published_item config now future k path vars (matter.body s)) (Some made) own.2 in
       published vars (matter.body s) told.0 told.2
 
   item_known : (scopes : List Scope) (bytes : List ℕ) → Makes (of.item config scopes now future k path bytes) → IsKnown config (group_of config k) path made
@@ -226,7 +226,7 @@ module _ (config : Config) (scopes : List Scope) (now : ℤ) (future : Bool) whe
   with_known k path None es known all = all
   with_known k path (Some item) es known all =
       known_inserted config (rank config k path item.moment) item es
-      (subst (λ g. IsKnown config g (rank config k path item.moment).path item) (sym (rank_group config k path item.moment)) (subst (λ p. IsKnown config (group_of config k) p item) (sym (rank_path config k path item.moment)) (known item refl))) all
+      (known item refl) all
 
   add_known : (f : File) (k : Option Kind) (made more : Ranked) → sites.add_kind config scopes now future f k made ≡ Ok more → AreKnown config made → AreKnown config more
   add_known f None made more e all = subst (AreKnown config) (found_value made more e) all

@@ -1,10 +1,12 @@
 -- What lists weigh, by a number for each element.
 use Rattle.std.proofs.Common.{subst, ◌≡◌, ℕ, ◌+◌, ◌≤◌, List, [], ◌∷◌, ◌++◌, length, map, Ok, Err, Less, Equal, Greater, Ordering, arith, refl, ap}
+use Rattle.std.specs.Prelude.{Result}
 use Rattle.std.specs.BTreeMap.{insert_entry}
 use Rattle.std.specs.Ordering.{match_ordering}
 use Rattle.std.specs.Result.{result_unwrap_or}
-use Rattle.site_items.specs.Outcomes.{Outcome, ◌>>=◌}
-use Rattle.site_reader.specs.Found.{Found, each, in_file, ◌>>◌}
+use Rattle.site_base.specs.Chains.{◌>>=◌}
+use Rattle.site_items.specs.Outcomes.{Outcome}
+use Rattle.site_reader.specs.Found.{Found, each, in_file}
 
 abbrev pub weight : {A : Type 0} → (A → ℕ) → List A → ℕ
 weight w [] = 0
@@ -41,20 +43,13 @@ module _ {K V : Type 0} (cmp : K → K → Ordering) (w : K → ℕ) (k : K) (v 
 
 -- ---- what is found
 
-pub found_value : {A : Type 0} (x y : A) → ◌≡◌ {A = Found A} (Ok x) (Ok y) → x ≡ y
-found_value {A} x y e = ap (λ (r : Found A). result_unwrap_or r x) e
-
-pub outcome_value : {A : Type 0} (x y : A) → ◌≡◌ {A = Outcome A} (Ok x) (Ok y) → x ≡ y
-outcome_value {A} x y e = ap (λ (r : Outcome A). result_unwrap_or r x) e
+pub found_value : {A E : Type 0} (x y : A) → ◌≡◌ {A = Result A E} (Ok x) (Ok y) → x ≡ y
+found_value {A} {E} x y e = ap (λ (r : Result A E). result_unwrap_or r x) e
 
 -- what is found at last was found of something found before
-pub found_before : {A B : Type 0} (found : Found A) (then : A → Found B) (last : B) → found >> then ≡ Ok last → (x : A) × (found ≡ Ok x) × (then x ≡ Ok last)
+pub found_before : {A B E : Type 0} (found : Result A E) (then : A → Result B E) (last : B) → found >>= then ≡ Ok last → (x : A) × (found ≡ Ok x) × (then x ≡ Ok last)
 found_before (Ok x) then last e = (x, refl, e)
 found_before (Err fault) then last e = absurd (cc (e))
-
-pub outcome_before : {A B : Type 0} (found : Outcome A) (then : A → Outcome B) (last : B) → found >>= then ≡ Ok last → (x : A) × (found ≡ Ok x) × (then x ≡ Ok last)
-outcome_before (Ok x) then last e = (x, refl, e)
-outcome_before (Err fault) then last e = absurd (cc (e))
 
 pub file_found : {A : Type 0} (path : List ℕ) (found : Outcome A) (x : A) → in_file path found ≡ Ok x → found ≡ Ok x
 file_found path (Ok y) x e = ap Ok (found_value y x e)

@@ -1,6 +1,7 @@
 -- The data tree: the values of data files under their folders and names. After Jekyll 4's manual, "Data Files".
 use Rattle.std.specs.Prelude.{ℕ, List, [], ◌∷◌, codes, Option, Some, None, is_some, Ok, Err, if◌then◌else◌}
 use Rattle.std.specs.Str.{is_utf8}
+use Rattle.site_base.specs.Chains.{◌>>=◌}
 use Rattle.site_base.specs.Path.{segments}
 use Rattle.site_base.specs.Plain.{Plain, hash, Pairs, no_pairs, get, set}
 use Rattle.site_base.specs.declared.faults.FaultKind.TheVariants as fault
@@ -13,8 +14,8 @@ use Rattle.data_files.specs.declared.format.Format.{Format}
 use Rattle.data_files.specs.declared.format.Format.TheVariants as form
 use Rattle.site_files.specs.declared.place.Place.TheVariants as place
 use Rattle.site_items.specs.Addresses.{behind, without_extension}
-use Rattle.site_items.specs.Outcomes.{Outcome, ◌>>=◌}
-use Rattle.site_reader.specs.Found.{Found, ◌>>◌, each, in_file}
+use Rattle.site_items.specs.Outcomes.{Outcome}
+use Rattle.site_reader.specs.Found.{Found, each, in_file}
 use Rattle.site_reader.specs.Placing.{File, Placed}
 
 abbrev pub of_yaml : Reading Plain → Outcome Plain
@@ -67,7 +68,7 @@ with_found names None tree = tree
 with_found names (Some v) tree = with_value names v tree
 
 abbrev pub add_file : File → Pairs → Found Pairs
-add_file file tree = in_file file.0 (data_value file.0 file.1) >> λ found. Ok (with_found (data_names file.0) found tree)
+add_file file tree = in_file file.0 (data_value file.0 file.1) >>= λ found. Ok (with_found (data_names file.0) found tree)
 
 -- what a file adds to the tree, where it is a data file
 abbrev pub add_data : Placed → Pairs → Found Pairs

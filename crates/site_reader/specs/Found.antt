@@ -1,5 +1,6 @@
 -- What is found in the files of a site: a value, or the site's first fault.
 use Rattle.std.specs.Prelude.{◌≡◌, ℕ, List, [], ◌∷◌, Result, Ok, Err}
+use Rattle.site_base.specs.Chains.{◌>>=◌}
 use Rattle.site_base.specs.declared.faults.SiteFault.{SiteFault}
 use Rattle.site_items.specs.Outcomes.{Outcome}
 use Rattle.site_items.specs.declared.item_error.ItemError.{ItemError}
@@ -15,16 +16,10 @@ abbrev pub in_file : {A : Type 0} → List ℕ → Outcome A → Found A
 in_file path (Ok x) = Ok x
 in_file path (Err f) = Err (record { path = path; line = f.0; kind = f.1 })
 
--- what is found first, and where that is no fault what is found then
-infixl 10 ◌>>◌
-abbrev pub ◌>>◌ : {A B : Type 0} → Found A → (A → Found B) → Found B
-(Ok x) >> f = f x
-(Err e) >> f = Err e
-
 -- what the files make one after another, up to the first fault
 unfoldable pub each : {F S : Type 0} → (F → S → Found S) → List F → S → Found S
 each step [] made = Ok made
-each step (file ∷ files) made = step file made >> each step files
+each step (file ∷ files) made = step file made >>= each step files
 
 -- the error of a file, by its path, unless memory ran out
 abbrev pub Tells : List ℕ → ItemError → SiteError → Type 0

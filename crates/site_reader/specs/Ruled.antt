@@ -1,8 +1,9 @@
 -- The parts of the reading of items, by what holds for all of them.
 use Rattle.std.specs.Prelude.{List, [], Some, map}
+use Rattle.site_base.specs.Chains.{◌>>=◌}
 use Rattle.site_items.specs.declared.item.Rules.{Rules}
 use Rattle.site_items.specs.declared.kind.Kind.{Kind}
-use Rattle.site_reader.specs.Found.{Found, each, ◌>>◌}
+use Rattle.site_reader.specs.Found.{Found, each}
 use Rattle.site_reader.specs.Placing.{File, Placed}
 use Rattle.site_reader.specs.Ranks.{Ranked}
 use Rattle.site_reader.specs.Sites.{add_item, add_kind, items_in_order}
@@ -18,4 +19,4 @@ abbrev pub ruled_ranks : Rules → List Placed → Found Ranked
 ruled_ranks rules files = each (ruled_item rules) files []
 
 abbrev pub ruled_items : Rules → List Placed → Found (List SiteItem)
-ruled_items rules files = ruled_ranks rules files >> items_in_order rules.config.now
+ruled_items rules files = ruled_ranks rules files >>= items_in_order rules.config.now

@@ -5,6 +5,7 @@ use Rattle.std.specs.BTreeMap.{insert_entry}
 use Rattle.std.specs.FinMap.{entries, get}
 use Rattle.std.specs.Map.{values_of}
 use Rattle.std.specs.Str.{is_utf8}
+use Rattle.site_base.specs.Chains.{◌>>=◌}
 use Rattle.site_base.specs.Faults.{fault_at}
 use Rattle.site_base.specs.Places.{Files, path_cmp}
 use Rattle.site_base.specs.Plain.{Pairs, hash}
@@ -21,13 +22,13 @@ use Rattle.site_items.specs.Defaults.{by_strength}
 use Rattle.site_items.specs.Files as file
 use Rattle.site_items.specs.Items.{item}
 use Rattle.site_items.specs.Matter as matter
-use Rattle.site_items.specs.Outcomes.{Outcome, ◌>>=◌}
+use Rattle.site_items.specs.Outcomes.{Outcome}
 use Rattle.site_items.specs.declared.include_file.IncludeFile.{IncludeFile}
 use Rattle.site_items.specs.declared.kind.Kind.{Kind}
 use Rattle.site_items.specs.declared.layout_file.LayoutFile.{LayoutFile}
 use Rattle.site_items.specs.declared.static_file.StaticFile.{StaticFile}
 use Rattle.site_reader.specs.Data.{data_tree}
-use Rattle.site_reader.specs.Found.{Found, ◌>>◌, each, in_file}
+use Rattle.site_reader.specs.Found.{Found, each, in_file}
 use Rattle.site_reader.specs.Neighbours.{site_items}
 use Rattle.site_reader.specs.Outputs.{first_clash}
 use Rattle.site_reader.specs.Placing.{File, Placed, as_copy, as_item, builds_drafts, builds_future, placed}
@@ -69,14 +70,14 @@ abbrev pub with_layout : LayoutFile → List (List ℕ × LayoutFile) → List (
 with_layout made layouts = insert_entry path_cmp layouts made.name made
 
 abbrev pub read_layout : File → List (List ℕ × LayoutFile) → Found (List (List ℕ × LayoutFile))
-read_layout f layouts = in_file f.0 (file.layout f.0 f.1) >> λ made. Ok (with_layout made layouts)
+read_layout f layouts = in_file f.0 (file.layout f.0 f.1) >>= λ made. Ok (with_layout made layouts)
 
 abbrev pub add_layout : Placed → List (List ℕ × LayoutFile) → Found (List (List ℕ × LayoutFile))
 add_layout (place.Layout, f) layouts = read_layout f layouts
 add_layout (other, f) layouts = Ok layouts
 
 abbrev pub read_include : File → List IncludeFile → Found (List IncludeFile)
-read_include f includes = in_file f.0 (file.include f.0 f.1) >> λ made. Ok (includes ++ made ∷ [])
+read_include f includes = in_file f.0 (file.include f.0 f.1) >>= λ made. Ok (includes ++ made ∷ [])
 
 abbrev pub add_include : Placed → List IncludeFile → Found (List IncludeFile)
 add_include (place.Include, f) includes = read_include f includes
@@ -92,7 +93,7 @@ copies config (f ∷ fs) = copied config f.1.0 (as_copy f) ++ copies config fs
 
 -- the layouts in the order of their names
 abbrev pub layouts : List Placed → Found (List LayoutFile)
-layouts files = each add_layout files [] >> λ made. Ok (values_of made)
+layouts files = each add_layout files [] >>= λ made. Ok (values_of made)
 
 abbrev pub includes : List Placed → Found (List IncludeFile)
 includes files = each add_include files []
@@ -102,7 +103,7 @@ includes files = each add_include files []
 abbrev pub add_kind : Config → List Scope → ℤ → Bool → File → Option Kind → Ranked → Found Ranked
 add_kind config scopes now future f None items = Ok items
 add_kind config scopes now future f (Some k) items =
-    in_file f.0 (item config scopes now future k f.0 f.1) >> λ made. Ok (with_item config k f.0 made items)
+    in_file f.0 (item config scopes now future k f.0 f.1) >>= λ made. Ok (with_item config k f.0 made items)
 
 abbrev pub add_item : Config → List Scope → ℤ → Bool → Placed → Ranked → Found Ranked
 add_item config scopes now future f items = add_kind config scopes now future f.1 (as_item f) items
@@ -112,7 +113,7 @@ abbrev pub items_in_order : Config → Ranked → Found (List SiteItem)
 items_in_order config made = Ok (site_items (length config.collections) None made)
 
 abbrev pub items_by : List Scope → Config → ℤ → Bool → List Placed → Found (List SiteItem)
-items_by scopes config now future files = each (add_item config scopes now future) files [] >> items_in_order config
+items_by scopes config now future files = each (add_item config scopes now future) files [] >>= items_in_order config
 
 abbrev pub items : Config → ℤ → Bool → List Placed → Found (List SiteItem)
 items config now future files = items_by (by_strength config.defaults) config now future files
@@ -129,10 +130,10 @@ clash_free site = no_clash site (first_clash site.items site.statics)
 -- the site of files in their places
 abbrev pub placed_site : Config → ℤ → Bool → List Placed → Found Site
 placed_site config now future files =
-    data_tree files >> λ tree.
-    layouts files >> λ layouts.
-    includes files >> λ includes.
-    items config now future files >> λ items.
+    data_tree files >>= λ tree.
+    layouts files >>= λ layouts.
+    includes files >>= λ includes.
+    items config now future files >>= λ items.
     clash_free (record {
       config = config;
       items = items;
@@ -147,4 +148,4 @@ abbrev pub site_with : Files → ℤ → Settings → Config → Found Site
 site_with files now settings c = placed_site c now (builds_future c settings) (map (placed c (builds_drafts c settings)) (entries files))
 
 unfoldable pub site : Files → ℤ → Settings → Found Site
-site files now settings = config files >> site_with files now settings
+site files now settings = config files >>= site_with files now settings

@@ -4,8 +4,7 @@ ghost use Rattle.site_reader.specs.Placing.{as_copy, seen};
 ghost use Rattle.site_reader.specs.Sites.{copied, copies};
 
 use crate::placing::PlacedFile;
-use crate::sequence::Sequence;
-use site_base::Memory;
+use site_base::{Memory, Sequence};
 use site_config::Config;
 use site_items::StaticFile;
 use std::alloc::Global;

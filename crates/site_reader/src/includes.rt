@@ -5,9 +5,8 @@ ghost use Rattle.site_reader.specs.Placing.{seen};
 ghost use Rattle.site_reader.specs.Sites.{add_include, includes, read_include};
 
 use crate::placing::PlacedFile;
-use crate::sequence::Sequence;
 use crate::site_error::{SiteError, error_at};
-use site_base::{SharedBytes, SitePath};
+use site_base::{Sequence, SharedBytes, SitePath};
 use site_files::Place;
 use site_items::IncludeFile;
 use std::alloc::Global;

@@ -10,10 +10,9 @@ ghost use Rattle.site_reader.specs.Ruled.{ruled_item, ruled_items, ruled_kind, r
 use crate::neighbours::site_items;
 use crate::placing::PlacedFile;
 use crate::rank::Rank;
-use crate::sequence::Sequence;
 use crate::site_error::{SiteError, error_at};
 use crate::site_item::SiteItem;
-use site_base::{Memory, SharedBytes, SitePath};
+use site_base::{Memory, Sequence, SharedBytes, SitePath};
 use site_config::Config;
 use site_items::{Item, Kind, Rules};
 use std::alloc::Global;

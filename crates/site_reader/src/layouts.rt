@@ -6,9 +6,9 @@ ghost use Rattle.site_reader.specs.Sites.{add_layout, layouts, read_layout, with
 
 use crate::name::Name;
 use crate::placing::PlacedFile;
-use crate::sequence::{Sequence, values};
 use crate::site_error::{SiteError, error_at};
-use site_base::{Memory, SharedBytes, SitePath};
+use crate::values::values;
+use site_base::{Memory, Sequence, SharedBytes, SitePath};
 use site_files::Place;
 use site_items::LayoutFile;
 use std::alloc::Global;

@@ -14,14 +14,13 @@ mod outputs;
 mod placing;
 mod rank;
 mod reading;
-mod sequence;
 mod site;
 mod site_error;
 mod site_item;
 mod texts;
+mod values;
 
 pub use reading::read_site;
-pub use sequence::Sequence;
 pub use site::{Includes, Layouts, Site, SiteItems, Statics};
 pub use site_error::SiteError;
 pub use site_item::SiteItem;

@@ -1,5 +1,5 @@
 // Names in their order.
-ghost use Rattle.std.specs.Prelude.{◌≡◌, IfOk, [], nat_eq, Some};
+ghost use Rattle.std.specs.Prelude.{◌≡◌, IfOk, nat_eq, Some};
 ghost use Rattle.std.specs.Ordering.{nat_cmp};
 ghost use Rattle.std.specs.Cmp.{partial_equiv_from_equiv};
 ghost use Rattle.std.specs.Cmp.Lexicographic.{pointwise, slice_cmp, nat_list_eq_equiv, nat_list_cmp_total, texts_ties, texts_po};
@@ -10,7 +10,7 @@ use std::alloc::Global;
 use std::cmp::Ordering;
 use std::marker::Model;
 
-/// The name of a file or of a layout, or none. Names are ordered by their bytes.
+/// The name of a file or of a layout. Names are ordered by their bytes.
 #[derive(Drop)]
 pub(crate) struct Name {
     text: Text,
@@ -25,15 +25,6 @@ impl Model for Name {
 }
 
 impl Name {
-    /// No name; it takes no memory.
-    pub(crate) fn none(alloc: Global) -> Name
-        ensures { result ≡ [] }
-    {
-        Name {
-            text: Text::new(alloc),
-        }
-    }
-
     pub(crate) fn copy(alloc: Global, name: &str) -> Result<Name, Memory>
         ensures { IfOk result (λ made. made ≡ name.now) }
     {

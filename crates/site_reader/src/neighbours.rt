@@ -6,9 +6,8 @@ ghost use Rattle.site_base.specs.View.{plain};
 ghost use Rattle.site_reader.specs.Neighbours.{first_rank, neighbour, site_item_of, site_items};
 
 use crate::rank::{Rank, document_groups};
-use crate::sequence::Sequence;
 use crate::site_item::SiteItem;
-use site_base::{Hash, ItemName, Memory, Text, Value};
+use site_base::{Hash, ItemName, Memory, Sequence, Text, Value};
 use site_config::Config;
 use site_items::Item;
 use std::alloc::Global;

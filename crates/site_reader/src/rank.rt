@@ -1,6 +1,6 @@
 // The order in which items are rendered.
 ghost use Rattle.std.specs.Prelude.{◌≡◌, IfOk, length};
-ghost use Rattle.site_reader.specs.Ranks.{dated_rank, group_of, page_rank, rank};
+ghost use Rattle.site_reader.specs.Ranks.{group_of, group_place, rank};
 
 use crate::name::Name;
 use site_base::{Memory, SitePath};
@@ -14,13 +14,19 @@ use std::alloc::Global;
 pub(crate) struct Rank {
     /// The place of its collection; behind all of them, that of pages.
     pub(crate) group: u64,
-    /// Documents without a date stand behind the others.
-    pub(crate) undated: bool,
-    /// The moment of a document's date.
-    pub(crate) moment: i64,
-    /// The file name of a page.
-    pub(crate) name: Name,
+    pub(crate) place: GroupPlace,
     pub(crate) path: SitePath,
+}
+
+/// Where an item stands in its group, before its path decides.
+#[derive(PartialEq, Eq, PartialOrd, Ord, Drop)]
+pub(crate) enum GroupPlace {
+    /// A document, by the moment of its date.
+    Dated(i64),
+    /// A document without a date, behind the others.
+    Undated,
+    /// A page, by its file name.
+    Page(Name),
 }
 
 impl Rank {
@@ -34,50 +40,28 @@ impl Rank {
     ) -> Result<Rank, Memory>
         ensures { IfOk result (λ made. made ≡ rank config.now kind path.now moment) }
     {
-        let group = group_of(config, kind);
-        match kind {
-            Kind::Page => Rank::of_page(alloc, group, path),
-            _ => Rank::of_document(alloc, group, path, moment),
-        }
-    }
-
-    fn of_page(alloc: Global, group: u64, path: &SitePath) -> Result<Rank, Memory>
-        ensures { IfOk result (λ made. made ≡ page_rank group path.now) }
-    {
         Ok(Rank {
-            group,
-            undated: false,
-            moment: 0,
-            name: Name::copy(alloc, file_name(path.text()))?,
+            group: group_of(config, kind),
+            place: GroupPlace::of(alloc, kind, path, moment)?,
             path: path.copy(alloc)?,
         })
     }
+}
 
-    fn of_document(
+impl GroupPlace {
+    fn of(
         alloc: Global,
-        group: u64,
+        kind: Kind,
         path: &SitePath,
         moment: Option<i64>,
-    ) -> Result<Rank, Memory>
-        ensures { IfOk result (λ made. made ≡ dated_rank group path.now moment) }
+    ) -> Result<GroupPlace, Memory>
+        ensures { IfOk result (λ made. made ≡ group_place kind path.now moment) }
     {
-        let path = path.copy(alloc)?;
-        Ok(match moment {
-            Some(moment) => Rank {
-                group,
-                undated: false,
-                moment,
-                name: Name::none(alloc),
-                path,
-            },
-            None => Rank {
-                group,
-                undated: true,
-                moment: 0,
-                name: Name::none(alloc),
-                path,
-            },
-        })
+        match (kind, moment) {
+            (Kind::Page, _) => Ok(GroupPlace::Page(Name::copy(alloc, file_name(path.text()))?)),
+            (_, Some(moment)) => Ok(GroupPlace::Dated(moment)),
+            (_, None) => Ok(GroupPlace::Undated),
+        }
     }
 }
 

@@ -1,7 +1,6 @@
 // A site as data.
-use crate::sequence::Sequence;
 use crate::site_item::SiteItem;
-use site_base::Value;
+use site_base::{Sequence, Value};
 use site_config::Config;
 use site_items::{IncludeFile, LayoutFile, StaticFile};
 

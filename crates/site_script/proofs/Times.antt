@@ -6,6 +6,7 @@ use Rattle.std.specs.List.{list_any, starts_with, before_last, after_last}
 use Rattle.std.specs.Option.{is_some, option_map_or}
 use Rattle.std.specs.Str.{bytes_eq, is_utf8}
 use Rattle.std.specs.Str.Parse.{digits_value}
+use Rattle.site_base.specs.Limits.{last_moment, most_bytes}
 use Rattle.site_base.specs.Path.{path_refusal}
 use Rattle.site_script.specs.Line.{HasTime}
 use Rattle.site_script.specs.Number.{is_number, number_up_to}
@@ -22,18 +23,18 @@ put_time : (path : List ℕ) (count : Option ℕ) → HasTime (option_map_or (λ
 put_time path None = tt
 put_time path (Some n) = tt
 
-number_time : (b : Bool) (n : ℕ) → (b ≡ true → nat_le n 253402214399 ≡ true) → HasTime (option_map_or (λ n. head.Time (pos n)) (cond b (Some n) None) (head.Bad kind.Seconds))
+number_time : (b : Bool) (n : ℕ) → (b ≡ true → nat_le n last_moment ≡ true) → HasTime (option_map_or (λ n. head.Time (pos n)) (cond b (Some n) None) (head.Bad kind.Seconds))
 number_time true n h = h refl
 number_time false n h = tt
 
 time_time : (seconds : List ℕ) → HasTime (time_form seconds)
 time_time seconds =
-    number_time (is_number seconds && nat_le (digits_value 10 seconds) 253402214399) (digits_value 10 seconds) (λ e. (and_parts (is_number seconds) (nat_le (digits_value 10 seconds) 253402214399) e).1)
+    number_time (is_number seconds && nat_le (digits_value 10 seconds) last_moment) (digits_value 10 seconds) (λ e. (and_parts (is_number seconds) (nat_le (digits_value 10 seconds) last_moment) e).1)
 
 put_form_time : (rest : List ℕ) → HasTime (put_form rest)
 put_form_time rest =
     either (list_any is_space rest) (put_of (before_last is_space rest) (after_last is_space rest)) (head.Bad kind.Unknown)
-    (either (is_some (path_refusal (before_last is_space rest))) (head.Bad kind.Path) _ tt (put_time (before_last is_space rest) (number_up_to 16777216 (after_last is_space rest)))) tt
+    (either (is_some (path_refusal (before_last is_space rest))) (head.Bad kind.Path) _ tt (put_time (before_last is_space rest) (number_up_to most_bytes (after_last is_space rest)))) tt
 
 long_time : (line : List ℕ) → HasTime (long_form line)
 long_time line =

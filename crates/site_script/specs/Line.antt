@@ -1,5 +1,6 @@
 -- The numbers of lines and of the kinds of bad lines.
 use Rattle.std.specs.Prelude.{◌≡◌, ℕ, ◌+◌, ◌-◌, ◌^◌, min, Bool, true, false, nat_le, ℤ, pos, negsuc}
+use Rattle.site_base.specs.Limits.{last_moment}
 use Rattle.site_script.specs.declared.head.Head.{Head}
 use Rattle.site_script.specs.declared.head.Head.TheVariants as head
 use Rattle.site_script.specs.declared.line.Line.{Line}
@@ -37,7 +38,7 @@ ends Build = false
 
 -- from the first second of 1970 to the last of the year 9999 that every offset can name
 abbrev pub is_moment : ℤ → Bool
-is_moment (pos seconds) = nat_le seconds 253402214399
+is_moment (pos seconds) = nat_le seconds last_moment
 is_moment (negsuc n) = false
 
 -- a line that sets the moment sets one of these

@@ -4,6 +4,7 @@ use Rattle.std.specs.Option.{option_map_or}
 use Rattle.std.specs.List.{list_any, starts_with, before_first, after_first, before_last, after_last}
 use Rattle.std.specs.Io.BufRead.{strip_last}
 use Rattle.std.specs.Str.{bytes_eq, is_utf8}
+use Rattle.site_base.specs.Limits.{last_moment, most_bytes}
 use Rattle.site_base.specs.Path.{path_refusal}
 use Rattle.site_script.specs.Line.{line_number}
 use Rattle.site_script.specs.Number.{number_up_to}
@@ -41,7 +42,7 @@ is_space b = b == 32
 -- a path, and a length that is at most a file's
 abbrev pub put_of : List ℕ → List ℕ → Head
 put_of path count = if is_some (path_refusal path) then head.Bad Path
-    else option_map_or (λ n. head.Put path n) (number_up_to 16777216 count) (head.Bad Length)
+    else option_map_or (λ n. head.Put path n) (number_up_to most_bytes count) (head.Bad Length)
 
 -- what follows `put `: a path, the last space, and a length
 abbrev pub put_form : List ℕ → Head
@@ -53,7 +54,7 @@ delete_form path = if is_some (path_refusal path) then head.Bad Path else head.D
 
 -- what follows `time `: seconds, at most those of the last moment
 abbrev pub time_form : List ℕ → Head
-time_form seconds = option_map_or (λ n. head.Time (pos n)) (number_up_to 253402214399 seconds) (head.Bad Seconds)
+time_form seconds = option_map_or (λ n. head.Time (pos n)) (number_up_to last_moment seconds) (head.Bad Seconds)
 
 -- a line of more than one word
 abbrev pub long_form : List ℕ → Head

@@ -20,7 +20,7 @@ pub(crate) fn read_body<I: ByteSource>(
         IfOk result (λ body. IsBody count text (option_map (λ bytes. bytes.items) body) (I.left input.new)) }
     ensures part { (text : List ℕ) → I.left input.old ≡ Some text →
         IfErr result (λ error. IsPartOfBody count text error (I.left input.new)) }
-    ensures cause { HasCauseOf ReadError.Failed (I.faults input.old) (I.faults input.new) result }
+    ensures cause { HasCauseOf ReadError.Failed (I.failures input.old) (I.failures input.new) result }
 {
     let mut block = [0u8; BLOCK];
     let mut bytes = Vec::new(alloc);
@@ -48,7 +48,7 @@ fn read_more<I: ByteSource>(
         IfErr result (λ error. IsPartOfRead (length block.old) text error (I.left input.new)) }
     ensures longer { IfOk result (λ count. length bytes.new.items ≡ length bytes.old.items + count) }
     ensures within { IfOk result (λ count. count ≤ length block.old) }
-    ensures cause { HasCauseOf ReadError.Failed (I.faults input.old) (I.faults input.new) result }
+    ensures cause { HasCauseOf ReadError.Failed (I.failures input.old) (I.failures input.new) result }
 {
     let count = match input.read(block) {
         Ok(count) => count,

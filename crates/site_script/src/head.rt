@@ -5,15 +5,11 @@ ghost use Rattle.site_script.specs.Reading.{IsPathOf};
 
 use crate::ScriptKind;
 use crate::number::read_number;
-use site_base::{Memory, PathError, SitePath};
+use site_base::{LAST_MOMENT, MOST_BYTES, Memory, PathError, SitePath};
 use std::alloc::Global;
 
-// The most bytes of a line's content, the most bytes of a file, and the last moment.
-const MAX_LINE: usize = 2048;
-
-const MAX_FILE: u64 = 16_777_216;
-
-const MAX_MOMENT: u64 = 253_402_214_399;
+// The most bytes of a line's content.
+const MOST_LINE_BYTES: usize = 2048;
 
 /// What the content of a line says; the bytes of a put follow it.
 #[derive(Drop)]
@@ -31,7 +27,7 @@ pub enum Head {
 pub(crate) fn read_head(alloc: Global, content: &[u8]) -> Result<Head, Memory>
     ensures { IfOk result (λ head. head ≡ head_of content.now) }
 {
-    if content.len() > MAX_LINE {
+    if content.len() > MOST_LINE_BYTES {
         return Ok(Head::Bad(ScriptKind::LongLine));
     }
     match str::from_utf8(content) {
@@ -81,7 +77,7 @@ fn read_put_of(alloc: Global, path: &str, count: &str) -> Result<Head, Memory>
     let Some(path) = read_path(alloc, path)? else {
         return Ok(Head::Bad(ScriptKind::Path));
     };
-    match read_number(count, MAX_FILE) {
+    match read_number(count, MOST_BYTES as u64) {
         Some(count) => Ok(Head::Put(path, count)),
         None => Ok(Head::Bad(ScriptKind::Length)),
     }
@@ -99,7 +95,7 @@ fn read_delete(alloc: Global, path: &str) -> Result<Head, Memory>
 fn read_time(seconds: &str) -> Head
     ensures { result ≡ time_form seconds.now }
 {
-    match read_number(seconds, MAX_MOMENT) {
+    match read_number(seconds, LAST_MOMENT as u64) {
         Some(seconds) => Head::Time(seconds as i64),
         None => Head::Bad(ScriptKind::Seconds),
     }

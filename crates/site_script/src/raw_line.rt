@@ -46,7 +46,7 @@ pub(crate) fn read_raw_line<I: ByteSource>(
         IfOk result (λ line. IsRawLine text line (I.left input.new)) }
     ensures part { (text : List ℕ) → I.left input.old ≡ Some text →
         IfErr result (λ error. IsPartOfLine text error (I.left input.new)) }
-    ensures cause { HasCauseOf ReadError.Failed (I.faults input.old) (I.faults input.new) result }
+    ensures cause { HasCauseOf ReadError.Failed (I.failures input.old) (I.failures input.new) result }
 {
     let mut bytes = Vec::new(alloc);
     for count in 0..MOST_BYTES + 1 {
@@ -75,7 +75,7 @@ pub(crate) fn read_raw_line<I: ByteSource>(
 fn next_byte<I: ByteSource>(input: &mut I) -> Result<Option<u8>, Failed>
     ensures byte { (text : List ℕ) → I.left input.old ≡ Some text → IfOk result (λ byte. IsNext text byte (I.left input.new)) }
     ensures kept { OnErr result (I.left input.new ≡ I.left input.old) }
-    ensures cause { HasCause (I.faults input.old) (I.faults input.new) result }
+    ensures cause { HasCause (I.failures input.old) (I.failures input.new) result }
 {
     let mut one = [0u8; 1];
     match input.read(&mut one) {

@@ -64,8 +64,8 @@ pub fn next_line<I: ByteSource>(alloc: Global, reader: &mut ScriptReader, input:
         (result ≡ Line.Eof) × (reader.new ≡ reader.old) × (input.new ≡ input.old) }
 
     // It fails only where the input does.
-    ensures later { I.faults input.old ≤ I.faults input.new }
-    ensures failed { result ≡ Line.Failed → Rose (I.faults input.old) (I.faults input.new) }
+    ensures later { I.failures input.old ≤ I.failures input.new }
+    ensures failed { result ≡ Line.Failed → Rose (I.failures input.old) (I.failures input.new) }
 {
     if reader.over {
         return Line::Eof;
@@ -91,8 +91,8 @@ fn read_line<I: ByteSource>(alloc: Global, number: u64, input: &mut I) -> Line
         ReadsFirst number text result (I.left input.new) }
     ensures bad { BearsNumber number result }
     ensures time { IsInTime result }
-    ensures later { I.faults input.old ≤ I.faults input.new }
-    ensures failed { result ≡ Line.Failed → Rose (I.faults input.old) (I.faults input.new) }
+    ensures later { I.failures input.old ≤ I.failures input.new }
+    ensures failed { result ≡ Line.Failed → Rose (I.failures input.old) (I.failures input.new) }
 {
     let raw = match read_raw_line(alloc, input) {
         Ok(Some(raw)) => raw,
@@ -116,8 +116,8 @@ fn finish<I: ByteSource>(alloc: Global, number: u64, head: Head, input: &mut I) 
         ReadsRest number head text result (I.left input.new) }
     ensures bad { BearsNumber number result }
     ensures time { IsInTime result }
-    ensures later { I.faults input.old ≤ I.faults input.new }
-    ensures failed { result ≡ Line.Failed → Rose (I.faults input.old) (I.faults input.new) }
+    ensures later { I.failures input.old ≤ I.failures input.new }
+    ensures failed { result ≡ Line.Failed → Rose (I.failures input.old) (I.failures input.new) }
 {
     match head {
         Head::Scan => Line::Scan,

@@ -10,7 +10,7 @@ use std::marker::Model;
 pub struct StdInput<R: Input + Drop> {
     rt: R,
     ahead: Ahead,
-    faults: u64,
+    failures: u64,
 }
 
 impl<R: Input + Drop> Model for StdInput<R> {
@@ -18,7 +18,7 @@ impl<R: Input + Drop> Model for StdInput<R> {
 
     ghost Value = { ℕ };
 
-    ghost view = { λ input. input.faults };
+    ghost view = { λ input. input.failures };
 }
 
 impl<R: Input + Drop> StdInput<R> {
@@ -29,7 +29,7 @@ impl<R: Input + Drop> StdInput<R> {
         StdInput {
             rt,
             ahead: Ahead::new(),
-            faults: 0,
+            failures: 0,
         }
     }
 }
@@ -37,11 +37,11 @@ impl<R: Input + Drop> StdInput<R> {
 impl<R: Input + Drop> ByteSource for StdInput<R> {
     ghost left = { λ input. None };
 
-    ghost faults = { λ input. input };
+    ghost failures = { λ input. input };
 
     fn read(&mut self, into: &mut [u8]) -> Result<usize, Failed> {
         if self.ahead.is_empty() && self.ahead.fill(&mut self.rt.reader()).is_err() {
-            self.faults = self.faults.saturating_add(1);
+            self.failures = self.failures.saturating_add(1);
             return Err(Failed);
         }
         Ok(self.ahead.give(into))

@@ -8,7 +8,7 @@ use Rattle.source_tree.specs.Scan.{scan_fault}
 use Rattle.source_tree.specs.declared.scan_error.ScanError.{ScanError}
 use Rattle.source_tree.specs.declared.scan_error.ScanError.TheVariants as scan_error
 use Rattle.site_session.specs.Standing.{Standing}
-use Rattle.site_session.specs.Session.{Given, Reply, Scanned, ScanFault, Faulty, Nothing, event_of, scan}
+use Rattle.site_session.specs.Session.{Given, Reply, Scanned, ScanFailed, Faulty, Nothing, event_of, scan}
 use Rattle.site_session.specs.Replies.{scan_reply}
 
 pub scan_answers : (given : Given) (old : Standing) (files : Files) (result : Result ℕ ScanError) (reply : Reply)
@@ -22,11 +22,11 @@ scan_answers given old files (Ok count) reply held limit counts err is =
     subst (λ (r : Reply). scan given old (scan_fault (entries given.source)) (event_of r) ≡ (record old { files = files }, r)) e
     (ap (λ (f : Option SiteFault). scan given old f Nothing) held.1 ∙ (λ i. (record old { files = sym held.0 i }, Scanned ((ap (λ (m : Files). len m) (sym held.0) ∙ sym counts) i))))
 scan_answers given old files (Err scan_error.Failed) reply held limit counts err is =
-    let e : ScanFault ≡ reply = cc in
+    let e : ScanFailed ≡ reply = cc in
     subst (λ (r : Reply). scan given old (scan_fault (entries given.source)) (event_of r) ≡ (record old { files = files }, r)) e
-    (failed (scan_fault (entries given.source)) ∙ (λ i. (record old { files = sym err i }, ScanFault)))
+    (failed (scan_fault (entries given.source)) ∙ (λ i. (record old { files = sym err i }, ScanFailed)))
   where
-    failed : (fault : Option SiteFault) → scan given old fault (event_of ScanFault) ≡ (old, ScanFault)
+    failed : (fault : Option SiteFault) → scan given old fault (event_of ScanFailed) ≡ (old, ScanFailed)
     failed None = refl
     failed (Some fault) = refl
 scan_answers given old files (Err (scan_error.Limit fault)) reply held limit counts err is =

@@ -8,7 +8,7 @@ use Rattle.site_base.specs.declared.item_name.ItemName.{ItemName}
 use Rattle.site_session.specs.declared.build.Report.{Report}
 use Rattle.site_session.specs.declared.why.Why.{Why}
 use Rattle.site_session.specs.declared.reply.Reply.{Reply}
-use Rattle.site_session.specs.declared.reply.Reply.TheVariants.{Scanned, ScanFault, Faulty, Fine, Absent, Built, Marked, Unlisted, BadLine, Silent}
+use Rattle.site_session.specs.declared.reply.Reply.TheVariants.{Scanned, ScanFailed, Faulty, Fine, Absent, Built, Marked, Unlisted, BadLine, Silent}
 
 abbrev pub fault_line : SiteFault → List ℕ
 fault_line fault = codes "fault F" ++ (decimal (fault_number fault.kind) ++ (codes " " ++ (decimal fault.line ++ (codes " " ++ (fault.path ++ codes "\n")))))
@@ -35,7 +35,7 @@ marked_line path = codes "marked " ++ (path ++ codes "\n")
 -- each line with its end
 abbrev pub reply_bytes : Bool → Reply → List ℕ
 reply_bytes tells (Scanned count) = codes "scanned " ++ (decimal count ++ codes "\n")
-reply_bytes tells ScanFault = codes "scan-fault\n"
+reply_bytes tells ScanFailed = codes "scan-fault\n"
 reply_bytes tells (Faulty fault) = fault_line fault
 reply_bytes tells Fine = codes "ok\n"
 reply_bytes tells Absent = codes "absent\n"

@@ -1,11 +1,12 @@
 -- What a site stands for: the files of its output, or its first fault.
 use Rattle.std.specs.Prelude.{ℕ, ℤ, Bool, not, List, [], ◌∷◌, ◌++◌, length, map, fold, nat_lt, Option, Some, None, Ok, Err, if◌then◌else◌}
 use Rattle.std.specs.FinMap.{empty, get, insert}
+use Rattle.site_base.specs.Chains.{◌>>=◌}
 use Rattle.site_base.specs.Places.{Files}
 use Rattle.site_base.specs.declared.faults.SiteFault.{SiteFault}
 use Rattle.site_base.specs.declared.settings.Settings.{Settings}
 use Rattle.site_items.specs.declared.static_file.StaticFile.{StaticFile}
-use Rattle.site_reader.specs.Found.{Found, ◌>>◌, each}
+use Rattle.site_reader.specs.Found.{Found, each}
 use Rattle.site_reader.specs.Sites.{site}
 use Rattle.site_reader.specs.declared.site.Site.{Site}
 use Rattle.site_reader.specs.declared.site_item.SiteItem.{SiteItem}
@@ -32,7 +33,7 @@ abbrev pub made : Site → SiteItem → Found Made
 made site item = made_by item (outcome site item)
 
 abbrev pub add_made : Site → SiteItem → List Made → Found (List Made)
-add_made site item before = made site item >> λ m. Ok (before ++ m ∷ [])
+add_made site item before = made site item >>= λ m. Ok (before ++ m ∷ [])
 
 -- the items rendered one after another, up to the first fault
 abbrev pub rendered : Site → Found (List Made)
@@ -85,11 +86,11 @@ output_of held site items = record {
 }
 
 abbrev pub site_output : Files → Site → Found Output
-site_output held site = rendered site >> λ items. Ok (output_of held site items)
+site_output held site = rendered site >>= λ items. Ok (output_of held site items)
 
 -- the output of the site that the files make, or the first fault of reading, or else of rendering
 unfoldable pub full : Files → ℤ → Settings → Found Output
-full files moment settings = site files moment settings >> site_output files
+full files moment settings = site files moment settings >>= site_output files
 
 abbrev pub fault_of : {A : Type 0} → Found A → Option SiteFault
 fault_of (Ok found) = None

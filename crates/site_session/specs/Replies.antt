@@ -5,7 +5,7 @@ use Rattle.site_script.specs.Line.{line_number}
 use Rattle.site_script.specs.declared.line.Line.{Line}
 use Rattle.source_tree.specs.declared.scan_error.ScanError.{ScanError}
 use Rattle.source_tree.specs.declared.scan_error.ScanError.TheVariants as scan_error
-use Rattle.site_session.specs.Session.{Given, event_of, full_now, step, Reply, Scanned, ScanFault, Faulty, Fine, Absent, Built, Marked, Unlisted, BadLine, Silent, output_faults}
+use Rattle.site_session.specs.Session.{Given, event_of, full_now, step, Reply, Scanned, ScanFailed, Faulty, Fine, Absent, Built, Marked, Unlisted, BadLine, Silent, output_failures}
 use Rattle.site_base.specs.Places.{Files}
 use Rattle.out_tree.specs.Belief.{Belief, all_marked}
 use Rattle.out_tree.specs.Device.{Calls}
@@ -19,7 +19,7 @@ use Rattle.site_session.specs.declared.build.Rebuilt.TheVariants as rebuilt
 
 abbrev pub scan_reply : Result ℕ ScanError → Option Reply
 scan_reply (Ok count) = Some (Scanned count)
-scan_reply (Err scan_error.Failed) = Some ScanFault
+scan_reply (Err scan_error.Failed) = Some ScanFailed
 scan_reply (Err (scan_error.Limit fault)) = Some (Faulty fault)
 scan_reply (Err scan_error.Memory) = None
 
@@ -50,7 +50,7 @@ abbrev pub LeavesBy : Standing → Reply → Option Files → Option Files → O
 LeavesBy now (Built report) told tells belief = Leaves now [] told tells belief
 LeavesBy now (Marked paths) told tells belief = Leaves now paths told tells belief
 LeavesBy now (Scanned count) told tells belief = Unit {0}
-LeavesBy now ScanFault told tells belief = Unit {0}
+LeavesBy now ScanFailed told tells belief = Unit {0}
 LeavesBy now (Faulty fault) told tells belief = Unit {0}
 LeavesBy now Fine told tells belief = Unit {0}
 LeavesBy now Absent told tells belief = Unit {0}
@@ -64,7 +64,7 @@ has_called_output (Built report) = true
 has_called_output (Marked paths) = true
 has_called_output Unlisted = true
 has_called_output (Scanned count) = false
-has_called_output ScanFault = false
+has_called_output ScanFailed = false
 has_called_output (Faulty fault) = false
 has_called_output Fine = false
 has_called_output Absent = false
@@ -74,7 +74,7 @@ has_called_output Silent = false
 -- a reply that tells of no output
 pub record IsQuiet (reply : Reply) : Type 0 where
   pub called : has_called_output reply ≡ false
-  pub faults : output_faults reply ≡ 0
+  pub failures : output_failures reply ≡ 0
 
 -- the calls of a build on the output: a list where it was not listed, and then each step of the plan
 abbrev pub build_calls : Option Belief → Files → Output → List Call

@@ -10,7 +10,7 @@ use Rattle.site_script.specs.declared.line.Line.{Line}
 use Rattle.site_script.specs.declared.line.Line.TheVariants.{Scan, Put, Delete, Time, Build, End, Eof, Bad, Failed, Memory}
 use Rattle.site_script.specs.declared.line.ScriptKind.TheVariants as kind
 pub use Rattle.site_session.specs.declared.reply.Reply.{Reply}
-pub use Rattle.site_session.specs.declared.reply.Reply.TheVariants.{Scanned, ScanFault, Faulty, Fine, Absent, Built, Marked, Unlisted, BadLine, Silent}
+pub use Rattle.site_session.specs.declared.reply.Reply.TheVariants.{Scanned, ScanFailed, Faulty, Fine, Absent, Built, Marked, Unlisted, BadLine, Silent}
 use Rattle.source_tree.specs.Put.{put_refusal}
 use Rattle.source_tree.specs.Scan.{scan_fault}
 use Rattle.source_tree.specs.declared.put_error.PutError.{PutError}
@@ -44,7 +44,7 @@ pub data Event : Type 0 where
 
 -- a reply shows what failed
 abbrev pub event_of : Reply → Event
-event_of ScanFault = TheScan
+event_of ScanFailed = TheScan
 event_of Unlisted = TheList
 event_of (Marked paths) = TheSteps paths
 event_of (Scanned count) = Nothing
@@ -59,7 +59,7 @@ event_of Silent = Nothing
 abbrev pub scan : Given → Standing → Option SiteFault → Event → Standing × Reply
 scan given now None Nothing = (record now { files = given.source }, Scanned (len given.source))
 scan given now (Some fault) Nothing = (now, Faulty fault)
-scan given now fault TheScan = (now, ScanFault)
+scan given now fault TheScan = (now, ScanFailed)
 scan given now fault TheList = (now, Silent)
 scan given now fault (TheSteps paths) = (now, Silent)
 
@@ -147,28 +147,28 @@ Run given old before (line ∷ lines) (reply ∷ replies) new =
 Run given old before [] (reply ∷ replies) new = ⊥
 Run given old before (line ∷ lines) [] new = ⊥
 
--- by how much the output's count of faults rises at least
-abbrev pub output_faults : Reply → ℕ
-output_faults (Marked paths) = max (length paths) 1
-output_faults Unlisted = 1
-output_faults (Scanned count) = 0
-output_faults ScanFault = 0
-output_faults (Faulty fault) = 0
-output_faults Fine = 0
-output_faults Absent = 0
-output_faults (Built report) = 0
-output_faults (BadLine number bad) = 0
-output_faults Silent = 0
+-- by how much the output's count of failures rises at least
+abbrev pub output_failures : Reply → ℕ
+output_failures (Marked paths) = max (length paths) 1
+output_failures Unlisted = 1
+output_failures (Scanned count) = 0
+output_failures ScanFailed = 0
+output_failures (Faulty fault) = 0
+output_failures Fine = 0
+output_failures Absent = 0
+output_failures (Built report) = 0
+output_failures (BadLine number bad) = 0
+output_failures Silent = 0
 
--- by how much the source's count of faults rises at least
-abbrev pub source_faults : Reply → ℕ
-source_faults ScanFault = 1
-source_faults (Marked paths) = 0
-source_faults Unlisted = 0
-source_faults (Scanned count) = 0
-source_faults (Faulty fault) = 0
-source_faults Fine = 0
-source_faults Absent = 0
-source_faults (Built report) = 0
-source_faults (BadLine number bad) = 0
-source_faults Silent = 0
+-- by how much the source's count of failures rises at least
+abbrev pub source_failures : Reply → ℕ
+source_failures ScanFailed = 1
+source_failures (Marked paths) = 0
+source_failures Unlisted = 0
+source_failures (Scanned count) = 0
+source_failures (Faulty fault) = 0
+source_failures Fine = 0
+source_failures Absent = 0
+source_failures (Built report) = 0
+source_failures (BadLine number bad) = 0
+source_failures Silent = 0

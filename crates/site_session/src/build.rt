@@ -4,7 +4,7 @@ ghost use Rattle.std.specs.FinMap as map;
 ghost use Rattle.site_base.specs.Places.{Files};
 ghost use Rattle.out_tree.specs.Belief.{Belief, believed, IsTrueOf};
 ghost use Rattle.site_session.specs.Standing.{Standing, Holds, MakesBut, MarksExactly};
-ghost use Rattle.site_session.specs.Session.{Given, Reply, event_of, failed_of, build_tree, build_listed, output_faults, TheList};
+ghost use Rattle.site_session.specs.Session.{Given, Reply, event_of, failed_of, build_tree, build_listed, output_failures, TheList};
 ghost use Rattle.out_tree.specs.Plan.{planned};
 ghost use Rattle.out_tree.specs.Tries.{CallsFor};
 ghost use Rattle.site_session.specs.Replies.{built_reply, Called, FailedAt};
@@ -59,9 +59,9 @@ pub(crate) fn make<O: OutTree>(
         MakesBut failed output (O.contents out.old) (O.contents out.new) × MarksExactly failed output.keep keeper.new }
     ensures unlisted_same { result ≡ Ok Rebuilt.Unlisted → O.contents out.new ≡ O.contents out.old }
     ensures no_fault { (fault : SiteFault) → result ≡ Ok (Rebuilt.Fault fault) → ⊥ }
-    ensures later { O.faults out.old ≤ O.faults out.new }
-    ensures cause { (reply : Reply) → built_reply result ≡ Some reply → min (O.faults out.old + output_faults reply) (2 ^ 64 - 1) ≤ O.faults out.new }
-    ensures steady { (report : Report) → result ≡ Ok (Rebuilt.Built report) → O.faults out.new ≡ O.faults out.old }
+    ensures later { O.failures out.old ≤ O.failures out.new }
+    ensures cause { (reply : Reply) → built_reply result ≡ Some reply → min (O.failures out.old + output_failures reply) (2 ^ 64 - 1) ≤ O.failures out.new }
+    ensures steady { (report : Report) → result ≡ Ok (Rebuilt.Built report) → O.failures out.new ≡ O.failures out.old }
     ensures called { (first : Files) → Holds (O.contents out.old) keeper.old first →
         Called keeper.old first output result (O.calls out.old) (O.calls out.new) }
     ensures err { OnErr result (O.contents out.new ≡ O.contents out.old) }
@@ -90,10 +90,10 @@ fn make_listed<O: OutTree>(
     ensures unlisted_same { result ≡ Ok Rebuilt.Unlisted → O.contents out.new ≡ O.contents out.old }
     ensures no_fault { (fault : SiteFault) → result ≡ Ok (Rebuilt.Fault fault) → ⊥ }
     ensures listed { IsSome keeper.new }
-    ensures later { O.faults out.old ≤ O.faults out.new }
-    ensures cause { (reply : Reply) → built_reply result ≡ Some reply → min (O.faults out.old + output_faults reply) (2 ^ 64 - 1) ≤ O.faults out.new }
+    ensures later { O.failures out.old ≤ O.failures out.new }
+    ensures cause { (reply : Reply) → built_reply result ≡ Some reply → min (O.failures out.old + output_failures reply) (2 ^ 64 - 1) ≤ O.failures out.new }
     ensures unlisted { (reply : Reply) → built_reply result ≡ Some reply → event_of reply ≡ TheList → ⊥ }
-    ensures steady { (report : Report) → result ≡ Ok (Rebuilt.Built report) → O.faults out.new ≡ O.faults out.old }
+    ensures steady { (report : Report) → result ≡ Ok (Rebuilt.Built report) → O.failures out.new ≡ O.failures out.old }
     ensures called { OnOk result (CallsFor (planned (believed keeper.old) output.tree output.keep) (O.calls out.old) (O.calls out.new)) }
     ensures err { OnErr result ((keeper.new ≡ keeper.old) × (out.new ≡ out.old)) }
 {

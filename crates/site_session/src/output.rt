@@ -9,9 +9,8 @@ use crate::rendered::{Rendered, count, first_item_fault, render_items};
 use crate::tree::tree_of;
 use crate::why::{Why, Whys};
 use out_tree::{KeepList, Tree};
-use site_base::{Memory, Settings, SiteFault, Text};
-use site_config::Names;
-use site_reader::{Sequence, Site, SiteError, SiteItem, read_site};
+use site_base::{Memory, Sequence, Settings, SiteFault, Text, TextList};
+use site_reader::{Site, SiteError, SiteItem, read_site};
 use source_tree::Held;
 use std::alloc::Global;
 
@@ -98,7 +97,7 @@ fn reasons(alloc: Global, items: &[SiteItem]) -> Result<Whys, Memory>
     Ok(Sequence::from_vec(why))
 }
 
-fn keep_list(alloc: Global, entries: &Names) -> Result<KeepList, Memory>
+fn keep_list(alloc: Global, entries: &TextList) -> Result<KeepList, Memory>
     ensures { IfOk result (λ keep. keep ≡ entries.now) }
 {
     let mut keep = KeepList::new(alloc);

@@ -16,7 +16,7 @@ pub enum Reply {
     /// The source was scanned, and has so many files.
     Scanned(u32),
     /// The source failed.
-    ScanFault,
+    ScanFailed,
     /// The site has this first fault.
     Faulty(SiteFault),
     /// The line was done.
@@ -43,7 +43,7 @@ impl Reply {
     {
         match self {
             Reply::Scanned(count) => format!(in alloc; "scanned {count}\n"),
-            Reply::ScanFault => String::from_str(alloc, "scan-fault\n"),
+            Reply::ScanFailed => String::from_str(alloc, "scan-fault\n"),
             Reply::Faulty(fault) => fault_text(alloc, fault),
             Reply::Fine => String::from_str(alloc, "ok\n"),
             Reply::Absent => String::from_str(alloc, "absent\n"),

@@ -8,7 +8,7 @@ ghost use Rattle.site_base.specs.declared.faults.SiteFault.{SiteFault};
 ghost use Rattle.site_script.specs.Line.{IsInTime, is_moment};
 ghost use Rattle.site_session.specs.Full.{full, fault_of};
 ghost use Rattle.site_session.specs.Standing.{Holds};
-ghost use Rattle.site_session.specs.Session.{Given, Reply, Fine, Absent, Answers, full_now, start, output_faults, source_faults};
+ghost use Rattle.site_session.specs.Session.{Given, Reply, Fine, Absent, Answers, full_now, start, output_failures, source_failures};
 ghost use Rattle.site_session.specs.declared.build.Report.{Report};
 ghost use Rattle.site_session.specs.declared.output.Output.{Output};
 ghost use Rattle.site_session.specs.Replies.{scan_reply, built_reply, Called, FailedAt, Leaves, LeavesBy, IsQuiet, has_called_output};
@@ -95,7 +95,7 @@ impl Session {
         ensures kept { (self.new.moment ≡ self.old.moment) × (self.new.settings ≡ self.old.settings) × (self.new.belief ≡ self.old.belief) }
         ensures err { OnErr result (self.new ≡ self.old) }
         ensures same { S.files source.new ≡ S.files source.old }
-        ensures cause { HasCauseOf ScanError.Failed (S.faults source.old) (S.faults source.new) result }
+        ensures cause { HasCauseOf ScanError.Failed (S.failures source.old) (S.failures source.new) result }
     {
         self.held.scan(alloc, source)
     }
@@ -127,9 +127,9 @@ impl Session {
         ensures called { (first : Files) (output : Output) → Holds (O.contents out.old) self.old.belief first → full_now self.old ≡ Ok output →
             Called self.old.belief first output result (O.calls out.old) (O.calls out.new) }
         // The output's count of failures rises by at least what the answer shows, and stays where all went well.
-        ensures later { O.faults out.old ≤ O.faults out.new }
-        ensures cause { (reply : Reply) → built_reply result ≡ Some reply → min (O.faults out.old + output_faults reply) (2 ^ 64 - 1) ≤ O.faults out.new }
-        ensures steady { (report : Report) → result ≡ Ok (Rebuilt.Built report) → O.faults out.new ≡ O.faults out.old }
+        ensures later { O.failures out.old ≤ O.failures out.new }
+        ensures cause { (reply : Reply) → built_reply result ≡ Some reply → min (O.failures out.old + output_failures reply) (2 ^ 64 - 1) ≤ O.failures out.new }
+        ensures steady { (report : Report) → result ≡ Ok (Rebuilt.Built report) → O.failures out.new ≡ O.failures out.old }
         ensures same { (self.new.files ≡ self.old.files) × (self.new.moment ≡ self.old.moment) × (self.new.settings ≡ self.old.settings) }
         ensures err { OnErr result (O.contents out.new ≡ O.contents out.old) }
     {
@@ -161,10 +161,10 @@ impl Session {
         // Where no build was tried, the output is the same value as before.
         ensures untouched { IfOk result (λ reply. has_called_output reply ≡ false → out.new ≡ out.old) }
         ensures source_same { S.files source.new ≡ S.files source.old }
-        ensures source_later { S.faults source.old ≤ S.faults source.new }
-        ensures source_cause { IfOk result (λ reply. min (S.faults source.old + source_faults reply) (2 ^ 64 - 1) ≤ S.faults source.new) }
-        ensures output_later { O.faults out.old ≤ O.faults out.new }
-        ensures output_cause { IfOk result (λ reply. min (O.faults out.old + output_faults reply) (2 ^ 64 - 1) ≤ O.faults out.new) }
+        ensures source_later { S.failures source.old ≤ S.failures source.new }
+        ensures source_cause { IfOk result (λ reply. min (S.failures source.old + source_failures reply) (2 ^ 64 - 1) ≤ S.failures source.new) }
+        ensures output_later { O.failures out.old ≤ O.failures out.new }
+        ensures output_cause { IfOk result (λ reply. min (O.failures out.old + output_failures reply) (2 ^ 64 - 1) ≤ O.failures out.new) }
     {
         match line {
             Line::Scan => self.scan_line(alloc, number, source),
@@ -190,14 +190,14 @@ impl Session {
             IfOk result (λ reply. Answers given self.old number line.Scan reply self.new) }
         ensures belief { self.new.belief ≡ self.old.belief }
         ensures same { S.files source.new ≡ S.files source.old }
-        ensures later { S.faults source.old ≤ S.faults source.new }
-        ensures cause { IfOk result (λ reply. min (S.faults source.old + source_faults reply) (2 ^ 64 - 1) ≤ S.faults source.new) }
+        ensures later { S.failures source.old ≤ S.failures source.new }
+        ensures cause { IfOk result (λ reply. min (S.failures source.old + source_failures reply) (2 ^ 64 - 1) ≤ S.failures source.new) }
         ensures err { OnErr result (self.new ≡ self.old) }
         ensures quiet { IfOk result (λ reply. IsQuiet reply) }
     {
         match self.scan(alloc, source) {
             Ok(count) => Ok(Reply::Scanned(count)),
-            Err(ScanError::Failed) => Ok(Reply::ScanFault),
+            Err(ScanError::Failed) => Ok(Reply::ScanFailed),
             Err(ScanError::Limit(fault)) => Ok(Reply::Faulty(fault)),
             Err(ScanError::Memory) => Err(Memory),
         }
@@ -207,7 +207,7 @@ impl Session {
         ensures answers { (given : Given) → IfOk result (λ reply. Answers given self.old number (line.Put path bytes) reply self.new) }
         ensures belief { self.new.belief ≡ self.old.belief }
         ensures err { OnErr result (self.new ≡ self.old) }
-        ensures quiet { IfOk result (λ reply. IsQuiet reply × (source_faults reply ≡ 0)) }
+        ensures quiet { IfOk result (λ reply. IsQuiet reply × (source_failures reply ≡ 0)) }
     {
         match self.put(path, bytes.into_vec()) {
             Ok(()) => Ok(Reply::Fine),
@@ -220,7 +220,7 @@ impl Session {
     fn delete_line(&mut self, number: u64, path: &SitePath) -> Reply
         ensures answers { (given : Given) → Answers given self.old number (line.Delete path.now) result self.new }
         ensures belief { self.new.belief ≡ self.old.belief }
-        ensures quiet { IsQuiet result × (source_faults result ≡ 0) }
+        ensures quiet { IsQuiet result × (source_failures result ≡ 0) }
     {
         if self.delete(path) {
             Reply::Fine
@@ -243,9 +243,9 @@ impl Session {
         ensures untouched { IfOk result (λ reply. has_called_output reply ≡ false → out.new ≡ out.old) }
         ensures err { OnErr result (O.contents out.new ≡ O.contents out.old) }
         ensures kept { OnErr result ((self.new.files ≡ self.old.files) × (self.new.moment ≡ self.old.moment) × (self.new.settings ≡ self.old.settings)) }
-        ensures later { O.faults out.old ≤ O.faults out.new }
-        ensures cause { IfOk result (λ reply. min (O.faults out.old + output_faults reply) (2 ^ 64 - 1) ≤ O.faults out.new) }
-        ensures quiet { IfOk result (λ reply. source_faults reply ≡ 0) }
+        ensures later { O.failures out.old ≤ O.failures out.new }
+        ensures cause { IfOk result (λ reply. min (O.failures out.old + output_failures reply) (2 ^ 64 - 1) ≤ O.failures out.new) }
+        ensures quiet { IfOk result (λ reply. source_failures reply ≡ 0) }
     {
         match self.rebuild_serial(alloc, out) {
             Ok(Rebuilt::Built(report)) => Ok(Reply::Built(report)),

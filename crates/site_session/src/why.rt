@@ -1,6 +1,5 @@
 // Why items were rendered.
-use site_base::ItemName;
-use site_reader::Sequence;
+use site_base::{ItemName, Sequence};
 
 /// An item that was rendered. Each is new, as long as no render is kept from an earlier build.
 #[derive(Drop)]

@@ -48,7 +48,7 @@ told_of scenario options = record (given_of scenario) { why = options.why }
 
 -- the output before the run
 abbrev pub output_of : Scenario → OutState
-output_of scenario = record { files = files_of scenario.outputs.now; told = Some []; fail = scenario.output_fails.now; calls = 0; faults = 0; short = 0 }
+output_of scenario = record { files = files_of scenario.outputs.now; told = Some []; fail = scenario.output_fails.now; calls = 0; failures = 0; short = 0 }
 
 -- an output in memory tells its contents
 abbrev pub contents : OutState → Option Files

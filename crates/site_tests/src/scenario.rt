@@ -120,7 +120,7 @@ impl<'a> Scenario<'a> {
         // Of `session`: that it does the lines of the script, and tells what it did.
         ensures session { (options : Options) → jobs_order (word_list self.now.words.now) moment ≡ Ok (order.Session options) → IfOk result (λ outcome.
             SessionRun contents (told_of self.now options) (start options.settings moment) self.now.script.now [] (Some outcome.ends.input.left) (Some outcome.ends.sink.taken)
-            (output_of self.now) outcome.ends.out (record { source_first = 0; source_now = outcome.ends.source.faults; output_first = 0; output_now = outcome.ends.out.faults }) outcome.status) }
+            (output_of self.now) outcome.ends.out (record { source_first = 0; source_now = outcome.ends.source.failures; output_first = 0; output_now = outcome.ends.out.failures }) outcome.status) }
         ensures fault { IfErr result (IsFault self.now) }
     {
         let words = words(alloc, self.words)?;
@@ -140,10 +140,10 @@ impl<'a> Scenario<'a> {
 
     /// The ends before a run: each holds what the scenario gives it and fails at the calls that are its own.
     pub fn ends(&self, alloc: Global) -> Result<Ends, ScenarioError>
-        ensures source { IfOk result (λ ends. ends.source ≡ record { files = files_of self.now.sources.now; fail = self.now.source_fails.now; calls = 0; faults = 0 }) }
+        ensures source { IfOk result (λ ends. ends.source ≡ record { files = files_of self.now.sources.now; fail = self.now.source_fails.now; calls = 0; failures = 0 }) }
         ensures out { IfOk result (λ ends. ends.out ≡ output_of self.now) }
-        ensures input { IfOk result (λ ends. ends.input ≡ record { left = self.now.script.now; fail = self.now.input_fails.now; calls = 0; faults = 0 }) }
-        ensures sink { IfOk result (λ ends. ends.sink ≡ record { taken = []; fail = self.now.sink_fails.now; calls = 0; faults = 0; short = 0 }) }
+        ensures input { IfOk result (λ ends. ends.input ≡ record { left = self.now.script.now; fail = self.now.input_fails.now; calls = 0; failures = 0 }) }
+        ensures sink { IfOk result (λ ends. ends.sink ≡ record { taken = []; fail = self.now.sink_fails.now; calls = 0; failures = 0; short = 0 }) }
         ensures fault { IfErr result (IsFault self.now) }
     {
         let sources = files(alloc, self.sources)?;

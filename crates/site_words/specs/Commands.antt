@@ -20,7 +20,7 @@ abbrev pub jobs_app : App
 jobs_app = with_rule (with_rule settings_app (long_option (codes "jobs") Set)) (long_option (codes "why") SetTrue)
 
 abbrev pub options_app : Bool → App
-options_app has_jobs = if has_jobs then jobs_app else settings_app
+options_app takes_jobs = if takes_jobs then jobs_app else settings_app
 
 -- what the matches hold of a flag: its word as text, or nothing where it is not given
 abbrev pub IsFlag : Option (List ℕ) → Bool → Type 0

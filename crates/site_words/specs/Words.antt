@@ -5,6 +5,8 @@ use Rattle.std.specs.Option.{option_map_or}
 use Rattle.std.specs.Str.{bytes_eq}
 use Rattle.site_base.specs.declared.settings.Settings.{Settings}
 use Rattle.site_words.specs.Numbers.{number_in}
+use Rattle.site_words.specs.declared.options.Takes.{Takes}
+use Rattle.site_words.specs.declared.options.Takes.TheVariants as takes
 use Rattle.site_words.specs.declared.orders.Options.{Options}
 use Rattle.site_words.specs.declared.orders.Order.{Order}
 use Rattle.site_words.specs.declared.orders.Order.TheVariants as order
@@ -17,6 +19,11 @@ abbrev pub Text : Type 0
 Text = List ℕ
 
 -- ---- options
+
+-- whether a command takes `--jobs` and `--why` besides `--drafts` and `--future`
+abbrev pub has_jobs : Takes → Bool
+has_jobs takes.Jobs = true
+has_jobs takes.Settings = false
 
 -- which options were given, `--jobs` with the text of its number
 pub record Given : Type 0 where
@@ -37,20 +44,20 @@ with_jobs given number = first_time (is_some given.jobs) (record given { jobs = 
 
 -- a word that is an option as it stands; `--jobs` and `--why` are options of commands with jobs alone
 abbrev pub with_word : Bool → Given → Text → Option Given
-with_word has_jobs given word =
+with_word takes_jobs given word =
     if bytes_eq word (codes "--drafts") then first_time given.drafts (record given { drafts = true })
     else if bytes_eq word (codes "--future") then first_time given.future (record given { future = true })
-    else if has_jobs && bytes_eq word (codes "--why") then first_time given.why (record given { why = true })
-    else if has_jobs && starts_with nat_eq word (codes "--jobs=") then with_jobs given (drop 7 word)
+    else if takes_jobs && bytes_eq word (codes "--why") then first_time given.why (record given { why = true })
+    else if takes_jobs && starts_with nat_eq word (codes "--jobs=") then with_jobs given (drop 7 word)
     else None
 
 -- the options that the words are, where they are nothing else; the number of `--jobs` may be the next word
 abbrev pub with_words : Bool → Given → List Text → Option Given
-with_words has_jobs given [] = Some given
-with_words has_jobs given (word ∷ []) = with_word has_jobs given word
-with_words has_jobs given (word ∷ next ∷ rest) =
-    if has_jobs && bytes_eq word (codes "--jobs") then option_and_then (λ g. with_words has_jobs g rest) (with_jobs given next)
-    else option_and_then (λ g. with_words has_jobs g (next ∷ rest)) (with_word has_jobs given word)
+with_words takes_jobs given [] = Some given
+with_words takes_jobs given (word ∷ []) = with_word takes_jobs given word
+with_words takes_jobs given (word ∷ next ∷ rest) =
+    if takes_jobs && bytes_eq word (codes "--jobs") then option_and_then (λ g. with_words takes_jobs g rest) (with_jobs given next)
+    else option_and_then (λ g. with_words takes_jobs g (next ∷ rest)) (with_word takes_jobs given word)
 
 abbrev pub jobs_of : Option Text → Option ℕ
 jobs_of None = Some 1
@@ -63,7 +70,7 @@ abbrev pub options_of : Given → Option Options
 options_of given = option_map (λ n. record { jobs = n; settings = settings_of given; why = given.why }) (jobs_of given.jobs)
 
 abbrev pub options_in : Bool → List Text → Option Options
-options_in has_jobs words = option_and_then options_of (with_words has_jobs nothing_given words)
+options_in takes_jobs words = option_and_then options_of (with_words takes_jobs nothing_given words)
 
 -- the options that are answered are these; want of memory may come in their place
 abbrev pub AnswersOptions : Option Options → Result Options WordsError → Type 0

@@ -5,7 +5,7 @@ ghost use Rattle.std.specs.Str.{bytes_eq};
 ghost use Rattle.clap.specs.Words.{app_of, found_of, first_of, one_of, rows_of};
 ghost use Rattle.site_words.specs.Commands.{IsFlag, Tells, jobs_app, options_app, settings_app};
 ghost use Rattle.site_words.specs.Numbers.{number_in};
-ghost use Rattle.site_words.specs.Words.{AnswersOptions, Given, jobs_of, options_in, options_of};
+ghost use Rattle.site_words.specs.Words.{AnswersOptions, Given, has_jobs, jobs_of, options_in, options_of};
 
 use crate::faults::{UsageKind, WordsError};
 use crate::numbers::number_in;
@@ -17,20 +17,28 @@ use std::alloc::{AllocError, Global};
 
 const MOST_JOBS: u64 = 64;
 
-// The options that words are, where they are nothing else; `--jobs` and `--why` are options where
-// `has_jobs` holds. The error is a fault of the options, or want of memory.
+/// Which options a command takes.
+#[derive(Clone, Copy)]
+pub(crate) enum Takes {
+    /// `--drafts` and `--future`.
+    Settings,
+    /// `--jobs` and `--why` besides.
+    Jobs,
+}
+
+// The options that words are, where they are nothing else. The error is a fault of the options, or want of memory.
 pub(crate) fn read_options<'a>(
     alloc: Global,
     words: &'a [&'a str],
-    has_jobs: bool,
+    takes: Takes,
 ) -> Result<Options, WordsError>
-    ensures { AnswersOptions (options_in has_jobs (map (λ word. word.now) words.entry.now)) result }
+    ensures { AnswersOptions (options_in (has_jobs takes) (map (λ word. word.now) words.entry.now)) result }
 {
     // The parser takes `--` for the end of the options.
     if has_dashes(words) {
         return Err(WordsError::Usage(UsageKind::Option));
     }
-    let Ok(command) = options_command(alloc, has_jobs) else {
+    let Ok(command) = options_command(alloc, takes) else {
         return Err(WordsError::Memory);
     };
     match command.try_get_matches_from(words) {
@@ -74,13 +82,12 @@ fn jobs_command<'a>(alloc: Global) -> Result<Command<'a>, AllocError>
     settings_command(alloc)?.arg(jobs)?.arg(why)
 }
 
-fn options_command<'a>(alloc: Global, has_jobs: bool) -> Result<Command<'a>, AllocError>
-    ensures { IfOk result (λ command. app_of command ≡ options_app has_jobs) }
+fn options_command<'a>(alloc: Global, takes: Takes) -> Result<Command<'a>, AllocError>
+    ensures { IfOk result (λ command. app_of command ≡ options_app (has_jobs takes)) }
 {
-    if has_jobs {
-        jobs_command(alloc)
-    } else {
-        settings_command(alloc)
+    match takes {
+        Takes::Jobs => jobs_command(alloc),
+        Takes::Settings => settings_command(alloc),
     }
 }
 

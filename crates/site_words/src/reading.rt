@@ -5,7 +5,7 @@ ghost use Rattle.site_words.specs.Words.{Answers, command_order, make_order, num
 
 use crate::faults::{UsageKind, WordsError};
 use crate::numbers::number_in;
-use crate::options::read_options;
+use crate::options::{Takes, read_options};
 use crate::orders::Order;
 use site_base::Words;
 use std::alloc::{AllocError, Global};
@@ -43,13 +43,13 @@ fn read_command<'a>(alloc: Global, name: &str, words: &'a [&'a str]) -> Result<O
     ensures { Answers (command_order name.now (map (λ word. word.now) words.entry.now)) result }
 {
     if name == "build" {
-        Ok(Order::Build(read_options(alloc, words, true)?))
+        Ok(Order::Build(read_options(alloc, words, Takes::Jobs)?))
     } else if name == "session" {
-        Ok(Order::Session(read_options(alloc, words, true)?))
+        Ok(Order::Session(read_options(alloc, words, Takes::Jobs)?))
     } else if name == "once" {
-        Ok(Order::Once(read_options(alloc, words, false)?.settings))
+        Ok(Order::Once(read_options(alloc, words, Takes::Settings)?.settings))
     } else if name == "check" {
-        Ok(Order::Check(read_options(alloc, words, false)?.settings))
+        Ok(Order::Check(read_options(alloc, words, Takes::Settings)?.settings))
     } else if name == "make" {
         read_make(words)
     } else {

@@ -3,8 +3,9 @@
 
 use out_tree::DiskOut;
 use site_base::Words;
-use site_program::{StdSink, run_jobs, run_once};
+use site_program::{Status, StdSink, run_jobs, run_once};
 use site_script::StdInput;
+use site_words::UsageKind;
 use source_tree::DiskSource;
 use std::env;
 use std::process::ExitCode;
@@ -13,15 +14,10 @@ use std::time::SystemTime;
 // What stands for a clock that cannot be read, or stands before 1970: no moment of a build.
 const NO_MOMENT: i64 = -1;
 
-// The status numbers of a run that does not come to its top call.
-const USAGE: u8 = 2;
-
-const MEMORY: u8 = 8;
-
 fn main(rt: HostRuntime) -> ExitCode {
     let words = match words(&rt) {
         Ok(words) => words,
-        Err(status) => return ExitCode::from(status),
+        Err(status) => return ExitCode::from(status.number()),
     };
     let mut source = DiskSource::new(rt);
     let mut out = DiskOut::new(rt);
@@ -50,15 +46,15 @@ fn main(rt: HostRuntime) -> ExitCode {
     ExitCode::from(status.number())
 }
 
-// The words of the command line, without the program's name; or the status of a run that has none.
-fn words(rt: &HostRuntime) -> Result<Words, u8> {
+// The words of the command line, without the program's name. Where they are no text, they have no kind of their own.
+fn words(rt: &HostRuntime) -> Result<Words, Status> {
     let Ok(arguments) = env::args(rt) else {
-        return Err(USAGE);
+        return Err(Status::Usage(UsageKind::Missing));
     };
     let mut words = Words::new(rt.alloc());
     for word in arguments.skip(1) {
         if words.push(rt.alloc(), word.as_str()).is_err() {
-            return Err(MEMORY);
+            return Err(Status::Memory);
         }
     }
     Ok(words)

@@ -11,7 +11,8 @@ use Rattle.std.specs.Ordering.{is_eq}
 use Rattle.site_base.specs.Clash.{HasNoClash, first_folder, has_below, has_folder}
 use Rattle.site_base.specs.Places.{AllDiffer, Files, is_listed, path_cmp, paths_of, same_path}
 use Rattle.source_tree.specs.Fitting.{count_fitting, first_limit}
-use Rattle.source_tree.specs.Limits.{bytes_of, length_or_zero, most_bytes, most_files, most_site_bytes, site_bytes}
+use Rattle.site_base.specs.Limits.{most_bytes}
+use Rattle.source_tree.specs.Limits.{bytes_of, length_or_zero, most_files, most_site_bytes, site_bytes}
 use Rattle.source_tree.specs.Put.{clash_refusal, first_refusal, passed_limit, plain, put_refusal}
 use Rattle.source_tree.specs.declared.put_error.PutError.{PutError}
 use Rattle.source_tree.specs.declared.put_error.PutError.TheVariants.{Clash}

@@ -5,7 +5,8 @@ use Rattle.std.specs.Option.{is_some, option_or}
 use Rattle.std.specs.FinMap.{contains_key, empty, entries, get, get-empty, get-insert, get-remove, insert, len, len-empty, len-entries, len-insert, len-remove, remove, keys}
 use Rattle.site_base.specs.Clash.{has_below, has_folder}
 use Rattle.site_base.specs.Places.{path_cmp, Files, same_path}
-use Rattle.source_tree.specs.Limits.{CanBeHeld, bytes_of, most_bytes, most_files, most_site_bytes, site_bytes}
+use Rattle.site_base.specs.Limits.{most_bytes}
+use Rattle.source_tree.specs.Limits.{CanBeHeld, bytes_of, most_files, most_site_bytes, site_bytes}
 use Rattle.source_tree.specs.Put.{clash_refusal, passed_limit, put_refusal}
 use Rattle.source_tree.specs.declared.put_error.PutError.{PutError}
 use Rattle.source_tree.specs.declared.put_error.PutError.TheVariants.{FileTooLong, TooManyFiles, SiteTooLong, Clash}

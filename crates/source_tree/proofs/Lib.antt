@@ -4,7 +4,7 @@ pub mod Fitted
 pub mod Holding
 pub mod Listed
 pub mod Plain
-pub mod ReadSite
+pub mod AllFiles
 pub mod Results
 mod Rows
 pub mod ScanFaults

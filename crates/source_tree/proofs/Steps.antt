@@ -14,7 +14,8 @@ use Rattle.site_base.specs.Faults.{fault_at}
 use Rattle.site_base.specs.Places.{Files, PathsRise, path_cmp, paths_of}
 use Rattle.site_base.specs.declared.faults.FaultKind.{FaultKind}
 use Rattle.site_base.specs.declared.faults.SiteFault.{SiteFault}
-use Rattle.source_tree.specs.Limits.{most_bytes, most_site_bytes}
+use Rattle.site_base.specs.Limits.{most_bytes}
+use Rattle.source_tree.specs.Limits.{most_site_bytes}
 use Rattle.source_tree.specs.Reading.{Adds, Follows, Going}
 use Rattle.source_tree.specs.Scan.{first_long, first_over}
 use Rattle.source_tree.specs.declared.reading.Reading.{Reading}

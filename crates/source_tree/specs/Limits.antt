@@ -3,15 +3,12 @@ use Rattle.std.specs.Prelude.{◌≡◌, ℕ, ◌≤◌, List, length, Option, S
 use Rattle.std.specs.FinMap.{entries, get, len}
 use Rattle.std.specs.List.{sum_by}
 use Rattle.site_base.specs.Clash.{HasNoClash}
+use Rattle.site_base.specs.Limits.{most_bytes}
 use Rattle.site_base.specs.Places.{Files}
 
 -- files of a site
 abbrev pub most_files : ℕ
 most_files = 50000
-
--- bytes of one file
-abbrev pub most_bytes : ℕ
-most_bytes = 16777216
 
 -- bytes of all files together
 abbrev pub most_site_bytes : ℕ

@@ -5,7 +5,8 @@ use Rattle.std.specs.Option.{option_or}
 use Rattle.std.specs.declared.alloc.Global.{Global}
 use Rattle.site_base.specs.Clash.{has_below, has_folder}
 use Rattle.site_base.specs.Places.{Files}
-use Rattle.source_tree.specs.Limits.{most_files, most_bytes, most_site_bytes, site_bytes}
+use Rattle.site_base.specs.Limits.{most_bytes}
+use Rattle.source_tree.specs.Limits.{most_files, most_site_bytes, site_bytes}
 use Rattle.source_tree.specs.declared.put_error.PutError.{PutError}
 use Rattle.source_tree.specs.declared.put_error.PutError.TheVariants.{FileTooLong, TooManyFiles, SiteTooLong, Clash}
 

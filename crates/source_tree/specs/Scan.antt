@@ -4,7 +4,8 @@ use Rattle.std.specs.Option.{option_or, option_map}
 use Rattle.site_base.specs.Faults.{fault_at}
 use Rattle.site_base.specs.declared.faults.SiteFault.{SiteFault}
 use Rattle.site_base.specs.declared.faults.FaultKind.TheVariants.{TooManyFiles, FileTooLong, SiteTooLong}
-use Rattle.source_tree.specs.Limits.{most_files, most_bytes, most_site_bytes}
+use Rattle.site_base.specs.Limits.{most_bytes}
+use Rattle.source_tree.specs.Limits.{most_files, most_site_bytes}
 
 -- the path of the first file that is longer than a file may be
 abbrev pub first_long : List (List ℕ × List ℕ) → Option (List ℕ)

@@ -29,26 +29,26 @@ const SKIPS: Skips<'static> = Skips {
 #[derive(Drop)]
 pub struct DiskSource<R: Files + AllocGlobal + Clone + Drop> {
     rt: R,
-    faults: u64,
+    failures: u64,
 }
 
 impl<R: Files + AllocGlobal + Clone + Drop> DiskSource<R> {
     pub fn new(rt: R) -> DiskSource<R> {
-        DiskSource { rt, faults: 0 }
+        DiskSource { rt, failures: 0 }
     }
 
     fn fail(&mut self)
-        ensures later { self.old.faults ≤ self.new.faults }
-        ensures rose { Rose self.old.faults self.new.faults }
+        ensures later { self.old.failures ≤ self.new.failures }
+        ensures rose { Rose self.old.failures self.new.failures }
     {
-        self.faults = self.faults.saturating_add(1);
+        self.failures = self.failures.saturating_add(1);
     }
 }
 
 impl<R: Files + AllocGlobal + Clone + Drop> SourceTree for DiskSource<R> {
     ghost files = { λ source. None };
 
-    ghost faults = { λ source. source.faults };
+    ghost failures = { λ source. source.failures };
 
     fn list(&mut self, alloc: Global) -> Result<Vec<SitePath>, ListError> {
         match list_site(&self.rt, alloc) {

@@ -13,7 +13,7 @@ ghost use Rattle.source_tree.specs.Scan.{scan_fault};
 
 use crate::fitting::held_of;
 use crate::limits::passed_limit;
-use crate::reading::read_site;
+use crate::reading::read_all_files;
 use crate::{PutError, ScanError, SourceTree};
 use site_base::{Memory, PathMap, SharedBytes, SitePath};
 use std::alloc::Global;
@@ -228,9 +228,9 @@ impl Held {
         ensures number { IfOk result (λ number. number ≡ map.len self.new) }
         ensures err { OnErr result (self.new ≡ self.old) }
         ensures same { S.files source.new ≡ S.files source.old }
-        ensures cause { HasCauseOf ScanError.Failed (S.faults source.old) (S.faults source.new) result }
+        ensures cause { HasCauseOf ScanError.Failed (S.failures source.old) (S.failures source.new) result }
     {
-        match read_site(alloc, source) {
+        match read_all_files(alloc, source) {
             Ok(held) => *self = held,
             Err(error) => return Err(error),
         }

@@ -4,12 +4,10 @@ ghost use Rattle.source_tree.specs.Limits.{most_site_bytes};
 ghost use Rattle.source_tree.specs.Put.{passed_limit};
 
 use crate::PutError;
+use site_base::MOST_BYTES;
 
 // Files of a site.
 pub(crate) const MOST_FILES: usize = 50_000;
-
-// Bytes of one file.
-pub(crate) const MOST_BYTES: usize = 16_777_216;
 
 // Bytes of all files together.
 pub(crate) const MOST_SITE_BYTES: u64 = 536_870_912;

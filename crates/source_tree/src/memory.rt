@@ -8,12 +8,12 @@ ghost use Rattle.site_base.specs.Places.{AllDiffer, paths_of};
 ghost use Rattle.source_tree.specs.Put.{plain};
 
 use crate::SourceTree;
-use site_base::{ListError, Memory, PathMap, ReadError, SitePath};
+use site_base::{ListError, MOST_BYTES, Memory, PathMap, ReadError, SitePath};
 use std::alloc::Global;
 use std::marker::Model;
 
 // One byte more than a file may have shows that it is too long.
-pub(crate) const MOST_READ: usize = 16_777_217;
+pub(crate) const MOST_READ: usize = MOST_BYTES + 1;
 
 /// A source in memory, which fails at listed calls.
 #[derive(Drop)]
@@ -21,7 +21,7 @@ pub struct MemorySource {
     files: PathMap<Vec<u8>>,
     fail: Vec<u64>,
     calls: u64,
-    faults: u64,
+    failures: u64,
 }
 
 impl Model for MemorySource {
@@ -37,7 +37,7 @@ impl Model for MemorySource {
       files = plain_files (as_map source.files);
       fail = source.fail.items;
       calls = source.calls;
-      faults = source.faults;
+      failures = source.failures;
     } };
 
     ghost invariant = { λ source. HasNoClash (plain_files (as_map source.files)) };
@@ -48,13 +48,13 @@ impl MemorySource {
     pub fn new(files: Vec<(SitePath, Vec<u8>)>, fail: Vec<u64>) -> MemorySource
         requires differ { AllDiffer (paths_of files.items) }
         requires clash_free { ClashFree (paths_of files.items) }
-        ensures { result ≡ record { files = map.from_entries (plain files.items); fail = fail.items; calls = 0; faults = 0 } }
+        ensures { result ≡ record { files = map.from_entries (plain files.items); fail = fail.items; calls = 0; failures = 0 } }
     {
         MemorySource {
             files: PathMap::from_entries(files).unwrap(),
             fail,
             calls: 0,
-            faults: 0,
+            failures: 0,
         }
     }
 
@@ -81,14 +81,14 @@ impl MemorySource {
         ensures fail { self.new.fail ≡ self.old.fail }
         ensures calls { self.new.calls ≡ min (self.old.calls + 1) (2 ^ 64 - 1) }
         ensures listed { IsTrue result ↔ Contains self.old.fail self.new.calls }
-        ensures later { self.old.faults ≤ self.new.faults }
-        ensures rose { IsTrue result → Rose self.old.faults self.new.faults }
-        ensures steady { result ≡ false → self.new.faults ≡ self.old.faults }
+        ensures later { self.old.failures ≤ self.new.failures }
+        ensures rose { IsTrue result → Rose self.old.failures self.new.failures }
+        ensures steady { result ≡ false → self.new.failures ≡ self.old.failures }
     {
         self.calls = self.calls.saturating_add(1);
         let fails = self.fail.contains(&self.calls);
         if fails {
-            self.faults = self.faults.saturating_add(1);
+            self.failures = self.failures.saturating_add(1);
         }
         fails
     }
@@ -97,13 +97,13 @@ impl MemorySource {
 impl SourceTree for MemorySource {
     ghost files = { λ source. Some source.files };
 
-    ghost faults = { λ source. source.faults };
+    ghost failures = { λ source. source.failures };
 
     fn list(&mut self, alloc: Global) -> Result<Vec<SitePath>, ListError>
         ensures lists { Lists (Some self.old.files) result }
         ensures clash_free { IfOk result (λ paths. ClashFree paths.items) }
         ensures same { Some self.new.files ≡ Some self.old.files }
-        ensures cause { HasCauseOf ListError.Failed self.old.faults self.new.faults result }
+        ensures cause { HasCauseOf ListError.Failed self.old.failures self.new.failures result }
         // It fails exactly at the listed calls.
         ensures listed { IsErrOf result ListError.Failed ↔ Contains self.old.fail self.new.calls }
         ensures calls { self.new.calls ≡ min (self.old.calls + 1) (2 ^ 64 - 1) }
@@ -119,7 +119,7 @@ impl SourceTree for MemorySource {
         requires { Has (Some self.old.files) path.now }
         ensures reads { Reads (Some self.old.files) path.now result }
         ensures same { Some self.new.files ≡ Some self.old.files }
-        ensures cause { HasCauseOf ReadError.Failed self.old.faults self.new.faults result }
+        ensures cause { HasCauseOf ReadError.Failed self.old.failures self.new.failures result }
         // It fails exactly at the listed calls.
         ensures listed { IsErrOf result ReadError.Failed ↔ Contains self.old.fail self.new.calls }
         ensures calls { self.new.calls ≡ min (self.old.calls + 1) (2 ^ 64 - 1) }

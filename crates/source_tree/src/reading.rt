@@ -8,14 +8,17 @@ ghost use Rattle.site_base.specs.Listing.{Has, Reads};
 ghost use Rattle.site_base.specs.Places.{Files};
 ghost use Rattle.site_base.specs.declared.faults.FaultKind.TheVariants.{FileTooLong};
 ghost use Rattle.site_base.specs.declared.faults.SiteFault.{SiteFault};
-ghost use Rattle.source_tree.specs.Limits.{bytes_of, most_bytes, most_files, most_site_bytes};
+ghost use Rattle.site_base.specs.Limits.{most_bytes};
+ghost use Rattle.source_tree.specs.Limits.{bytes_of, most_files, most_site_bytes};
 ghost use Rattle.source_tree.specs.Rise.{Rise};
 ghost use Rattle.source_tree.specs.Scan.{first_long, scan_fault};
 
 use crate::held::Held;
-use crate::limits::{MOST_BYTES, MOST_FILES, MOST_SITE_BYTES};
+use crate::limits::{MOST_FILES, MOST_SITE_BYTES};
 use crate::{ScanError, SourceTree};
-use site_base::{FaultKind, ListError, Memory, PathMap, ReadError, SharedBytes, SitePath};
+use site_base::{
+    FaultKind, ListError, MOST_BYTES, Memory, PathMap, ReadError, SharedBytes, SitePath,
+};
 use std::alloc::Global;
 
 // The files that were read, in byte order, or the path at which their sum passed its limit.
@@ -73,7 +76,7 @@ impl Reading {
             (files : Files) → S.files source.old ≡ Some files →
             (fault ≡ fault_at FileTooLong fault.path) × (first_long (map.entries files) ≡ Some fault.path)) }
         ensures same { S.files source.new ≡ S.files source.old }
-        ensures cause { HasCauseOf ScanError.Failed (S.faults source.old) (S.faults source.new) result }
+        ensures cause { HasCauseOf ScanError.Failed (S.failures source.old) (S.failures source.new) result }
     {
         let mut reading = Reading {
             files: Vec::new(alloc),
@@ -92,13 +95,16 @@ impl Reading {
 }
 
 // The site of a source, where it may be held.
-pub(crate) fn read_site<S: SourceTree>(alloc: Global, source: &mut S) -> Result<Held, ScanError>
+pub(crate) fn read_all_files<S: SourceTree>(
+    alloc: Global,
+    source: &mut S,
+) -> Result<Held, ScanError>
     ensures told { (files : Files) → S.files source.old ≡ Some files →
         IfOk result (λ held. (held ≡ files) × (scan_fault (map.entries files) ≡ None)) }
     ensures limit { (files : Files) (fault : SiteFault) → S.files source.old ≡ Some files →
         result ≡ Err (ScanError.Limit fault) → scan_fault (map.entries files) ≡ Some fault }
     ensures same { S.files source.new ≡ S.files source.old }
-    ensures cause { HasCauseOf ScanError.Failed (S.faults source.old) (S.faults source.new) result }
+    ensures cause { HasCauseOf ScanError.Failed (S.failures source.old) (S.failures source.new) result }
 {
     let paths = list_sorted(alloc, source)?;
     let reading = match Reading::read_all(alloc, source, paths) {
@@ -121,7 +127,7 @@ fn list_sorted<S: SourceTree>(alloc: Global, source: &mut S) -> Result<Vec<SiteP
     ensures limit { (files : Files) (fault : SiteFault) → S.files source.old ≡ Some files →
         result ≡ Err (ScanError.Limit fault) → scan_fault (map.entries files) ≡ Some fault }
     ensures same { S.files source.new ≡ S.files source.old }
-    ensures cause { HasCauseOf ScanError.Failed (S.faults source.old) (S.faults source.new) result }
+    ensures cause { HasCauseOf ScanError.Failed (S.failures source.old) (S.failures source.new) result }
 {
     let mut paths = match source.list(alloc) {
         Ok(paths) => paths,
@@ -144,7 +150,7 @@ fn read_one<S: SourceTree>(
     requires { Has (S.files source.old) path.now }
     ensures reads { Reads (S.files source.old) path.now result }
     ensures same { S.files source.new ≡ S.files source.old }
-    ensures cause { HasCauseOf ScanError.Failed (S.faults source.old) (S.faults source.new) result }
+    ensures cause { HasCauseOf ScanError.Failed (S.failures source.old) (S.failures source.new) result }
     ensures no_limit { (fault : SiteFault) → IsErrOf result (ScanError.Limit fault) → ⊥ }
 {
     match source.read(alloc, path) {

@@ -14,19 +14,19 @@ pub trait SourceTree {
     ghost files: { Self → Option Files };
 
     /// How often it has failed.
-    ghost faults: { Self → ℕ };
+    ghost failures: { Self → ℕ };
 
     /// The paths of its files, in any order. None is a folder of another.
     fn list(&mut self, alloc: Global) -> Result<Vec<SitePath>, ListError>
         ensures lists { Lists (files self.old) result }
         ensures clash_free { IfOk result (λ paths. ClashFree paths.items) }
         ensures same { files self.new ≡ files self.old }
-        ensures cause { HasCauseOf ListError.Failed (faults self.old) (faults self.new) result };
+        ensures cause { HasCauseOf ListError.Failed (failures self.old) (failures self.new) result };
 
     /// The bytes of a file, cut after 16,777,217.
     fn read(&mut self, alloc: Global, path: &SitePath) -> Result<Vec<u8>, ReadError>
         requires { Has (files self.old) path.now }
         ensures reads { Reads (files self.old) path.now result }
         ensures same { files self.new ≡ files self.old }
-        ensures cause { HasCauseOf ReadError.Failed (faults self.old) (faults self.new) result };
+        ensures cause { HasCauseOf ReadError.Failed (failures self.old) (failures self.new) result };
 }

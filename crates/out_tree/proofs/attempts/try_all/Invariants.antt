@@ -6,7 +6,7 @@ use Rattle.out_tree.proofs.attempts.try_all.Given as goal
 abbrev pub invariant-loop-planned : goal.invariant-loop-planned
 invariant-loop-planned g l = record {
   whole : l.fn.steps.items ≡ l.yielded ++ l.planned-iterator.rest.items;
-  tried : Tried (map (λ p. p.step) l.yielded) (as_map l.fn.belief) (as_map l.belief) (g.O.OutTree.contents l.fn.device) (g.O.OutTree.contents l.device) (g.O.OutTree.calls l.fn.device) (g.O.OutTree.calls l.device) (g.O.OutTree.faults l.fn.device) (g.O.OutTree.faults l.device) l.fn.failed.items l.failed.items;
+  tried : Tried (map (λ p. p.step) l.yielded) (as_map l.fn.belief) (as_map l.belief) (g.O.OutTree.contents l.fn.device) (g.O.OutTree.contents l.device) (g.O.OutTree.calls l.fn.device) (g.O.OutTree.calls l.device) (g.O.OutTree.failures l.fn.device) (g.O.OutTree.failures l.device) l.fn.failed.items l.failed.items;
   room_left : length l.planned-iterator.rest.items ≤ room l.belief;
   room_used : room l.fn.belief ≤ room l.belief + length l.yielded;
   failed_room : vec_len l.failed + length l.planned-iterator.rest.items ≤ vec_capacity l.failed;

@@ -48,13 +48,13 @@ lines-preserved g c = record {
       let so = c.lines.invariant.so_far given text before why told out bytes w in
       let told1 = c.lines.invariant.same ∙ told in
       let counts : Counts = record {
-        source_first = g.S.SourceTree.faults c.args.source.now;
-        source_now = g.S.SourceTree.faults c.lines.source;
-        output_first = g.O.OutTree.faults c.args.out.now;
-        output_now = g.O.OutTree.faults c.lines.out;
+        source_first = g.S.SourceTree.failures c.args.source.now;
+        source_now = g.S.SourceTree.failures c.lines.source;
+        output_first = g.O.OutTree.failures c.args.out.now;
+        output_now = g.O.OutTree.failures c.lines.out;
       } in
-      let source_now = g.S.SourceTree.faults c.turn.new.source in
-      let output_now = g.O.OutTree.faults c.turn.new.out in (
+      let source_now = g.S.SourceTree.failures c.turn.new.source in
+      let output_now = g.O.OutTree.failures c.turn.new.out in (
         c.next_line-line.ensures.over ∙ (c.in-None-turn.ensures.next given _ why told1 so.1.going.output so.1.going.bytes).goes,
         subst (λ (n : ℕ). SoFar g.O.OutTree.contents given c.args.session.now text before c.turn.new.session n (g.I.ByteSource.left c.next_line-line.new.input) (g.K.ByteSink.taken c.turn.new.sink) c.args.out.now c.turn.new.out (moved counts source_now output_now)) c.number.ensures
             (session_more g.O.OutTree.contents given c.args.session.now text before c.lines.session c.lines.reader.lines c.number.result

@@ -8,10 +8,10 @@ abbrev pub invariant-lines : goal.invariant-lines
 invariant-lines g l = record {
   can : (goal.iterator-lines g).can_next l.iterator' × (goal.iterator-lines g).is_finite l.iterator';
   same : g.S.SourceTree.files l.source ≡ g.S.SourceTree.files l.fn.source;
-  input_later : g.I.ByteSource.faults l.fn.input ≤ g.I.ByteSource.faults l.input;
-  sink_later : g.K.ByteSink.faults l.fn.sink ≤ g.K.ByteSink.faults l.sink;
+  input_later : g.I.ByteSource.failures l.fn.input ≤ g.I.ByteSource.failures l.input;
+  sink_later : g.K.ByteSink.failures l.fn.sink ≤ g.K.ByteSink.failures l.sink;
   so_far : (given : Given) (text before : List ℕ) → given.why ≡ l.why → g.S.SourceTree.files l.fn.source ≡ Some given.source → Holds (g.O.OutTree.contents l.fn.out) l.fn.session.belief given.output →
       g.I.ByteSource.left l.fn.input ≡ Some text → g.K.ByteSink.taken l.fn.sink ≡ Some before →
       (l.reader.over ≡ false) × SoFar g.O.OutTree.contents given l.fn.session text before l.session l.reader.lines (g.I.ByteSource.left l.input) (g.K.ByteSink.taken l.sink) l.fn.out l.out
-      (record { source_first = g.S.SourceTree.faults l.fn.source; source_now = g.S.SourceTree.faults l.source; output_first = g.O.OutTree.faults l.fn.out; output_now = g.O.OutTree.faults l.out });
+      (record { source_first = g.S.SourceTree.failures l.fn.source; source_now = g.S.SourceTree.failures l.source; output_first = g.O.OutTree.failures l.fn.out; output_now = g.O.OutTree.failures l.out });
 }

@@ -52,10 +52,10 @@ returns-in-Session-clause-session g c = λ given options text before is why told
     let order_is = ordered call.Jobs c.args.words.now _ _ _ _ moment_is c.in-Ok.ensures is in
     let options_is = same_session c.in-Ok.order c.in-Session.options options c.in-Session.is order_is in
     let counts : Counts = record {
-      source_first = g.S.SourceTree.faults c.args.source.now;
-      source_now = g.S.SourceTree.faults c.run_session.new.source;
-      output_first = g.O.OutTree.faults c.args.out.now;
-      output_now = g.O.OutTree.faults c.run_session.new.out;
+      source_first = g.S.SourceTree.failures c.args.source.now;
+      source_now = g.S.SourceTree.failures c.run_session.new.source;
+      output_first = g.O.OutTree.failures c.args.out.now;
+      output_now = g.O.OutTree.failures c.run_session.new.out;
     } in
     subst (λ (s : Standing). SessionRun g.O.OutTree.contents given s text before (g.I.ByteSource.left c.run_session.new.input) (g.K.ByteSink.taken c.run_session.new.sink) c.args.out.now c.run_session.new.out counts c.run_session.result) (same_start _ _ _ _ (ap (λ (o : Options). o.settings) options_is) moment_is)
     (c.run_session.ensures.run given text before (why ∙ ap (λ (o : Options). o.why) (sym options_is)) told out bytes w)

@@ -9,10 +9,10 @@ pub returns-clause-run : goal.returns-clause-run
 returns-clause-run g c = λ given text before why told out bytes w.
     let opened : c.open-session.result ≡ start c.args.options.settings c.args.moment = search rules in
     let counts : Counts = record {
-      source_first = g.S.SourceTree.faults c.args.source.now;
-      source_now = g.S.SourceTree.faults c.do_lines.new.source;
-      output_first = g.O.OutTree.faults c.args.out.now;
-      output_now = g.O.OutTree.faults c.do_lines.new.out;
+      source_first = g.S.SourceTree.failures c.args.source.now;
+      source_now = g.S.SourceTree.failures c.do_lines.new.source;
+      output_first = g.O.OutTree.failures c.args.out.now;
+      output_now = g.O.OutTree.failures c.do_lines.new.out;
     } in
     subst (λ (s : Standing). SessionRun g.O.OutTree.contents given s text before (g.I.ByteSource.left c.do_lines.new.input) (g.K.ByteSink.taken c.do_lines.new.sink) c.args.out.now c.do_lines.new.out counts c.do_lines.result) opened
     (c.do_lines.ensures.run given text before why told (holds_first c.open-session.result _ given.output (ap (λ (s : Standing). s.belief) opened) out) bytes w)

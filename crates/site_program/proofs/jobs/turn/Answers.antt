@@ -9,10 +9,10 @@ use Rattle.site_program.proofs.jobs.turn.Goals as goal
 pub returns-in-Ok-clause-next : goal.returns-in-Ok-clause-next
 returns-in-Ok-clause-next g c = λ given before why told h w.
     let counts : Counts = record {
-      source_first = g.S.SourceTree.faults c.args.source.now;
-      source_now = g.S.SourceTree.faults c.do_line.new.source;
-      output_first = g.O.OutTree.faults c.args.out.now;
-      output_now = g.O.OutTree.faults c.do_line.new.out;
+      source_first = g.S.SourceTree.failures c.args.source.now;
+      source_now = g.S.SourceTree.failures c.do_line.new.source;
+      output_first = g.O.OutTree.failures c.args.out.now;
+      output_now = g.O.OutTree.failures c.do_line.new.out;
     } in
     subst (λ (r : Option Status). IfNone r (GoesOn g.O.OutTree.contents given c.args.session.now c.args.number c.args.line before c.do_line.new.session (g.K.ByteSink.taken c.do_line.new.sink) c.args.out.now c.do_line.new.out counts)) (sym c.bad_status.ensures)
     (turned g.O.OutTree.contents given c.args.session.now c.args.number c.args.line before c.do_line.new.session _ c.args.out.now c.do_line.new.out counts c.in-Ok.reply c.in_default.not-End c.in_default.not-Eof (c.in_default.not-Failed, c.in_default.not-Memory)
@@ -22,10 +22,10 @@ returns-in-Ok-clause-next g c = λ given before why told h w.
 pub returns-in-Ok-clause-ends : goal.returns-in-Ok-clause-ends
 returns-in-Ok-clause-ends g c = λ given before why told h w.
     let counts : Counts = record {
-      source_first = g.S.SourceTree.faults c.args.source.now;
-      source_now = g.S.SourceTree.faults c.do_line.new.source;
-      output_first = g.O.OutTree.faults c.args.out.now;
-      output_now = g.O.OutTree.faults c.do_line.new.out;
+      source_first = g.S.SourceTree.failures c.args.source.now;
+      source_now = g.S.SourceTree.failures c.do_line.new.source;
+      output_first = g.O.OutTree.failures c.args.out.now;
+      output_now = g.O.OutTree.failures c.do_line.new.out;
     } in
     subst (λ (r : Option Status). IfSome r (λ s. EndsAt g.O.OutTree.contents given c.args.session.now c.args.number c.args.line before c.do_line.new.session (g.K.ByteSink.taken c.do_line.new.sink) c.args.out.now c.do_line.new.out s)) (sym c.bad_status.ensures)
     (turned g.O.OutTree.contents given c.args.session.now c.args.number c.args.line before c.do_line.new.session _ c.args.out.now c.do_line.new.out counts c.in-Ok.reply c.in_default.not-End c.in_default.not-Eof (c.in_default.not-Failed, c.in_default.not-Memory)

@@ -6,7 +6,7 @@ abbrev pub invariant-loop-block : goal.invariant-loop-block
 invariant-loop-block g l = record {
   so_far : (text : List ℕ) → g.I.ByteSource.left l.fn.input ≡ Some text → HasRead text l.bytes.items (g.I.ByteSource.left l.input);
   within : length l.bytes.items ≤ l.count;
-  steady : g.I.ByteSource.faults l.input ≡ g.I.ByteSource.faults l.fn.input;
+  steady : g.I.ByteSource.failures l.input ≡ g.I.ByteSource.failures l.fn.input;
 }
 
 abbrev pub decreases-loop-block : goal.decreases-loop-block

@@ -8,5 +8,5 @@ invariant-loop-count g l = record {
   so_far : (text : List ℕ) → g.I.ByteSource.left l.fn.input ≡ Some text → HasRead text l.bytes.items (g.I.ByteSource.left l.input);
   no_lf : list_any is_lf l.bytes.items ≡ false;
   many : length l.bytes.items ≡ l.count;
-  steady : g.I.ByteSource.faults l.input ≡ g.I.ByteSource.faults l.fn.input;
+  steady : g.I.ByteSource.failures l.input ≡ g.I.ByteSource.failures l.fn.input;
 }

@@ -19,4 +19,4 @@ pub returns-clause-ok : goal.returns-clause-ok
 returns-clause-ok c = on_ok c.put.result _ _ (λ put.
     let bytes = c.into_vec.ensures ∙ c.in_ok-bytes.ensures in
     let files = ap (map_values (λ v. v.items)) put ∙ map_values-insert (λ v. v.items) (as_map c.self.inside.files) c.in_ok-path.path c.into_vec.result ∙ (λ i. insert (c.self.view_is i).files (c.in_ok-path.ensures i) (bytes i)) in
-    λ i. record { files = files i; told = (c.self.view_is i).told; fail = (c.self.view_is i).fail; calls = (c.self.view_is i).calls; faults = (c.self.view_is i).faults; short = (c.self.view_is i).short }) c.put.ensures.ok
+    λ i. record { files = files i; told = (c.self.view_is i).told; fail = (c.self.view_is i).fail; calls = (c.self.view_is i).calls; failures = (c.self.view_is i).failures; short = (c.self.view_is i).short }) c.put.ensures.ok

@@ -12,4 +12,4 @@ invariant_of-self c = no_clash-remove (as_map c.self.inside.files) _ c.args.path
 pub returns : goal.returns
 returns c =
     let files = ap (map_values (λ v. v.items)) c.remove.ensures.map ∙ map_values-remove (λ v. v.items) (as_map c.self.inside.files) c.args.path.now ∙ (λ i. remove (c.self.view_is i).files c.args.path.now) in
-    λ i. record { files = files i; told = (c.self.view_is i).told; fail = (c.self.view_is i).fail; calls = (c.self.view_is i).calls; faults = (c.self.view_is i).faults; short = (c.self.view_is i).short }
+    λ i. record { files = files i; told = (c.self.view_is i).told; fail = (c.self.view_is i).fail; calls = (c.self.view_is i).calls; failures = (c.self.view_is i).failures; short = (c.self.view_is i).short }

@@ -39,8 +39,8 @@ returns-clause-session g c = λ options is.
     let input = ap (λ (i : InputState). Some i.left) c.in_ok-ends.ensures.input in
     let sink = ap (λ (s : SinkState). Some s.taken) c.in_ok-ends.ensures.sink in
     let given = told_of c.args.self.now options in
-    let source_first = ap (λ (s : SourceState). s.faults) c.in_ok-ends.ensures.source in
-    let output_first = ap (λ (o : OutState). o.faults) c.in_ok-ends.ensures.out in
+    let source_first = ap (λ (s : SourceState). s.failures) c.in_ok-ends.ensures.source in
+    let output_first = ap (λ (o : OutState). o.failures) c.in_ok-ends.ensures.out in
     session contents given _ _ c.args.self.now.script.now _ _ _ _ _ _ _ _ (ap (start options.settings) same) c.in_ok-ends.ensures.out
-    (λ i. record { source_first = source_first i; source_now = c.run_jobs-status.new.source.faults; output_first = output_first i; output_now = c.run_jobs-status.new.out.faults })
+    (λ i. record { source_first = source_first i; source_now = c.run_jobs-status.new.source.failures; output_first = output_first i; output_now = c.run_jobs-status.new.out.failures })
     (c.run_jobs-status.ensures.session given options c.args.self.now.script.now [] order refl source out input sink)

@@ -24,5 +24,5 @@ pub returns : goal.returns
 returns c =
     let files = c.args.files.items in
     let made = made_of (AllDiffer (paths_of files) → ⊥) (Made files) c.from_entries.result c.unwrap.result c.unwrap.ensures c.from_entries.ensures in
-    let state : Files → SourceState = λ m. record { files = m; fail = c.args.fail.items; calls = 0; faults = 0 } in
+    let state : Files → SourceState = λ m. record { files = m; fail = c.args.fail.items; calls = 0; failures = 0 } in
     ap state (ap plain_files made.1 ∙ plain_files-from_entries files)

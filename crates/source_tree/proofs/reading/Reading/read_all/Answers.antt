@@ -24,7 +24,7 @@ loop-path-preserved g c =
     let i = c.loop-path.invariant in
     record {
       same = c.read_one.ensures.same ∙ i.same;
-      faults = c.in_ok-bytes.ensures.cause.same ∙ i.faults;
+      failures = c.in_ok-bytes.ensures.cause.same ∙ i.failures;
       follows = follows-step c.args.paths.items _ _ c.in_ok-bytes.bytes.items c.loop-path.reading c.add.new.self (subst (λ (left : List (List ℕ)). Follows c.args.paths.items left c.loop-path.reading) c.in-Some.ensures.steps.0 i.follows) c.in_ok-add.ensures;
       going = λ files told.
           let going = subst (λ (left : List (List ℕ)). Going files left c.loop-path.reading) c.in-Some.ensures.steps.0 (i.going files told) in
