@@ -1,0 +1,2 @@
+mod NumberRows
+pub mod TableLaws

@@ -1,0 +1,42 @@
+-- The table of the filters: the name of each, and what it means.
+use Rattle.std.specs.Prelude.{ℕ, ℤ, List, [], ◌∷◌, codes, Option, Result, Ok, Err}
+use Rattle.std.specs.Map.{lookup}
+use Rattle.std.specs.Str.{bytes_eq}
+use Rattle.site_base.specs.Chains.{◌>>=◌}
+use Rattle.site_base.specs.Plain.{Plain, int}
+use Rattle.site_base.specs.declared.faults.FaultKind.{FaultKind}
+use Rattle.liquid_filters.specs.Answers.{Meaning, made}
+use Rattle.liquid_filters.specs.Numbers.{number_filter}
+use Rattle.liquid_filters.specs.declared.numbers.NumberFilter.{NumberFilter}
+use Rattle.liquid_filters.specs.declared.numbers.NumberFilter.TheVariants.{Abs, AtLeast, AtMost, Ceil, DividedBy, Floor, Minus, Modulo, Plus, Round, Times}
+use Rattle.liquid_filters.specs.declared.filter_name.FilterName.{FilterName}
+use Rattle.liquid_filters.specs.declared.filter_name.FilterName.TheVariants as family
+
+abbrev pub number_value : Result ℤ FaultKind → Result Plain FaultKind
+number_value found = found >>= λ n. Ok (int n)
+
+abbrev pub number : NumberFilter → Meaning
+number filter v ws = made (number_value (number_filter filter v ws))
+
+unfoldable pub rows : List (List ℕ × Meaning)
+rows =
+    (codes "abs", number Abs)
+    ∷ (codes "at_least", number AtLeast)
+    ∷ (codes "at_most", number AtMost)
+    ∷ (codes "ceil", number Ceil)
+    ∷ (codes "divided_by", number DividedBy)
+    ∷ (codes "floor", number Floor)
+    ∷ (codes "minus", number Minus)
+    ∷ (codes "modulo", number Modulo)
+    ∷ (codes "plus", number Plus)
+    ∷ (codes "round", number Round)
+    ∷ (codes "times", number Times)
+    ∷ []
+
+-- the filter of this name
+abbrev pub filter_named : List ℕ → Option Meaning
+filter_named name = lookup (bytes_eq name) rows
+
+-- what the code's own name of a filter stands for
+abbrev pub meaning_of : FilterName → Meaning
+meaning_of (family.Number filter) = number filter

@@ -1,0 +1,83 @@
+// What a filter gives.
+ghost use Rattle.std.specs.Prelude.{◌≡◌, map};
+ghost use Rattle.site_base.specs.View.{plain};
+ghost use Rattle.read_record.specs.Queries.{run};
+ghost use Rattle.liquid_filters.specs.Answers.{in_plain, limited, made, Makes, Gives, Replies, Filters};
+ghost use Rattle.liquid_filters.specs.Table.{filter_named, meaning_of, number_value};
+
+use crate::FilterName;
+use crate::limits::fitted;
+use crate::numbers::number_filter;
+use crate::stop::{Filtered, Stop};
+use read_record::Look;
+use site_base::{FaultKind, Value};
+use std::alloc::Global;
+
+/// What the filter of a name makes of an input and arguments, by what it looks up. `Unknown` comes exactly where the name is not
+/// in the table.
+pub fn filter<L: Look>(
+    alloc: Global,
+    name: &str,
+    input: &Value,
+    args: &[Value],
+    look: &mut L,
+) -> Filtered
+    ensures same { L.view look.new ≡ L.view look.old }
+    ensures gives { Filters (filter_named name.now) (L.view look.old) (L.trace look.old) (plain input.now) (map plain args.now) result (L.trace look.new) }
+{
+    match FilterName::named(name) {
+        Some(filter) => filter.apply(alloc, input, args, look),
+        None => Filtered::Unknown,
+    }
+}
+
+impl FilterName {
+    /// What the filter makes of an input and arguments.
+    pub fn apply<L: Look>(
+        self,
+        alloc: Global,
+        input: &Value,
+        args: &[Value],
+        look: &mut L,
+    ) -> Filtered
+        ensures same { L.view look.new ≡ L.view look.old }
+        ensures gives { Replies (run (L.view look.old) (L.trace look.old) (limited (meaning_of self (plain input.now) (map plain args.now)))) result (L.trace look.new) }
+    {
+        match self.value(alloc, input, args, look) {
+            Ok(value) => answer(fitted(value)),
+            Err(stop) => Filtered::from(stop),
+        }
+    }
+
+    // The same, before its limits are tested.
+    fn value<L: Look>(
+        self,
+        alloc: Global,
+        input: &Value,
+        args: &[Value],
+        look: &mut L,
+    ) -> Result<Value, Stop>
+        ensures same { L.view look.new ≡ L.view look.old }
+        ensures gives { Gives (L.view look.old) (L.trace look.old) (meaning_of self (plain input.now) (map plain args.now)) result (L.trace look.new) }
+    {
+        match self {
+            FilterName::Number(filter) => number(number_filter(filter, input, args)),
+        }
+    }
+}
+
+fn number(found: Result<i64, FaultKind>) -> Result<Value, Stop>
+    ensures { Makes (number_value found) result }
+{
+    match found {
+        Ok(number) => Ok(Value::Int(number)),
+        Err(kind) => Err(Stop::Fault(kind)),
+    }
+}
+
+fn answer(found: Result<Value, FaultKind>) -> Filtered {
+    match found {
+        Ok(value) => Filtered::Value(value),
+        Err(kind) => Filtered::Fault(kind),
+    }
+}

@@ -1,0 +1,132 @@
+// The filters of numbers.
+ghost use Rattle.std.specs.Prelude.{◌≡◌, map};
+ghost use Rattle.std.specs.Int.{int_max, int_min};
+ghost use Rattle.site_base.specs.View.{plain};
+ghost use Rattle.liquid_filters.specs.Numbers.{absolute, sum, difference, product, quotient, remainder, lone, both, number_filter};
+
+use crate::arguments::{no_more, one};
+use crate::numerals::{fit, num};
+use site_base::{FaultKind, Value};
+
+/// A filter that gives a number.
+#[derive(Clone, Copy, Debug, PartialEq, Eq)]
+pub enum NumberFilter {
+    Abs,
+    AtLeast,
+    AtMost,
+    Ceil,
+    DividedBy,
+    Floor,
+    Minus,
+    Modulo,
+    Plus,
+    Round,
+    Times,
+}
+
+pub(crate) fn number_filter(
+    filter: NumberFilter,
+    input: &Value,
+    args: &[Value],
+) -> Result<i64, FaultKind>
+    ensures { result ≡ number_filter filter (plain input.now) (map plain args.now) }
+{
+    match filter {
+        NumberFilter::Abs => absolute(lone(input, args)?),
+        NumberFilter::AtLeast => at_least(both(input, args)?),
+        NumberFilter::AtMost => at_most(both(input, args)?),
+        NumberFilter::Ceil => lone(input, args),
+        NumberFilter::DividedBy => quotient(both(input, args)?),
+        NumberFilter::Floor => lone(input, args),
+        NumberFilter::Minus => difference(both(input, args)?),
+        NumberFilter::Modulo => remainder(both(input, args)?),
+        NumberFilter::Plus => sum(both(input, args)?),
+        NumberFilter::Round => lone(input, args),
+        NumberFilter::Times => product(both(input, args)?),
+    }
+}
+
+// The input as a number.
+fn lone(input: &Value, args: &[Value]) -> Result<i64, FaultKind>
+    ensures { result ≡ lone (plain input.now) (map plain args.now) }
+{
+    no_more(args)?;
+    num(input)
+}
+
+// The input and the argument as numbers.
+fn both(input: &Value, args: &[Value]) -> Result<(i64, i64), FaultKind>
+    ensures { result ≡ both (plain input.now) (map plain args.now) }
+{
+    let argument = one(args)?;
+    Ok((num(input)?, num(argument)?))
+}
+
+fn absolute(number: i64) -> Result<i64, FaultKind>
+    ensures { result ≡ absolute number }
+{
+    fit(i128::from(number).abs())
+}
+
+fn at_least(numbers: (i64, i64)) -> Result<i64, FaultKind>
+    ensures { result ≡ Ok (int_max numbers.0 numbers.1) }
+{
+    Ok(numbers.0.max(numbers.1))
+}
+
+fn at_most(numbers: (i64, i64)) -> Result<i64, FaultKind>
+    ensures { result ≡ Ok (int_min numbers.0 numbers.1) }
+{
+    Ok(numbers.0.min(numbers.1))
+}
+
+fn sum(numbers: (i64, i64)) -> Result<i64, FaultKind>
+    ensures { result ≡ sum numbers.0 numbers.1 }
+{
+    fit(i128::from(numbers.0) + i128::from(numbers.1))
+}
+
+fn difference(numbers: (i64, i64)) -> Result<i64, FaultKind>
+    ensures { result ≡ difference numbers.0 numbers.1 }
+{
+    fit(i128::from(numbers.0) - i128::from(numbers.1))
+}
+
+fn product(numbers: (i64, i64)) -> Result<i64, FaultKind>
+    ensures { result ≡ product numbers.0 numbers.1 }
+{
+    match numbers.0.checked_mul(numbers.1) {
+        Some(product) => Ok(product),
+        None => Err(FaultKind::Overflow),
+    }
+}
+
+// Rounded down; by a number below 0 it is the quotient of both numbers turned.
+fn quotient(numbers: (i64, i64)) -> Result<i64, FaultKind>
+    ensures { result ≡ quotient numbers.0 numbers.1 }
+{
+    let number = i128::from(numbers.0);
+    let divisor = i128::from(numbers.1);
+    if divisor == 0 {
+        Err(FaultKind::DividedByZero)
+    } else if divisor > 0 {
+        fit(number.div_euclid(divisor))
+    } else {
+        fit((-number).div_euclid(-divisor))
+    }
+}
+
+// What such a quotient leaves, which has the divisor's sign.
+fn remainder(numbers: (i64, i64)) -> Result<i64, FaultKind>
+    ensures { result ≡ remainder numbers.0 numbers.1 }
+{
+    let number = i128::from(numbers.0);
+    let divisor = i128::from(numbers.1);
+    if divisor == 0 {
+        Err(FaultKind::DividedByZero)
+    } else if divisor > 0 {
+        fit(number.rem_euclid(divisor))
+    } else {
+        fit(-(-number).rem_euclid(-divisor))
+    }
+}

@@ -1,0 +1,79 @@
+// What a value counts as where a number is wanted.
+ghost use Rattle.std.specs.Prelude.{◌≡◌, true};
+ghost use Rattle.site_base.specs.View.{plain};
+ghost use Rattle.liquid_filters.specs.Numerals.{fitting, is_digit, is_digits, without_dash, is_whole, is_decimal, text_number, num};
+
+use site_base::{FaultKind, Value};
+
+/// The number that a value counts as; what is no number counts as 0.
+pub(crate) fn num(value: &Value) -> Result<i64, FaultKind>
+    ensures { result ≡ num (plain value.now) }
+{
+    match value {
+        Value::Int(number) => Ok(*number),
+        Value::Text(text) => text_number(text.as_str()),
+        _ => Ok(0),
+    }
+}
+
+/// The number, where an `i64` holds it.
+pub(crate) fn fit(number: i128) -> Result<i64, FaultKind>
+    ensures { result ≡ fitting number }
+{
+    match i64::try_from(number) {
+        Ok(number) => Ok(number),
+        Err(_) => Err(FaultKind::Overflow),
+    }
+}
+
+fn text_number(text: &str) -> Result<i64, FaultKind>
+    ensures { result ≡ text_number text.now }
+{
+    if is_whole(text) {
+        return whole_number(text);
+    }
+    if is_decimal(text) {
+        return Err(FaultKind::Fraction);
+    }
+    Ok(0)
+}
+
+fn whole_number(text: &str) -> Result<i64, FaultKind>
+    requires { is_whole text.now ≡ true }
+    ensures { result ≡ text_number text.now }
+{
+    match text.parse::<i64>() {
+        Ok(number) => Ok(number),
+        Err(_) => Err(FaultKind::Overflow),
+    }
+}
+
+fn is_decimal(text: &str) -> bool
+    ensures { result ≡ is_decimal text.now }
+{
+    match text.split_once('.') {
+        Some((front, digits)) => is_whole(front) && is_digits(digits.as_bytes()),
+        None => false,
+    }
+}
+
+fn is_whole(text: &str) -> bool
+    ensures { result ≡ is_whole text.now }
+{
+    is_digits(without_dash(text.as_bytes()))
+}
+
+fn without_dash(text: &[u8]) -> &[u8]
+    ensures { result.now ≡ without_dash text.now }
+{
+    match text {
+        [b'-', digits @ ..] => digits,
+        _ => text,
+    }
+}
+
+fn is_digits(text: &[u8]) -> bool
+    ensures { result ≡ is_digits text.now }
+{
+    !text.is_empty() && text.iter().all(|c| 48 <= *c && *c <= 57)
+}
