@@ -1,6 +1,10 @@
 pub mod Answers
 pub mod Arguments
+pub mod Elements
 pub mod Limits
+pub mod Lists
 pub mod Numbers
 pub mod Numerals
 pub mod Table
+pub mod Taken
+pub mod Writing

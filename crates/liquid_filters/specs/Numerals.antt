@@ -1,6 +1,6 @@
 -- What a value counts as where a number is wanted.
-use Rattle.std.specs.Prelude.{ℕ, suc, ◌==◌, ◌^◌, nat_lt, nat_le, ℤ, pos, negsuc, Bool, ◌&&◌, not, List, [], ◌∷◌, length, take, drop, if◌then◌else◌, Result, Ok, Err}
-use Rattle.std.specs.List.{list_all, position_or_len}
+use Rattle.std.specs.Prelude.{ℕ, ◌==◌, ◌^◌, nat_lt, nat_le, ℤ, pos, negsuc, Bool, ◌&&◌, not, List, [], ◌∷◌, length, if◌then◌else◌, Result, Ok, Err}
+use Rattle.std.specs.List.{list_all, position_or_len, before_first, after_first}
 use Rattle.std.specs.Str.Parse.{signed_digits_value}
 use Rattle.site_base.specs.Plain.{Plain, nil, bool, int, text, list, hash, site_item, range}
 use Rattle.site_base.specs.declared.faults.FaultKind.{FaultKind}
@@ -33,7 +33,7 @@ is_dot c = c == 46
 
 -- a whole number, a dot and digits
 abbrev pub is_decimal : List ℕ → Bool
-is_decimal t = let n = position_or_len is_dot t in nat_lt n (length t) && (is_whole (take n t) && is_digits (drop (suc n) t))
+is_decimal t = nat_lt (position_or_len is_dot t) (length t) && (is_whole (before_first is_dot t) && is_digits (after_first is_dot t))
 
 abbrev pub text_number : List ℕ → Result ℤ FaultKind
 text_number t =

@@ -9,6 +9,9 @@ use Rattle.liquid_filters.specs.Answers.{Meaning, made}
 use Rattle.liquid_filters.specs.Numbers.{number_filter}
 use Rattle.liquid_filters.specs.declared.numbers.NumberFilter.{NumberFilter}
 use Rattle.liquid_filters.specs.declared.numbers.NumberFilter.TheVariants.{Abs, AtLeast, AtMost, Ceil, DividedBy, Floor, Minus, Modulo, Plus, Round, Times}
+use Rattle.liquid_filters.specs.Lists.{list_filter}
+use Rattle.liquid_filters.specs.declared.lists.ListFilter.{ListFilter}
+use Rattle.liquid_filters.specs.declared.lists.ListFilter.TheVariants.{Concat, Default, First, Join, Last, Reverse, Size}
 use Rattle.liquid_filters.specs.declared.filter_name.FilterName.{FilterName}
 use Rattle.liquid_filters.specs.declared.filter_name.FilterName.TheVariants as family
 
@@ -18,18 +21,28 @@ number_value found = found >>= λ n. Ok (int n)
 abbrev pub number : NumberFilter → Meaning
 number filter v ws = made (number_value (number_filter filter v ws))
 
+abbrev pub listing : ListFilter → Meaning
+listing filter v ws = made (list_filter filter v ws)
+
 unfoldable pub rows : List (List ℕ × Meaning)
 rows =
     (codes "abs", number Abs)
     ∷ (codes "at_least", number AtLeast)
     ∷ (codes "at_most", number AtMost)
     ∷ (codes "ceil", number Ceil)
+    ∷ (codes "concat", listing Concat)
+    ∷ (codes "default", listing Default)
     ∷ (codes "divided_by", number DividedBy)
+    ∷ (codes "first", listing First)
     ∷ (codes "floor", number Floor)
+    ∷ (codes "join", listing Join)
+    ∷ (codes "last", listing Last)
     ∷ (codes "minus", number Minus)
     ∷ (codes "modulo", number Modulo)
     ∷ (codes "plus", number Plus)
+    ∷ (codes "reverse", listing Reverse)
     ∷ (codes "round", number Round)
+    ∷ (codes "size", listing Size)
     ∷ (codes "times", number Times)
     ∷ []
 
@@ -39,4 +52,5 @@ filter_named name = lookup (bytes_eq name) rows
 
 -- what the code's own name of a filter stands for
 abbrev pub meaning_of : FilterName → Meaning
+meaning_of (family.List filter) = listing filter
 meaning_of (family.Number filter) = number filter

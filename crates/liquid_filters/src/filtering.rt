@@ -7,6 +7,7 @@ ghost use Rattle.liquid_filters.specs.Table.{filter_named, meaning_of, number_va
 
 use crate::FilterName;
 use crate::limits::fitted;
+use crate::lists::list_filter;
 use crate::numbers::number_filter;
 use crate::stop::{Filtered, Stop};
 use read_record::Look;
@@ -61,6 +62,7 @@ impl FilterName {
         ensures gives { Gives (L.view look.old) (L.trace look.old) (meaning_of self (plain input.now) (map plain args.now)) result (L.trace look.new) }
     {
         match self {
+            FilterName::List(filter) => list_filter(alloc, filter, input, args),
             FilterName::Number(filter) => number(number_filter(filter, input, args)),
         }
     }

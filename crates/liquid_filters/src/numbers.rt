@@ -1,7 +1,8 @@
 // The filters of numbers.
-ghost use Rattle.std.specs.Prelude.{◌≡◌, map};
-ghost use Rattle.std.specs.Int.{int_max, int_min};
+ghost use Rattle.std.specs.Prelude.{◌≡◌, ◌<ℤ◌, pos, neg_ℤ, map};
+ghost use Rattle.std.specs.Int.{int_max, int_min, int_div_euclid, int_rem_euclid};
 ghost use Rattle.site_base.specs.View.{plain};
+ghost use Rattle.liquid_filters.specs.Numerals.{fitting};
 ghost use Rattle.liquid_filters.specs.Numbers.{absolute, sum, difference, product, quotient, remainder, lone, both, number_filter};
 
 use crate::arguments::{no_more, one};
@@ -105,28 +106,38 @@ fn product(numbers: (i64, i64)) -> Result<i64, FaultKind>
 fn quotient(numbers: (i64, i64)) -> Result<i64, FaultKind>
     ensures { result ≡ quotient numbers.0 numbers.1 }
 {
-    let number = i128::from(numbers.0);
-    let divisor = i128::from(numbers.1);
-    if divisor == 0 {
+    if numbers.1 == 0 {
         Err(FaultKind::DividedByZero)
-    } else if divisor > 0 {
-        fit(number.div_euclid(divisor))
+    } else if numbers.1 > 0 {
+        fit(i128::from(numbers.0).div_euclid(i128::from(numbers.1)))
     } else {
-        fit((-number).div_euclid(-divisor))
+        turned_quotient(numbers)
     }
+}
+
+fn turned_quotient(numbers: (i64, i64)) -> Result<i64, FaultKind>
+    requires { numbers.1 <ℤ pos 0 }
+    ensures { result ≡ fitting (int_div_euclid (neg_ℤ numbers.0) (neg_ℤ numbers.1)) }
+{
+    fit((-i128::from(numbers.0)).div_euclid(-i128::from(numbers.1)))
 }
 
 // What such a quotient leaves, which has the divisor's sign.
 fn remainder(numbers: (i64, i64)) -> Result<i64, FaultKind>
     ensures { result ≡ remainder numbers.0 numbers.1 }
 {
-    let number = i128::from(numbers.0);
-    let divisor = i128::from(numbers.1);
-    if divisor == 0 {
+    if numbers.1 == 0 {
         Err(FaultKind::DividedByZero)
-    } else if divisor > 0 {
-        fit(number.rem_euclid(divisor))
+    } else if numbers.1 > 0 {
+        fit(i128::from(numbers.0).rem_euclid(i128::from(numbers.1)))
     } else {
-        fit(-(-number).rem_euclid(-divisor))
+        turned_remainder(numbers)
     }
+}
+
+fn turned_remainder(numbers: (i64, i64)) -> Result<i64, FaultKind>
+    requires { numbers.1 <ℤ pos 0 }
+    ensures { result ≡ fitting (neg_ℤ (int_rem_euclid (neg_ℤ numbers.0) (neg_ℤ numbers.1))) }
+{
+    fit(-(-i128::from(numbers.0)).rem_euclid(-i128::from(numbers.1)))
 }

@@ -1,5 +1,7 @@
 // What a value counts as where a number is wanted.
-ghost use Rattle.std.specs.Prelude.{◌≡◌, true};
+ghost use Rattle.std.specs.Prelude.{◌≡◌};
+ghost use Rattle.std.specs.List.{list_all};
+ghost use Rattle.std.specs.Str.Parse.{IsNumeral, without_leading_sign, signed_digits_value};
 ghost use Rattle.site_base.specs.View.{plain};
 ghost use Rattle.liquid_filters.specs.Numerals.{fitting, is_digit, is_digits, without_dash, is_whole, is_decimal, text_number, num};
 
@@ -39,8 +41,8 @@ fn text_number(text: &str) -> Result<i64, FaultKind>
 }
 
 fn whole_number(text: &str) -> Result<i64, FaultKind>
-    requires { is_whole text.now ≡ true }
-    ensures { result ≡ text_number text.now }
+    requires { IsNumeral 10 (without_leading_sign text.now) }
+    ensures { result ≡ fitting (signed_digits_value 10 text.now) }
 {
     match text.parse::<i64>() {
         Ok(number) => Ok(number),
@@ -75,5 +77,11 @@ fn without_dash(text: &[u8]) -> &[u8]
 fn is_digits(text: &[u8]) -> bool
     ensures { result ≡ is_digits text.now }
 {
-    !text.is_empty() && text.iter().all(|c| 48 <= *c && *c <= 57)
+    !text.is_empty() && all_digits(text)
+}
+
+fn all_digits(text: &[u8]) -> bool
+    ensures { result ≡ list_all is_digit text.now }
+{
+    text.iter().all(|c| 48 <= *c && *c <= 57)
 }
