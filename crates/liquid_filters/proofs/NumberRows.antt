@@ -4,7 +4,7 @@ use Rattle.site_base.specs.Plain.{nil, int, text}
 use Rattle.site_base.specs.declared.faults.FaultKind.TheVariants.{FilterArgument, DividedByZero, Overflow, Fraction}
 use Rattle.liquid_filters.specs.Numerals.{num}
 use Rattle.liquid_filters.specs.Numbers.{number_filter}
-use Rattle.liquid_filters.specs.declared.numbers.NumberFilter.TheVariants.{Abs, AtLeast, AtMost, DividedBy, Minus, Modulo, Plus, Round, Times}
+use Rattle.liquid_filters.specs.declared.numbers.NumberFilter.TheVariants.{Abs, AtMost, DividedBy, Modulo, Plus, Times}
 
 row-1 : number_filter DividedBy (int (negsuc 6)) (int (pos 2) ∷ []) ≡ Ok (negsuc 3)
 row-1 = refl

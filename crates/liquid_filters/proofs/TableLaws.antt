@@ -1,5 +1,5 @@
 -- The table of the code against that of the definition.
-use Rattle.std.proofs.Common.{◌≡◌, ℕ, Bool, List, [], ◌∷◌, refl, ap, ◌∙◌, Some, None, arith}
+use Rattle.std.proofs.Common.{◌≡◌, ℕ, List, [], ◌∷◌, refl, ap, ◌∙◌, Some, None, arith}
 use Rattle.std.specs.Prelude.{map, Option}
 use Rattle.std.specs.Borrow.{Bor}
 use Rattle.std.specs.List.{find}

@@ -1,10 +1,10 @@
 -- What is too long in part is too long as a whole.
-use Rattle.std.proofs.Common.{◌≡◌, ℕ, ◌+◌, ◌<◌, ltb, true, List, ◌++◌, length, length-append, refl, sym, ap, ◌∙◌, arith, subst, append_assoc, Ok, Err}
+use Rattle.std.proofs.Common.{◌≡◌, ℕ, ◌+◌, ◌<◌, ltb, true, List, ◌++◌, length, length-append, sym, ap, ◌∙◌, arith, subst, append_assoc, Result, Ok, Err}
 use Rattle.std.proofs.lemmas.Bool.{lt-ltb}
 use Rattle.site_base.specs.Plain.{text}
 use Rattle.liquid_filters.specs.Answers.{Makes}
 use Rattle.liquid_filters.specs.Limits.{most_text}
-use Rattle.liquid_filters.specs.Writing.{Refuses}
+use Rattle.liquid_filters.specs.Writing.{Refuses, Writes}
 use Rattle.liquid_filters.specs.declared.stop.Stop.{Stop}
 use Rattle.liquid_filters.specs.declared.stop.Stop.TheVariants as stop
 
@@ -19,7 +19,9 @@ refused whole old piece rest (stop.Needs j) same h = absurd h
 refused whole old piece rest stop.Memory same h = tt
 
 pub refuses_more : (old a b : List ℕ) (e : Stop) → Refuses old a e → Refuses old (a ++ b) e
-refuses_more old a b (stop.Fault k) h = (h.0, omega (arith, simp length-append at h.1, simp length-append at (ap length (append_assoc old a b))))
+refuses_more old a b (stop.Fault k) h =
+    let long : most_text < length old + length a = simp length-append at h.1 in
+    (h.0, simp length-append (omega arith))
 refuses_more old a b (stop.Needs j) h = h
 refuses_more old a b stop.Memory h = tt
 
@@ -27,3 +29,7 @@ pub refuses_then : (old a b : List ℕ) (e : Stop) → Refuses (old ++ a) b e �
 refuses_then old a b (stop.Fault k) h = (h.0, subst (λ (t : List ℕ). most_text < length t) (append_assoc old a b) h.1)
 refuses_then old a b (stop.Needs j) h = h
 refuses_then old a b stop.Memory h = tt
+
+pub writes_then : (old mid new a b : List ℕ) (r : Result (Unit {0}) Stop) → mid ≡ old ++ a → Writes mid new b r → Writes old new (a ++ b) r
+writes_then old mid new a b (Ok done) e h = h ∙ ap (λ (t : List ℕ). t ++ b) e ∙ append_assoc old a b
+writes_then old mid new a b (Err stop) e h = refuses_then old a b stop (subst (λ (t : List ℕ). Refuses t b stop) e h)

@@ -1,9 +1,9 @@
 -- What calls answer, in terms of definitions.
-use Rattle.std.specs.Prelude.{◌≡◌, ℕ, ℤ, List, Option, Some, None, Result, Ok, Err, map}
+use Rattle.std.specs.Prelude.{◌≡◌, List, Option, Some, None, Result, Ok, Err}
 use Rattle.std.specs.Borrow.{Bor}
 use Rattle.std.specs.Option.{option_map, option_copied}
 use Rattle.site_base.specs.Chains.{◌>>=◌}
-use Rattle.site_base.specs.Plain.{Plain, int}
+use Rattle.site_base.specs.Plain.{Plain}
 use Rattle.site_base.specs.View.{plain}
 use Rattle.site_base.specs.declared.faults.FaultKind.{FaultKind}
 use Rattle.site_base.specs.declared.value.Value.{Value}
@@ -72,6 +72,10 @@ Stops ran stop.Memory t = Unit {0}
 abbrev pub Gives : View → Trace → Query FaultKind Plain → Result Value Stop → Trace → Type 0
 Gives view old q (Ok v) new = run view old q ≡ RanTo (plain v) new
 Gives view old q (Err e) new = Stops (run view old (limited q)) e new
+
+abbrev pub answered : Result Value FaultKind → Filtered
+answered (Ok v) = filtered.Value v
+answered (Err k) = filtered.Fault k
 
 abbrev pub stopped : Stop → Filtered
 stopped (stop.Fault k) = filtered.Fault k

@@ -1,10 +1,13 @@
 pub mod Answers
 pub mod Arguments
+pub mod Changes
 pub mod Elements
 pub mod Limits
 pub mod Lists
 pub mod Numbers
 pub mod Numerals
+pub mod Samples
 pub mod Table
 pub mod Taken
+pub mod Texts
 pub mod Writing

@@ -2,7 +2,7 @@
 use Rattle.std.specs.Prelude.{ℕ, pos, Bool, true, false, not, List, [], ◌∷◌, ◌++◌, length, if◌then◌else◌, ◌==◌, Option, Some, None, Result, Ok, Err}
 use Rattle.std.specs.Str.{chars}
 use Rattle.site_base.specs.Chains.{◌>>=◌}
-use Rattle.site_base.specs.Plain.{Plain, nil, bool, int, text, list, hash, site_item, range, Items, no_items, item, Pairs, no_pairs, pair, count, count_pairs, onto}
+use Rattle.site_base.specs.Plain.{Plain, nil, bool, int, text, list, hash, site_item, range, Items, no_items, item, count, count_pairs, onto}
 use Rattle.site_base.specs.Values.{value_text}
 use Rattle.site_base.specs.declared.faults.FaultKind.{FaultKind}
 use Rattle.site_base.specs.declared.faults.FaultKind.TheVariants.{FilterArgument}
@@ -28,15 +28,14 @@ abbrev pub reversed : Items → Items
 reversed no_items = no_items
 reversed (item v is) = onto (reversed is) (item v no_items)
 
--- the texts of the items, each behind this text
-abbrev pub texts_behind : List ℕ → Items → List ℕ
-texts_behind between no_items = []
-texts_behind between (item v is) = between ++ (value_text v ++ texts_behind between is)
+-- the texts of the items, the first behind one text and each other behind another
+abbrev pub texts_behind : List ℕ → List ℕ → Items → List ℕ
+texts_behind before between no_items = []
+texts_behind before between (item v is) = before ++ (value_text v ++ texts_behind between between is)
 
 -- with this text between them
 abbrev pub joined : List ℕ → Items → List ℕ
-joined between no_items = []
-joined between (item v is) = value_text v ++ texts_behind between is
+joined between is = texts_behind [] between is
 
 -- the text of an argument, or a space where there is none
 abbrev pub between_text : Option Plain → List ℕ

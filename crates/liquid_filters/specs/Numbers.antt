@@ -1,5 +1,5 @@
 -- The filters of numbers.
-use Rattle.std.specs.Prelude.{ℤ, pos, negsuc, zero, suc, ◌+ℤ◌, ◌-ℤ◌, ◌*ℤ◌, neg_ℤ, unsigned_abs, List, Result, Ok, Err}
+use Rattle.std.specs.Prelude.{ℤ, pos, int_lt, if◌then◌else◌, ◌+ℤ◌, ◌-ℤ◌, ◌*ℤ◌, neg_ℤ, unsigned_abs, List, Result, Ok, Err}
 use Rattle.std.specs.Int.{int_div_euclid, int_rem_euclid, int_max, int_min}
 use Rattle.site_base.specs.Chains.{◌>>=◌}
 use Rattle.site_base.specs.Plain.{Plain}
@@ -24,15 +24,17 @@ product n m = fitting (n *ℤ m)
 
 -- rounded down; by a number below 0 it is the quotient of both numbers turned
 abbrev pub quotient : ℤ → ℤ → Result ℤ FaultKind
-quotient n (pos zero) = Err DividedByZero
-quotient n (pos (suc m)) = fitting (int_div_euclid n (pos (suc m)))
-quotient n (negsuc m) = fitting (int_div_euclid (neg_ℤ n) (pos (suc m)))
+quotient n m =
+    if int_lt (pos 0) m then fitting (int_div_euclid n m)
+    else if int_lt m (pos 0) then fitting (int_div_euclid (neg_ℤ n) (neg_ℤ m))
+    else Err DividedByZero
 
 -- what such a quotient leaves, which has the divisor's sign
 abbrev pub remainder : ℤ → ℤ → Result ℤ FaultKind
-remainder n (pos zero) = Err DividedByZero
-remainder n (pos (suc m)) = fitting (int_rem_euclid n (pos (suc m)))
-remainder n (negsuc m) = fitting (neg_ℤ (int_rem_euclid (neg_ℤ n) (pos (suc m))))
+remainder n m =
+    if int_lt (pos 0) m then fitting (int_rem_euclid n m)
+    else if int_lt m (pos 0) then fitting (neg_ℤ (int_rem_euclid (neg_ℤ n) (neg_ℤ m)))
+    else Err DividedByZero
 
 -- the input as a number
 abbrev pub lone : Plain → List Plain → Result ℤ FaultKind

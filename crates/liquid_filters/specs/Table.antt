@@ -1,5 +1,5 @@
 -- The table of the filters: the name of each, and what it means.
-use Rattle.std.specs.Prelude.{ℕ, ℤ, List, [], ◌∷◌, codes, Option, Result, Ok, Err}
+use Rattle.std.specs.Prelude.{ℕ, ℤ, List, [], ◌∷◌, codes, Option, Result, Ok}
 use Rattle.std.specs.Map.{lookup}
 use Rattle.std.specs.Str.{bytes_eq}
 use Rattle.site_base.specs.Chains.{◌>>=◌}
@@ -9,9 +9,15 @@ use Rattle.liquid_filters.specs.Answers.{Meaning, made}
 use Rattle.liquid_filters.specs.Numbers.{number_filter}
 use Rattle.liquid_filters.specs.declared.numbers.NumberFilter.{NumberFilter}
 use Rattle.liquid_filters.specs.declared.numbers.NumberFilter.TheVariants.{Abs, AtLeast, AtMost, Ceil, DividedBy, Floor, Minus, Modulo, Plus, Round, Times}
+use Rattle.liquid_filters.specs.Changes.{change_filter}
+use Rattle.liquid_filters.specs.declared.changes.TextChange.{TextChange}
+use Rattle.liquid_filters.specs.declared.changes.TextChange.TheVariants.{Capitalize, Downcase, Lstrip, Rstrip, Strip, Upcase, UrlEncode}
 use Rattle.liquid_filters.specs.Lists.{list_filter}
 use Rattle.liquid_filters.specs.declared.lists.ListFilter.{ListFilter}
 use Rattle.liquid_filters.specs.declared.lists.ListFilter.TheVariants.{Concat, Default, First, Join, Last, Reverse, Size}
+use Rattle.liquid_filters.specs.Texts.{text_filter}
+use Rattle.liquid_filters.specs.declared.texts.TextFilter.{TextFilter}
+use Rattle.liquid_filters.specs.declared.texts.TextFilter.TheVariants.{Append, Prepend}
 use Rattle.liquid_filters.specs.declared.filter_name.FilterName.{FilterName}
 use Rattle.liquid_filters.specs.declared.filter_name.FilterName.TheVariants as family
 
@@ -24,26 +30,41 @@ number filter v ws = made (number_value (number_filter filter v ws))
 abbrev pub listing : ListFilter → Meaning
 listing filter v ws = made (list_filter filter v ws)
 
+abbrev pub changing : TextChange → Meaning
+changing change v ws = made (change_filter change v ws)
+
+abbrev pub texting : TextFilter → Meaning
+texting filter v ws = made (text_filter filter v ws)
+
 unfoldable pub rows : List (List ℕ × Meaning)
 rows =
     (codes "abs", number Abs)
+    ∷ (codes "append", texting Append)
     ∷ (codes "at_least", number AtLeast)
     ∷ (codes "at_most", number AtMost)
+    ∷ (codes "capitalize", changing Capitalize)
     ∷ (codes "ceil", number Ceil)
     ∷ (codes "concat", listing Concat)
     ∷ (codes "default", listing Default)
     ∷ (codes "divided_by", number DividedBy)
+    ∷ (codes "downcase", changing Downcase)
     ∷ (codes "first", listing First)
     ∷ (codes "floor", number Floor)
     ∷ (codes "join", listing Join)
     ∷ (codes "last", listing Last)
+    ∷ (codes "lstrip", changing Lstrip)
     ∷ (codes "minus", number Minus)
     ∷ (codes "modulo", number Modulo)
     ∷ (codes "plus", number Plus)
+    ∷ (codes "prepend", texting Prepend)
     ∷ (codes "reverse", listing Reverse)
     ∷ (codes "round", number Round)
+    ∷ (codes "rstrip", changing Rstrip)
     ∷ (codes "size", listing Size)
+    ∷ (codes "strip", changing Strip)
     ∷ (codes "times", number Times)
+    ∷ (codes "upcase", changing Upcase)
+    ∷ (codes "url_encode", changing UrlEncode)
     ∷ []
 
 -- the filter of this name
@@ -52,5 +73,7 @@ filter_named name = lookup (bytes_eq name) rows
 
 -- what the code's own name of a filter stands for
 abbrev pub meaning_of : FilterName → Meaning
+meaning_of (family.Change change) = changing change
 meaning_of (family.List filter) = listing filter
 meaning_of (family.Number filter) = number filter
+meaning_of (family.Text filter) = texting filter

@@ -1,9 +1,8 @@
 -- What a call takes its input for, by the code's own type.
-use Rattle.std.specs.Prelude.{◌≡◌, List, Result, Ok, Err}
+use Rattle.std.specs.Prelude.{◌≡◌, Result, Ok, Err}
 use Rattle.site_base.specs.Plain.{Items}
 use Rattle.site_base.specs.View.{items_of}
 use Rattle.site_base.specs.declared.faults.FaultKind.{FaultKind}
-use Rattle.site_base.specs.declared.value.Value.{Value}
 use Rattle.liquid_filters.specs.declared.elements.Elements.{Elements}
 use Rattle.liquid_filters.specs.declared.elements.Elements.TheVariants.{Lent, Counted}
 use Rattle.liquid_filters.specs.declared.stop.Stop.{Stop}

@@ -1,5 +1,5 @@
 // What a filter of lists takes its input for.
-ghost use Rattle.std.specs.Prelude.{◌≡◌, ◌^◌, pos, ◌+ℤ◌, ◌≤ℤ◌, IfOk};
+ghost use Rattle.std.specs.Prelude.{◌≡◌, ◌^◌, pos, ◌+ℤ◌, ◌≤ℤ◌, ◌<ℤ◌, IfOk};
 ghost use Rattle.site_base.specs.Plain.{range};
 ghost use Rattle.site_base.specs.View.{plain, items_of};
 ghost use Rattle.liquid_filters.specs.Elements.{counted, range_len, range_count, elements};
@@ -79,10 +79,15 @@ fn counted(alloc: Global, first: i64, count: u64) -> Result<List, Memory>
     ensures { IfOk result (λ list. list ≡ counted first count) }
 {
     let mut list = List::new(alloc);
-    let mut number = i128::from(first);
     for place in 0..count {
-        list.push(Value::Int(number as i64))?;
-        number += 1;
+        list.push(Value::Int(number_at(first, place)))?;
     }
     Ok(list)
+}
+
+fn number_at(first: i64, place: u64) -> i64
+    requires { (first +ℤ pos place) <ℤ pos (2 ^ 63) }
+    ensures { result ≡ first +ℤ pos place }
+{
+    (i128::from(first) + i128::from(place)) as i64
 }

@@ -2,36 +2,49 @@
 ghost use Rattle.std.specs.Prelude.{◌≡◌, option_map};
 ghost use Rattle.liquid_filters.specs.Table.{filter_named, meaning_of};
 
+use crate::changes::TextChange;
 use crate::lists::ListFilter;
 use crate::numbers::NumberFilter;
+use crate::texts::TextFilter;
 
 /// A filter, by the family that it belongs to.
 #[derive(Clone, Copy, Debug, PartialEq, Eq)]
 pub enum FilterName {
+    Change(TextChange),
     List(ListFilter),
     Number(NumberFilter),
+    Text(TextFilter),
 }
 
 // The table.
-const ROWS: [(&str, FilterName); 18] = [
+const ROWS: [(&str, FilterName); 27] = [
     ("abs", FilterName::Number(NumberFilter::Abs)),
+    ("append", FilterName::Text(TextFilter::Append)),
     ("at_least", FilterName::Number(NumberFilter::AtLeast)),
     ("at_most", FilterName::Number(NumberFilter::AtMost)),
+    ("capitalize", FilterName::Change(TextChange::Capitalize)),
     ("ceil", FilterName::Number(NumberFilter::Ceil)),
     ("concat", FilterName::List(ListFilter::Concat)),
     ("default", FilterName::List(ListFilter::Default)),
     ("divided_by", FilterName::Number(NumberFilter::DividedBy)),
+    ("downcase", FilterName::Change(TextChange::Downcase)),
     ("first", FilterName::List(ListFilter::First)),
     ("floor", FilterName::Number(NumberFilter::Floor)),
     ("join", FilterName::List(ListFilter::Join)),
     ("last", FilterName::List(ListFilter::Last)),
+    ("lstrip", FilterName::Change(TextChange::Lstrip)),
     ("minus", FilterName::Number(NumberFilter::Minus)),
     ("modulo", FilterName::Number(NumberFilter::Modulo)),
     ("plus", FilterName::Number(NumberFilter::Plus)),
+    ("prepend", FilterName::Text(TextFilter::Prepend)),
     ("reverse", FilterName::List(ListFilter::Reverse)),
     ("round", FilterName::Number(NumberFilter::Round)),
+    ("rstrip", FilterName::Change(TextChange::Rstrip)),
     ("size", FilterName::List(ListFilter::Size)),
+    ("strip", FilterName::Change(TextChange::Strip)),
     ("times", FilterName::Number(NumberFilter::Times)),
+    ("upcase", FilterName::Change(TextChange::Upcase)),
+    ("url_encode", FilterName::Change(TextChange::UrlEncode)),
 ];
 
 impl FilterName {

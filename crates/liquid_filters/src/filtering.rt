@@ -2,14 +2,16 @@
 ghost use Rattle.std.specs.Prelude.{◌≡◌, map};
 ghost use Rattle.site_base.specs.View.{plain};
 ghost use Rattle.read_record.specs.Queries.{run};
-ghost use Rattle.liquid_filters.specs.Answers.{in_plain, limited, made, Makes, Gives, Replies, Filters};
+ghost use Rattle.liquid_filters.specs.Answers.{answered, limited, Makes, Gives, Replies, Filters};
 ghost use Rattle.liquid_filters.specs.Table.{filter_named, meaning_of, number_value};
 
 use crate::FilterName;
+use crate::changes::change_filter;
 use crate::limits::fitted;
 use crate::lists::list_filter;
 use crate::numbers::number_filter;
 use crate::stop::{Filtered, Stop};
+use crate::texts::text_filter;
 use read_record::Look;
 use site_base::{FaultKind, Value};
 use std::alloc::Global;
@@ -62,8 +64,10 @@ impl FilterName {
         ensures gives { Gives (L.view look.old) (L.trace look.old) (meaning_of self (plain input.now) (map plain args.now)) result (L.trace look.new) }
     {
         match self {
+            FilterName::Change(change) => change_filter(alloc, change, input, args),
             FilterName::List(filter) => list_filter(alloc, filter, input, args),
             FilterName::Number(filter) => number(number_filter(filter, input, args)),
+            FilterName::Text(filter) => text_filter(alloc, filter, input, args),
         }
     }
 }
@@ -77,7 +81,9 @@ fn number(found: Result<i64, FaultKind>) -> Result<Value, Stop>
     }
 }
 
-fn answer(found: Result<Value, FaultKind>) -> Filtered {
+fn answer(found: Result<Value, FaultKind>) -> Filtered
+    ensures { result ≡ answered found }
+{
     match found {
         Ok(value) => Filtered::Value(value),
         Err(kind) => Filtered::Fault(kind),

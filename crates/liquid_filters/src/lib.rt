@@ -2,6 +2,7 @@
 #![tactic(auto)]
 
 mod arguments;
+mod changes;
 mod elements;
 mod filter_name;
 mod filtering;
@@ -10,13 +11,16 @@ mod lists;
 mod numbers;
 mod numerals;
 mod stop;
+mod texts;
 mod writer;
 
+pub use changes::TextChange;
 pub use filter_name::FilterName;
 pub use filtering::filter;
 pub use lists::ListFilter;
 pub use numbers::NumberFilter;
 pub use stop::Filtered;
+pub use texts::TextFilter;
 
 #[cfg(test)]
 mod tests;

@@ -74,7 +74,6 @@ fn concat(alloc: Global, input: &Value, other: &Value) -> Result<Value, Stop>
     }
 }
 
-#[tactic(auto, using(crate::proofs::ItemLaws::onto_item, crate::proofs::ItemLaws::onto_nothing))]
 fn push_copies(alloc: Global, list: &mut List, values: &[Value]) -> Result<(), Memory>
     ensures { OnOk result (list.new ≡ onto list.old (items_of values.now)) }
 {
@@ -122,9 +121,15 @@ fn last(alloc: Global, input: &Value) -> Result<Value, Stop>
     ensures { Makes (last (plain input.now)) result }
 {
     let elements = Elements::of(alloc, input)?;
-    match elements.as_slice() {
+    Ok(last_of(alloc, elements.as_slice())?)
+}
+
+fn last_of(alloc: Global, values: &[Value]) -> Result<Value, Memory>
+    ensures { IfOk result (λ value. plain value ≡ last_item (items_of values.now)) }
+{
+    match values {
         [] => Ok(Value::Nil),
-        [.., value] => Ok(copy(alloc, value)?),
+        [.., value] => copy(alloc, value),
     }
 }
 
@@ -168,11 +173,10 @@ fn joined(alloc: Global, between: &str, values: &[Value]) -> Result<Value, Stop>
     ensures { Makes (Ok (text (joined between.now (items_of values.now)))) result }
 {
     let mut writer = Writer::new(alloc);
-    if let [first, others @ ..] = values {
-        writer.push_value(alloc, first)?;
-        for value in others {
-            push_behind(alloc, &mut writer, between, value)?;
-        }
+    let mut before = "";
+    for value in values {
+        push_behind(alloc, &mut writer, before, value)?;
+        before = between;
     }
     Ok(Value::Text(writer.finish()?))
 }

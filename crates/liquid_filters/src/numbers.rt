@@ -1,5 +1,5 @@
 // The filters of numbers.
-ghost use Rattle.std.specs.Prelude.{◌≡◌, ◌<ℤ◌, pos, neg_ℤ, map};
+ghost use Rattle.std.specs.Prelude.{◌≡◌, ◌<ℤ◌, ◌≤ℤ◌, pos, neg_ℤ, map};
 ghost use Rattle.std.specs.Int.{int_max, int_min, int_div_euclid, int_rem_euclid};
 ghost use Rattle.site_base.specs.View.{plain};
 ghost use Rattle.liquid_filters.specs.Numerals.{fitting};
@@ -106,12 +106,12 @@ fn product(numbers: (i64, i64)) -> Result<i64, FaultKind>
 fn quotient(numbers: (i64, i64)) -> Result<i64, FaultKind>
     ensures { result ≡ quotient numbers.0 numbers.1 }
 {
-    if numbers.1 == 0 {
-        Err(FaultKind::DividedByZero)
-    } else if numbers.1 > 0 {
-        fit(i128::from(numbers.0).div_euclid(i128::from(numbers.1)))
-    } else {
+    if numbers.1 > 0 {
+        divided(i128::from(numbers.0), i128::from(numbers.1))
+    } else if numbers.1 < 0 {
         turned_quotient(numbers)
+    } else {
+        Err(FaultKind::DividedByZero)
     }
 }
 
@@ -119,19 +119,32 @@ fn turned_quotient(numbers: (i64, i64)) -> Result<i64, FaultKind>
     requires { numbers.1 <ℤ pos 0 }
     ensures { result ≡ fitting (int_div_euclid (neg_ℤ numbers.0) (neg_ℤ numbers.1)) }
 {
-    fit((-i128::from(numbers.0)).div_euclid(-i128::from(numbers.1)))
+    divided(turned(numbers.0), turned(numbers.1))
+}
+
+fn turned(number: i64) -> i128
+    ensures { result ≡ neg_ℤ number }
+{
+    -i128::from(number)
+}
+
+fn divided(number: i128, divisor: i128) -> Result<i64, FaultKind>
+    requires { pos 0 <ℤ divisor }
+    ensures { result ≡ fitting (int_div_euclid number divisor) }
+{
+    fit(number.div_euclid(divisor))
 }
 
 // What such a quotient leaves, which has the divisor's sign.
 fn remainder(numbers: (i64, i64)) -> Result<i64, FaultKind>
     ensures { result ≡ remainder numbers.0 numbers.1 }
 {
-    if numbers.1 == 0 {
-        Err(FaultKind::DividedByZero)
-    } else if numbers.1 > 0 {
-        fit(i128::from(numbers.0).rem_euclid(i128::from(numbers.1)))
-    } else {
+    if numbers.1 > 0 {
+        fit(left(i128::from(numbers.0), i128::from(numbers.1)))
+    } else if numbers.1 < 0 {
         turned_remainder(numbers)
+    } else {
+        Err(FaultKind::DividedByZero)
     }
 }
 
@@ -139,5 +152,15 @@ fn turned_remainder(numbers: (i64, i64)) -> Result<i64, FaultKind>
     requires { numbers.1 <ℤ pos 0 }
     ensures { result ≡ fitting (neg_ℤ (int_rem_euclid (neg_ℤ numbers.0) (neg_ℤ numbers.1))) }
 {
-    fit(-(-i128::from(numbers.0)).rem_euclid(-i128::from(numbers.1)))
+    let rest = left(turned(numbers.0), turned(numbers.1));
+    fit(-rest)
+}
+
+// What is left behind a division.
+fn left(number: i128, divisor: i128) -> i128
+    requires { pos 0 <ℤ divisor }
+    ensures value { result ≡ int_rem_euclid number divisor }
+    ensures least { pos 0 ≤ℤ result }
+{
+    number.rem_euclid(divisor)
 }

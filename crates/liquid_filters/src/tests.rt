@@ -1,1 +1,219 @@
-// Tests.
+// What filters give, as texts of codes of values.
+use crate::{Filtered, filter};
+use read_record::{Answer, Key, Look};
+use site_base::{FaultKind, List, Memory, Text, Value, same_code};
+use std::alloc::Global;
+use std::test::Fail;
+
+// It finds nothing.
+struct Blank;
+
+impl Look for Blank {
+    ghost use Rattle.std.specs.Prelude.{None};
+    ghost use Rattle.liquid_filters.specs.Samples.{blank_view, blank-formed};
+
+    ghost view = { λ _. blank_view };
+
+    ghost trace = { λ _. None };
+
+    ghost formed = { λ _. blank-formed };
+
+    fn look(&mut self, _alloc: Global, key: &Key) -> Answer {
+        match key {
+            Key::Moment => Answer::Seen(Value::Int(0)),
+            _ => Answer::Seen(Value::Nil),
+        }
+    }
+}
+
+// A value, as rows have it.
+#[derive(Clone, Copy)]
+enum Given {
+    Absent,
+    Nil,
+    True,
+    Int(i64),
+    Text(&'static str),
+    Range(i64, i64),
+    // A list of a number, nil and a text.
+    Mixed,
+}
+
+fn mixed(alloc: Global) -> Result<List, Memory> {
+    let mut list = List::new(alloc);
+    list.push(Value::Int(1))?;
+    list.push(Value::Nil)?;
+    list.push(Value::Text(Text::copy(alloc, "é")?))?;
+    Ok(list)
+}
+
+fn value(alloc: Global, given: &Given) -> Result<Value, Memory> {
+    match given {
+        Given::Absent => Ok(Value::Nil),
+        Given::Nil => Ok(Value::Nil),
+        Given::True => Ok(Value::Bool(true)),
+        Given::Int(number) => Ok(Value::Int(*number)),
+        Given::Text(text) => Ok(Value::Text(Text::copy(alloc, text)?)),
+        Given::Range(first, last) => Ok(Value::Range(*first, *last)),
+        Given::Mixed => Ok(Value::List(mixed(alloc)?)),
+    }
+}
+
+fn arguments(alloc: Global, given: &Given) -> Result<Vec<Value>, Memory> {
+    let mut args = Vec::new(alloc);
+    match given {
+        Given::Absent => {}
+        _ => args.push(value(alloc, given)?)?,
+    }
+    Ok(args)
+}
+
+fn fault_text(kind: FaultKind) -> &'static str {
+    match kind {
+        FaultKind::FilterArgument => "F14",
+        FaultKind::DividedByZero => "F15",
+        FaultKind::Overflow => "F16",
+        FaultKind::Fraction => "F17",
+        FaultKind::RangeTooLong => "F19",
+        _ => "another fault",
+    }
+}
+
+// Whether a filter gives a value of this code, or the fault.
+fn gives(alloc: Global, row: &(&str, Given, Given, &str)) -> Result<bool, Memory> {
+    let input = value(alloc, &row.1)?;
+    let args = arguments(alloc, &row.2)?;
+    match filter(alloc, row.0, &input, args.as_slice(), &mut Blank) {
+        Filtered::Value(value) => Ok(same_code(&value, row.3.as_bytes())),
+        Filtered::Fault(kind) => Ok(fault_text(kind) == row.3),
+        Filtered::Unknown => Ok(row.3 == "unknown"),
+        Filtered::Needs(_) => Ok(false),
+        Filtered::Memory => Err(Memory),
+    }
+}
+
+const NUMBERS: &[(&str, Given, Given, &str)] = &[
+    ("divided_by", Given::Int(-7), Given::Int(2), "i-4;"),
+    ("divided_by", Given::Int(7), Given::Int(-2), "i-4;"),
+    ("divided_by", Given::Int(-7), Given::Int(-2), "i3;"),
+    ("divided_by", Given::Int(1), Given::Int(0), "F15"),
+    ("divided_by", Given::Int(1), Given::Nil, "F15"),
+    ("divided_by", Given::Int(i64::MIN), Given::Int(-1), "F16"),
+    ("modulo", Given::Int(-7), Given::Int(3), "i2;"),
+    ("modulo", Given::Int(7), Given::Int(-3), "i-2;"),
+    ("modulo", Given::Int(i64::MIN), Given::Int(-1), "i0;"),
+    ("modulo", Given::Int(1), Given::Text("0"), "F15"),
+    ("plus", Given::Int(i64::MAX), Given::Int(1), "F16"),
+    ("plus", Given::Text("1.5"), Given::Int(1), "F17"),
+    ("plus", Given::Text(" 12"), Given::Int(1), "i1;"),
+    ("plus", Given::Text("-12"), Given::True, "i-12;"),
+    ("plus", Given::Int(1), Given::Absent, "F14"),
+    ("minus", Given::Int(i64::MIN), Given::Int(1), "F16"),
+    ("times", Given::Int(i64::MIN), Given::Int(-1), "F16"),
+    ("times", Given::Mixed, Given::Int(3), "i0;"),
+    ("abs", Given::Int(i64::MIN), Given::Absent, "F16"),
+    ("abs", Given::Text("-3"), Given::Absent, "i3;"),
+    ("abs", Given::Int(1), Given::Int(1), "F14"),
+    ("at_least", Given::Int(4), Given::Int(5), "i5;"),
+    ("at_most", Given::Int(4), Given::Int(5), "i4;"),
+    (
+        "ceil",
+        Given::Text("9223372036854775808"),
+        Given::Absent,
+        "F16",
+    ),
+    ("floor", Given::Text("1.2"), Given::Absent, "F17"),
+    ("round", Given::Nil, Given::Absent, "i0;"),
+    ("nope", Given::Int(1), Given::Absent, "unknown"),
+];
+
+#[test]
+fn filters_of_numbers(rt: HostRuntime) -> Result<(), Fail> {
+    for row in NUMBERS {
+        assert!(rt; gives(rt.alloc(), row) == Ok(true));
+    }
+    Ok(())
+}
+
+const LISTS: &[(&str, Given, Given, &str)] = &[
+    ("size", Given::Text("aé"), Given::Absent, "i2;"),
+    ("size", Given::Mixed, Given::Absent, "i3;"),
+    ("size", Given::Int(12), Given::Absent, "i0;"),
+    (
+        "size",
+        Given::Range(1, 1_000_000),
+        Given::Absent,
+        "i1000000;",
+    ),
+    ("size", Given::Range(0, 1_000_000), Given::Absent, "F19"),
+    ("size", Given::Text("a"), Given::Nil, "F14"),
+    ("first", Given::Mixed, Given::Absent, "i1;"),
+    ("first", Given::Nil, Given::Absent, "n"),
+    ("first", Given::Text("ab"), Given::Absent, "s2:ab"),
+    ("last", Given::Mixed, Given::Absent, "s2:é"),
+    ("last", Given::Range(2, 4), Given::Absent, "i4;"),
+    ("last", Given::Range(4, 2), Given::Absent, "n"),
+    ("reverse", Given::Mixed, Given::Absent, "l3:s2:éni1;"),
+    (
+        "reverse",
+        Given::Range(-1, 1),
+        Given::Absent,
+        "l3:i1;i0;i-1;",
+    ),
+    ("reverse", Given::Int(5), Given::Absent, "l1:i5;"),
+    ("join", Given::Mixed, Given::Absent, "s5:1  é"),
+    ("join", Given::Mixed, Given::Text(", "), "s7:1, , é"),
+    ("join", Given::Nil, Given::Text("-"), "s0:"),
+    ("join", Given::Range(1, 3), Given::Int(0), "s5:10203"),
+    ("concat", Given::Mixed, Given::Mixed, "l6:i1;ns2:éi1;ns2:é"),
+    ("concat", Given::Nil, Given::Range(1, 2), "F14"),
+    ("concat", Given::Mixed, Given::Absent, "F14"),
+    ("default", Given::Text(""), Given::Int(3), "i3;"),
+    ("default", Given::Nil, Given::Nil, "n"),
+    ("default", Given::Int(0), Given::Int(3), "i0;"),
+    ("default", Given::Mixed, Given::Absent, "F14"),
+];
+
+#[test]
+fn filters_of_lists(rt: HostRuntime) -> Result<(), Fail> {
+    for row in LISTS {
+        assert!(rt; gives(rt.alloc(), row) == Ok(true));
+    }
+    Ok(())
+}
+
+const TEXTS: &[(&str, Given, Given, &str)] = &[
+    ("append", Given::Text("a"), Given::Int(1), "s2:a1"),
+    ("append", Given::Nil, Given::Mixed, "s3:1é"),
+    ("append", Given::Text("a"), Given::Absent, "F14"),
+    ("prepend", Given::Text("a"), Given::Text("b"), "s2:ba"),
+    ("upcase", Given::Text("aé1"), Given::Absent, "s4:Aé1"),
+    ("downcase", Given::Text("AÉ"), Given::Absent, "s3:aÉ"),
+    (
+        "capitalize",
+        Given::Text("aBC dE"),
+        Given::Absent,
+        "s6:Abc de",
+    ),
+    ("capitalize", Given::Text("éAB"), Given::Absent, "s4:éab"),
+    ("capitalize", Given::True, Given::Absent, "s4:True"),
+    ("strip", Given::Text(" \t a b\r\n"), Given::Absent, "s3:a b"),
+    ("lstrip", Given::Text(" a "), Given::Absent, "s2:a "),
+    ("rstrip", Given::Text(" é "), Given::Absent, "s3: é"),
+    ("strip", Given::Text("  "), Given::Absent, "s0:"),
+    (
+        "url_encode",
+        Given::Text("a b/é~"),
+        Given::Absent,
+        "s13:a+b%2F%C3%A9~",
+    ),
+    ("url_encode", Given::Text("a"), Given::Nil, "F14"),
+];
+
+#[test]
+fn filters_of_texts(rt: HostRuntime) -> Result<(), Fail> {
+    for row in TEXTS {
+        assert!(rt; gives(rt.alloc(), row) == Ok(true));
+    }
+    Ok(())
+}

@@ -4,7 +4,4 @@ use Rattle.liquid_filters.specs.Elements.{counted}
 use Rattle.liquid_filters.proofs.elements.counted.Given as goal
 
 abbrev pub invariant-loop-place : goal.invariant-loop-place
-invariant-loop-place l = record {
-  number : l.number ≡ l.first +ℤ pos l.place;
-  rest : onto l.list (counted l.number (l.count - l.place)) ≡ counted l.first l.count;
-}
+invariant-loop-place l = onto l.list (counted (l.first +ℤ pos l.place) (l.count - l.place)) ≡ counted l.first l.count

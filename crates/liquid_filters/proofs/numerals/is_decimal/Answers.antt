@@ -1,4 +1,4 @@
-use Rattle.std.proofs.Common.{ap, sym, ◌∙◌, lit<, Some, true, List, ℕ, Bool}
+use Rattle.std.proofs.Common.{◌≡◌, ap, sym, ◌∙◌, lit<, Some, true}
 use Rattle.std.proofs.lemmas.Str.Pattern.{split_once_first}
 use Rattle.liquid_filters.specs.Numerals.{is_whole, is_digits}
 use Rattle.liquid_filters.proofs.NumeralLaws.{decimal_parts}

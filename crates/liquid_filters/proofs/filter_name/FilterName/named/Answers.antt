@@ -1,4 +1,4 @@
-use Rattle.std.proofs.Common.{ℕ, List, ◌∙◌, ap, sym, rules, tests, refl}
+use Rattle.std.proofs.Common.{List, ◌∙◌, ap, sym, rules, tests, refl}
 use Rattle.std.specs.Prelude.{map}
 use Rattle.std.specs.Slice.Iter.{iter_rest}
 use Rattle.std.specs.Borrow.{Bor}
