@@ -6,6 +6,7 @@ use std::alloc::Global;
 use std::test::Fail;
 
 // It finds nothing.
+#[derive(Drop)]
 struct Blank;
 
 impl Look for Blank {
