@@ -1,6 +1,7 @@
 pub mod AnswerLaws
 pub mod ChangeLaws
 pub mod ItemLaws
+pub mod MarkLaws
 pub mod NestingLaws
 mod NumberRows
 pub mod NumeralLaws

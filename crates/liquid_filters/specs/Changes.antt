@@ -7,9 +7,11 @@ use Rattle.site_base.specs.Plain.{Plain, text}
 use Rattle.site_base.specs.Values.{value_text}
 use Rattle.site_base.specs.declared.faults.FaultKind.{FaultKind}
 use Rattle.liquid_filters.specs.Arguments.{no_more}
+use Rattle.liquid_filters.specs.Marks.{is_letter, marked}
 use Rattle.liquid_filters.specs.Numerals.{is_digit}
 use Rattle.liquid_filters.specs.declared.changes.TextChange.{TextChange}
-use Rattle.liquid_filters.specs.declared.changes.TextChange.TheVariants.{Capitalize, Downcase, Lstrip, Rstrip, Strip, Upcase, UrlEncode}
+use Rattle.liquid_filters.specs.declared.changes.TextChange.TheVariants.{Capitalize, Downcase, Escape, EscapeOnce, Lstrip, NewlineToBr, Rstrip, Strip, StripNewlines, Upcase, UrlEncode}
+use Rattle.liquid_filters.specs.declared.marks.Mark.TheVariants as mark
 
 -- in ASCII; the first character as a capital, all others small
 abbrev pub capitalized : List ℕ → List ℕ
@@ -26,9 +28,6 @@ without_front t = drop (prefix_len is_white t) t
 abbrev pub without_end : List ℕ → List ℕ
 without_end t = take (length t - suffix_len is_white t) t
 
-abbrev pub is_letter : ℕ → Bool
-is_letter c = (nat_lt 64 c && nat_lt c 91) || (nat_lt 96 c && nat_lt c 123)
-
 abbrev pub hex_digit : ℕ → ℕ
 hex_digit d = if nat_lt d 10 then 48 + d else 55 + d
 
@@ -43,9 +42,13 @@ url_byte c = if stays_in_urls c then c ∷ [] else if c == 32 then codes "+" els
 abbrev pub changed : TextChange → List ℕ → List ℕ
 changed Capitalize t = capitalized t
 changed Downcase t = map to_ascii_lowercase t
+changed Escape t = marked mark.Escape t
+changed EscapeOnce t = marked mark.EscapeOnce t
 changed Lstrip t = without_front t
+changed NewlineToBr t = marked mark.LineBreak t
 changed Rstrip t = without_end t
 changed Strip t = without_end (without_front t)
+changed StripNewlines t = marked mark.LineEnd t
 changed Upcase t = map to_ascii_uppercase t
 changed UrlEncode t = flat_map url_byte t
 

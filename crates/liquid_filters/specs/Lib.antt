@@ -4,6 +4,7 @@ pub mod Changes
 pub mod Elements
 pub mod Limits
 pub mod Lists
+pub mod Marks
 pub mod Numbers
 pub mod Numerals
 pub mod Samples

@@ -11,7 +11,7 @@ use Rattle.liquid_filters.specs.declared.numbers.NumberFilter.{NumberFilter}
 use Rattle.liquid_filters.specs.declared.numbers.NumberFilter.TheVariants.{Abs, AtLeast, AtMost, Ceil, DividedBy, Floor, Minus, Modulo, Plus, Round, Times}
 use Rattle.liquid_filters.specs.Changes.{change_filter}
 use Rattle.liquid_filters.specs.declared.changes.TextChange.{TextChange}
-use Rattle.liquid_filters.specs.declared.changes.TextChange.TheVariants.{Capitalize, Downcase, Lstrip, Rstrip, Strip, Upcase, UrlEncode}
+use Rattle.liquid_filters.specs.declared.changes.TextChange.TheVariants.{Capitalize, Downcase, Escape, EscapeOnce, Lstrip, NewlineToBr, Rstrip, Strip, StripNewlines, Upcase, UrlEncode}
 use Rattle.liquid_filters.specs.Lists.{list_filter}
 use Rattle.liquid_filters.specs.declared.lists.ListFilter.{ListFilter}
 use Rattle.liquid_filters.specs.declared.lists.ListFilter.TheVariants.{Concat, Default, First, Join, Last, Reverse, Size}
@@ -48,6 +48,8 @@ rows =
     ∷ (codes "default", listing Default)
     ∷ (codes "divided_by", number DividedBy)
     ∷ (codes "downcase", changing Downcase)
+    ∷ (codes "escape", changing Escape)
+    ∷ (codes "escape_once", changing EscapeOnce)
     ∷ (codes "first", listing First)
     ∷ (codes "floor", number Floor)
     ∷ (codes "join", listing Join)
@@ -55,6 +57,7 @@ rows =
     ∷ (codes "lstrip", changing Lstrip)
     ∷ (codes "minus", number Minus)
     ∷ (codes "modulo", number Modulo)
+    ∷ (codes "newline_to_br", changing NewlineToBr)
     ∷ (codes "plus", number Plus)
     ∷ (codes "prepend", texting Prepend)
     ∷ (codes "reverse", listing Reverse)
@@ -62,6 +65,7 @@ rows =
     ∷ (codes "rstrip", changing Rstrip)
     ∷ (codes "size", listing Size)
     ∷ (codes "strip", changing Strip)
+    ∷ (codes "strip_newlines", changing StripNewlines)
     ∷ (codes "times", number Times)
     ∷ (codes "upcase", changing Upcase)
     ∷ (codes "url_encode", changing UrlEncode)

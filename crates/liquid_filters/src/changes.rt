@@ -7,6 +7,7 @@ ghost use Rattle.liquid_filters.specs.Answers.{Makes};
 ghost use Rattle.liquid_filters.specs.Changes.{change_filter, capitalized, is_white, without_front, without_end, hex_digit, stays_in_urls, url_byte, changed};
 
 use crate::arguments::no_more;
+use crate::marks::{Mark, marked};
 use crate::stop::Stop;
 use site_base::{Memory, Text, Value, value_text};
 use std::alloc::{AllocError, Global};
@@ -16,9 +17,13 @@ use std::alloc::{AllocError, Global};
 pub enum TextChange {
     Capitalize,
     Downcase,
+    Escape,
+    EscapeOnce,
     Lstrip,
+    NewlineToBr,
     Rstrip,
     Strip,
+    StripNewlines,
     Upcase,
     UrlEncode,
 }
@@ -43,9 +48,13 @@ fn changed(alloc: Global, change: TextChange, text: &str) -> Result<Text, Memory
     match change {
         TextChange::Capitalize => Text::from_string(capitalized(alloc, text)?),
         TextChange::Downcase => Text::from_string(text.to_ascii_lowercase(alloc)?),
+        TextChange::Escape => Text::from_string(marked(alloc, Mark::Escape, text)?),
+        TextChange::EscapeOnce => Text::from_string(marked(alloc, Mark::EscapeOnce, text)?),
         TextChange::Lstrip => Text::copy(alloc, without_front(text)),
+        TextChange::NewlineToBr => Text::from_string(marked(alloc, Mark::LineBreak, text)?),
         TextChange::Rstrip => Text::copy(alloc, without_end(text)),
         TextChange::Strip => Text::copy(alloc, without_end(without_front(text))),
+        TextChange::StripNewlines => Text::from_string(marked(alloc, Mark::LineEnd, text)?),
         TextChange::Upcase => Text::from_string(text.to_ascii_uppercase(alloc)?),
         TextChange::UrlEncode => Text::from_string(url_encoded(alloc, text)?),
     }

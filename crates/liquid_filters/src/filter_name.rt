@@ -17,7 +17,7 @@ pub enum FilterName {
 }
 
 // The table.
-const ROWS: [(&str, FilterName); 27] = [
+const ROWS: [(&str, FilterName); 31] = [
     ("abs", FilterName::Number(NumberFilter::Abs)),
     ("append", FilterName::Text(TextFilter::Append)),
     ("at_least", FilterName::Number(NumberFilter::AtLeast)),
@@ -28,6 +28,8 @@ const ROWS: [(&str, FilterName); 27] = [
     ("default", FilterName::List(ListFilter::Default)),
     ("divided_by", FilterName::Number(NumberFilter::DividedBy)),
     ("downcase", FilterName::Change(TextChange::Downcase)),
+    ("escape", FilterName::Change(TextChange::Escape)),
+    ("escape_once", FilterName::Change(TextChange::EscapeOnce)),
     ("first", FilterName::List(ListFilter::First)),
     ("floor", FilterName::Number(NumberFilter::Floor)),
     ("join", FilterName::List(ListFilter::Join)),
@@ -35,6 +37,7 @@ const ROWS: [(&str, FilterName); 27] = [
     ("lstrip", FilterName::Change(TextChange::Lstrip)),
     ("minus", FilterName::Number(NumberFilter::Minus)),
     ("modulo", FilterName::Number(NumberFilter::Modulo)),
+    ("newline_to_br", FilterName::Change(TextChange::NewlineToBr)),
     ("plus", FilterName::Number(NumberFilter::Plus)),
     ("prepend", FilterName::Text(TextFilter::Prepend)),
     ("reverse", FilterName::List(ListFilter::Reverse)),
@@ -42,6 +45,10 @@ const ROWS: [(&str, FilterName); 27] = [
     ("rstrip", FilterName::Change(TextChange::Rstrip)),
     ("size", FilterName::List(ListFilter::Size)),
     ("strip", FilterName::Change(TextChange::Strip)),
+    (
+        "strip_newlines",
+        FilterName::Change(TextChange::StripNewlines),
+    ),
     ("times", FilterName::Number(NumberFilter::Times)),
     ("upcase", FilterName::Change(TextChange::Upcase)),
     ("url_encode", FilterName::Change(TextChange::UrlEncode)),

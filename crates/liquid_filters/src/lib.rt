@@ -8,6 +8,7 @@ mod filter_name;
 mod filtering;
 mod limits;
 mod lists;
+mod marks;
 mod numbers;
 mod numerals;
 mod stop;

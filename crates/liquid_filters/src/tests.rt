@@ -208,6 +208,30 @@ const TEXTS: &[(&str, Given, Given, &str)] = &[
         Given::Absent,
         "s13:a+b%2F%C3%A9~",
     ),
+    (
+        "escape",
+        Given::Text("<é>&\"'"),
+        Given::Absent,
+        "s26:&lt;é&gt;&amp;&quot;&#39;",
+    ),
+    (
+        "escape_once",
+        Given::Text("&amp;&#39;&a &"),
+        Given::Absent,
+        "s22:&amp;&#39;&amp;a &amp;",
+    ),
+    (
+        "newline_to_br",
+        Given::Text("a\r\nb"),
+        Given::Absent,
+        "s10:a\r<br />\nb",
+    ),
+    (
+        "strip_newlines",
+        Given::Text("a\r\nb\nc\rd"),
+        Given::Absent,
+        "s5:abc\rd",
+    ),
     ("url_encode", Given::Text("a"), Given::Nil, "F14"),
 ];
 
