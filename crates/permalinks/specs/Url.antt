@@ -3,7 +3,7 @@ use Rattle.std.specs.Prelude.{◌≡◌, ◌≤◌, ◌⊎◌, ℕ, length, ◌=
 use Rattle.std.specs.Option.{option_map}
 use Rattle.std.specs.List.{slice_split}
 use Rattle.std.specs.Str.{bytes_eq, IsUtf8, IsCharBoundary}
-use Rattle.site_base.specs.Fronts.{front_len}
+use Rattle.std.specs.List.{prefix_len}
 use Rattle.permalinks.specs.declared.parts.UrlParts.{UrlParts}
 use Rattle.permalinks.specs.declared.template.UrlError.{UrlError}
 use Rattle.permalinks.specs.declared.template.UrlError.TheVariants.{Placeholder, Memory}
@@ -42,7 +42,7 @@ is_name b = (nat_le 97 b && nat_le b 122) || (b == 95)
 
 -- the length of the name that a part of a template begins with, which is as long as it can be
 abbrev pub name_len : List ℕ → ℕ
-name_len part = front_len is_name part
+name_len part = prefix_len is_name part
 
 -- a text may be cut at this place
 abbrev pub IsCut : List ℕ → ℕ → Type 0
