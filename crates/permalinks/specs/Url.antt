@@ -1,9 +1,8 @@
 -- URLs: templates with placeholders, after Jekyll 4's manual, "Permalinks".
 use Rattle.std.specs.Prelude.{◌≡◌, ◌≤◌, ◌⊎◌, ℕ, length, ◌==◌, nat_le, Bool, true, false, ◌&&◌, ◌||◌, List, [], ◌∷◌, ◌++◌, take, drop, codes, Option, Some, None, if◌then◌else◌}
 use Rattle.std.specs.Option.{option_map}
-use Rattle.std.specs.List.{slice_split}
+use Rattle.std.specs.List.{prefix_len, slice_split}
 use Rattle.std.specs.Str.{bytes_eq, IsUtf8, IsCharBoundary}
-use Rattle.std.specs.List.{prefix_len}
 use Rattle.permalinks.specs.declared.parts.UrlParts.{UrlParts}
 use Rattle.permalinks.specs.declared.template.UrlError.{UrlError}
 use Rattle.permalinks.specs.declared.template.UrlError.TheVariants.{Placeholder, Memory}
