@@ -6,6 +6,7 @@ mod blocks;
 mod escapes;
 mod extents;
 mod faults;
+mod flow_keys;
 mod flow_values;
 mod folding;
 mod front_matter;
