@@ -190,12 +190,12 @@ fn pairs(alloc: Global, depth: u32, text: &[u8]) -> Result<(Hash, usize), PlaceE
     while n < text.len() {
         match pair_part(alloc, depth, tail(text, n)) {
             Ok(Part::Shut(len)) => return Ok((pairs.finish(), n + len + 1)),
-            Ok(Part::Last((name, value), len)) => {
-                put(&mut pairs, name, value)?;
+            Ok(Part::Last(pair, len)) => {
+                put(&mut pairs, pair.0, pair.1)?;
                 return Ok((pairs.finish(), n + len + 1));
             }
-            Ok(Part::More((name, value), len)) => {
-                put(&mut pairs, name, value)?;
+            Ok(Part::More(pair, len)) => {
+                put(&mut pairs, pair.0, pair.1)?;
                 n += len + 1;
             }
             Err(PlaceError::Fault(fault)) => return Err(fault.further(n)),

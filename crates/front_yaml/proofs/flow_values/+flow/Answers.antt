@@ -80,7 +80,7 @@ pairs-returns-in-Ok-Last-clause-value t c =
     let s = c.args.text.now in
     let n = c.loop-n.n in
     let h = subst (λ (x : Part (List ℕ × Value)). ReadsPair (Ok x) (part 125 (entry child) c.tail.result.now)) c.in-Ok-Last.field-0-is c.in-Ok-Last.ensures.value in
-    pairs_last child n c.in-Ok-Last.len c.in-Ok-Last.name (plain c.in-Ok-Last.value) c.loop-n.pairs s _ c.loop-n-test.true c.loop-n.invariant.told (ap (part 125 (entry child)) (sym c.tail.ensures) ∙ h) ∙ ap (λ x. Ok (x, n + c.in-Ok-Last.len + 1)) (sym c.in_ok-put-in-Ok-Last.ensures ∙ sym c.finish-in-Ok-Last.ensures)
+    pairs_last child n c.in-Ok-Last.len c.in-Ok-Last.pair.0 (plain c.in-Ok-Last.pair.1) c.loop-n.pairs s _ c.loop-n-test.true c.loop-n.invariant.told (ap (part 125 (entry child)) (sym c.tail.ensures) ∙ h) ∙ ap (λ x. Ok (x, n + c.in-Ok-Last.len + 1)) (sym c.in_ok-put-in-Ok-Last.ensures ∙ sym c.finish-in-Ok-Last.ensures)
 
 pub pairs-loop-n-preserved : goal.pairs-loop-n-preserved
 pairs-loop-n-preserved t c =
@@ -92,7 +92,7 @@ pairs-loop-n-preserved t c =
     let w = subst (λ (x : Part (List ℕ × Value)). PartFits (length c.tail.result.now) (Ok x)) c.in-Ok-More.field-0-is c.in-Ok-More.ensures.within in
     record {
       within = omega (arith, w, ap length c.tail.ensures, length-drop n s);
-      told = ap (λ x. with_pairs m x (pairs child (drop m s))) c.in_ok-put-in-Ok-More.ensures ∙ pairs_more child n c.in-Ok-More.len m c.in-Ok-More.name (plain c.in-Ok-More.value) c.loop-n.pairs s _ (omega arith) c.loop-n-test.true c.loop-n.invariant.told (ap (part 125 (entry child)) (sym c.tail.ensures) ∙ h);
+      told = ap (λ x. with_pairs m x (pairs child (drop m s))) c.in_ok-put-in-Ok-More.ensures ∙ pairs_more child n c.in-Ok-More.len m c.in-Ok-More.pair.0 (plain c.in-Ok-More.pair.1) c.loop-n.pairs s _ (omega arith) c.loop-n-test.true c.loop-n.invariant.told (ap (part 125 (entry child)) (sym c.tail.ensures) ∙ h);
     }
 
 pub pairs-returns-in-Err-Fault-clause-value : goal.pairs-returns-in-Err-Fault-clause-value
