@@ -1,7 +1,7 @@
-use Rattle.std.proofs.Common.{◌+◌, ap, sym, ◌∙◌, drop}
+use Rattle.std.proofs.Common.{◌+◌, ap, sym, ◌∙◌, drop, length-map, arith}
 use Rattle.csv.specs.Records.{fields_of}
 use Rattle.site_base.specs.Plain.{Pairs, onto_pairs}
-use Rattle.data_files.specs.Columns.{seen, picked}
+use Rattle.data_files.specs.Columns.{named, seen, picked}
 use Rattle.data_files.proofs.TableLaws.{next_column, last_column}
 use Rattle.data_files.proofs.tables.hash_of.Goals as goal
 
@@ -12,4 +12,6 @@ loop-column-preserved c =
     ∙ next_column fields columns i c.loop-column.hash ∙ c.loop-column.invariant
 
 pub returns : goal.returns
-returns c = ?
+returns c =
+    let fields = fields_of c.args.row.now in let columns = seen c.args.places.now.entries in
+    sym (last_column fields columns c.loop-column.column c.loop-column.hash (omega (arith, c.loop-column-test.false, c.len-column-end.ensures.len, length-map named c.args.places.now.entries))) ∙ c.loop-column.invariant
