@@ -1,4 +1,5 @@
-use Rattle.std.proofs.Common.{◌+◌, ap, sym, ◌∙◌, drop, length-map, arith}
+use Rattle.std.proofs.Common.{◌+◌, ap, sym, ◌∙◌, drop, arith}
+use Rattle.std.proofs.lemmas.List.{length-map}
 use Rattle.csv.specs.Records.{fields_of}
 use Rattle.site_base.specs.Plain.{Pairs, onto_pairs}
 use Rattle.data_files.specs.Columns.{named, seen, picked}
@@ -14,4 +15,4 @@ loop-column-preserved c =
 pub returns : goal.returns
 returns c =
     let fields = fields_of c.args.row.now in let columns = seen c.args.places.now.entries in
-    sym (last_column fields columns c.loop-column.column c.loop-column.hash (omega (arith, c.loop-column-test.false, c.len-column-end.ensures.len, length-map named c.args.places.now.entries))) ∙ c.loop-column.invariant
+    sym (last_column fields columns c.loop-column.column c.loop-column.hash (omega (arith, c.loop-column-test.false, c.len-column-end.ensures.len, length-map c.args.places.now.entries named))) ∙ c.loop-column.invariant
