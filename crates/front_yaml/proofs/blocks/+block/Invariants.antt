@@ -1,6 +1,7 @@
 use Rattle.std.proofs.Common.{length, ◌*◌, ◌≡◌, ◌+◌}
 use Rattle.front_yaml.specs.TextLines.{indent}
-use Rattle.front_yaml.specs.Blocks.{sequence, mapping, mapping_pairs, block, all_entries, is_item, is_pair}
+use Rattle.front_yaml.specs.LineRuns.{is_item, is_pair}
+use Rattle.front_yaml.specs.Blocks.{sequence, mapping, mapping_pairs, block, all_entries}
 use Rattle.front_yaml.proofs.Entries.{with_items, with_pairs}
 use Rattle.front_yaml.proofs.blocks.+block.Given as goal
 
