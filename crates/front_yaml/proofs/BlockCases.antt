@@ -2,9 +2,10 @@
 use Rattle.std.proofs.Common.{◌≡◌, ℕ, zero, suc, ◌-◌, ◌<◌, Bool, true, false, List, ◌∷◌, ◌≤◌, length, get_or, take, drop, Ok, Err, refl, ap, sym, ◌∙◌, drop_of_length-le, arith}
 use Rattle.std.proofs.lemmas.List.{at_drop_more}
 use Rattle.std.specs.List.{prefix_len}
+use Rattle.site_base.specs.Chains.{◌>>=◌}
 use Rattle.site_base.specs.Plain.{Plain}
 use Rattle.site_base.specs.declared.faults.YamlKind.TheVariants as kind
-use Rattle.front_yaml.specs.Reading.{Reading, ◌>>=◌}
+use Rattle.front_yaml.specs.Reading.{Reading}
 use Rattle.front_yaml.specs.TextLines.{Line, inside, indent}
 use Rattle.front_yaml.specs.LineLeaves.{leaf_lines}
 use Rattle.front_yaml.specs.Blocks.{block, below, entries_of, sequence_value, mapping_value}

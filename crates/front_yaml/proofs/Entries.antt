@@ -1,9 +1,10 @@
 -- The entries of lines, one after another.
 use Rattle.std.proofs.Common.{◌≡◌, ℕ, suc, ◌+◌, Bool, true, false, not, cond, List, [], ◌∷◌, take, drop, Ok, Err, refl, ap, sym, ◌∙◌, arith}
 use Rattle.std.specs.List.{position_or_len}
+use Rattle.site_base.specs.Chains.{◌>>=◌}
 use Rattle.site_base.specs.Plain.{Plain, Items, no_items, item, Pairs, pair}
 use Rattle.site_base.specs.Plain.{onto, set}
-use Rattle.front_yaml.specs.Reading.{Fault, Reading, ◌>>=◌}
+use Rattle.front_yaml.specs.Reading.{Fault, Reading}
 use Rattle.front_yaml.specs.TextLines.{Line}
 use Rattle.front_yaml.specs.Blocks.{Entry, entry, entries, all_entries, Block, sequence, at_indent, item_value, mapping, pair_at}
 use Rattle.front_yaml.specs.Flow.{settled}

@@ -1,11 +1,12 @@
 -- The items and pairs of flow values, one part after another.
 use Rattle.std.proofs.Common.{◌≡◌, ℕ, zero, suc, ◌+◌, ◌-◌, ◌<◌, ◌≤◌, Bool, true, false, List, [], ◌∷◌, length, drop, Ok, Err, refl, ap, sym, ◌∙◌, length-drop, drop-drop, drop_of_length-le, arith}
+use Rattle.site_base.specs.Chains.{◌>>=◌}
 use mathlib.Core.Path.{fun_ext}
 use Rattle.site_base.specs.Plain.{Plain, Items, no_items, item, onto, Pairs, no_pairs, pair, set}
 use Rattle.site_base.specs.Recursion.{Falls}
 use Rattle.site_base.specs.Recursion.{down_is}
 use Rattle.site_base.specs.declared.faults.YamlKind.TheVariants as kind
-use Rattle.front_yaml.specs.Reading.{Fault, Reading, ◌>>=◌, further}
+use Rattle.front_yaml.specs.Reading.{Fault, Reading, further}
 use Rattle.front_yaml.specs.Bytes.{starts}
 use Rattle.front_yaml.specs.declared.flow_values.Part.{Part}
 use Rattle.front_yaml.specs.declared.flow_values.Part.TheVariants.{Shut, Last, More}

@@ -1,8 +1,9 @@
 -- Sequences and mappings over lines: YAML 1.2.2, sections 6.1 and 8.2.
 use Rattle.std.specs.Prelude.{ℕ, zero, suc, ◌+◌, Bool, true, false, ◌||◌, List, [], ◌∷◌, drop, nat_lt, nat_le, if◌then◌else◌, Option, Some, None, Ok, Err}
+use Rattle.site_base.specs.Chains.{◌>>=◌}
 use Rattle.site_base.specs.declared.faults.YamlKind.TheVariants as kind
 use Rattle.site_base.specs.Plain.{Plain, nil, list, hash, Items, no_items, item, Pairs, no_pairs, pair}
-use Rattle.front_yaml.specs.Reading.{Fault, Reading, ◌>>=◌, unless}
+use Rattle.front_yaml.specs.Reading.{Fault, Reading, unless}
 use Rattle.front_yaml.specs.Bytes.{starts, is_empty, white_len}
 use Rattle.front_yaml.specs.TextLines.{Line, indent, inside, has_tab, span, from_place}
 use Rattle.front_yaml.specs.Flow.{settled}

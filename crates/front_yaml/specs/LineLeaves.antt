@@ -1,7 +1,8 @@
 -- Values of several lines that are no blocks: a scalar or flow value, and a block scalar. YAML 1.2.2, sections 7 and 8.1.
 use Rattle.std.specs.Prelude.{ℕ, List, ◌∷◌, ◌++◌, Ok}
+use Rattle.site_base.specs.Chains.{◌>>=◌}
 use Rattle.site_base.specs.Plain.{Plain, text}
-use Rattle.front_yaml.specs.Reading.{Reading, ◌>>=◌}
+use Rattle.front_yaml.specs.Reading.{Reading}
 use Rattle.front_yaml.specs.TextLines.{Line, stream, span, by_lines}
 use Rattle.front_yaml.specs.BlockScalars.{block_scalar}
 use Rattle.front_yaml.specs.Leaves.{leaf}

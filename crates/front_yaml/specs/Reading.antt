@@ -10,12 +10,6 @@ Fault = ℕ × YamlKind
 abbrev pub Reading : Type 0 → Type 0
 Reading A = Result A Fault
 
--- a result, and if it has a value another one of what follows
-infixl 10 ◌>>=◌
-abbrev pub ◌>>=◌ : {A B E : Type 0} → Result A E → (A → Result B E) → Result B E
-(Ok x) >>= f = f x
-(Err e) >>= f = Err e
-
 -- the fault that there is, or else a reading
 abbrev pub unless : {A : Type 0} → Option Fault → Reading A → Reading A
 unless (Some f) r = Err f

@@ -1,11 +1,11 @@
 use Rattle.std.proofs.Common.{◌≡◌, ◌+◌, ◌<◌, ◌∷◌, ap, sym, ◌∙◌, subst, Ok, true, false, arith, drop}
 use Rattle.std.proofs.lemmas.List.{drop_more, drop_all}
+use Rattle.site_base.specs.Chains.{◌>>=◌}
 use Rattle.site_base.specs.Plain.{list, hash}
 use Rattle.site_base.specs.View.{plain}
 use Rattle.site_base.specs.declared.faults.YamlKind.TheVariants as kind
 use Rattle.front_yaml.specs.declared.faults.YamlError.{YamlError}
 use Rattle.front_yaml.specs.declared.faults.YamlError.TheVariants as yaml_error
-use Rattle.front_yaml.specs.Reading.{◌>>=◌}
 use Rattle.front_yaml.specs.TextLines.{inside}
 use Rattle.front_yaml.specs.Given.{Gives, FailsLines}
 use Rattle.front_yaml.specs.LineRuns.{is_pair, is_item}
