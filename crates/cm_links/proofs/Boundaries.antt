@@ -4,8 +4,8 @@ use Rattle.std.specs.Str.{IsCharBoundary}
 use Rattle.std.proofs.lemmas.Str.{IsCharBoundary-before_ascii, IsCharBoundary-from_drop, IsCharBoundary-after_ascii, IsCharBoundary-from_rest}
 use Rattle.std.proofs.lemmas.List.{drop_more}
 use Rattle.cm_links.specs.Cuts.{HasByte, Encloses, IsLabelled}
-use Rattle.markdown_grammar.specs.Fronts.{run_len, begins_with}
-use Rattle.markdown_grammar.specs.Bytes.{is_space}
+use Rattle.site_text.specs.Bytes.{is_space}
+use Rattle.site_text.specs.Fronts.{begins_with, run_len}
 
 pub boundary_start : (text : List ℕ) → IsUtf8 text → IsCharBoundary text 0
 boundary_start text u = IsCharBoundary-from_drop text 0 (omega arith) u

@@ -6,11 +6,12 @@ ghost use Rattle.cm_links.specs.Answers.{link_part, link_def};
 ghost use Rattle.cm_links.specs.Cuts.{IsEnd, IsFront, IsLabelled};
 
 use crate::destinations::destination;
-use crate::gaps::{begins, line_rest, white_gap};
+use crate::gaps::{line_rest, white_gap};
 use crate::label::link_label;
 use crate::parts::LinkPart;
 use crate::titles::link_title;
 use site_base::{Memory, Text};
+use site_text::starts_with_byte;
 use std::alloc::Global;
 
 /// A link reference definition: the text of its label, where it goes, its title if it has one, and
@@ -41,7 +42,7 @@ fn behind_label(alloc: Global, text: &str, n: usize) -> Result<Option<LinkDef>, 
     ensures cut { IfOk result (λ found. IfSome found (λ definition. IsFront text.now definition.end)) }
 {
     let rest = &text[n..];
-    if begins(rest, b':') {
+    if starts_with_byte(rest, b':') {
         let inside = &text[1..];
         pointing(alloc, &inside[..n - 2], n + 1, &rest[1..])
     } else {

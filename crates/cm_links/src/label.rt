@@ -1,16 +1,15 @@
 // Link labels.
 ghost use Rattle.std.specs.Prelude.{◌≡◌, ◌++◌, ◌&&◌, IfOk, OnOk, encode_utf8, encode_utf8_all, false, chars, string_bytes, if◌then◌else◌, [], ◌∷◌, IfSome, drop, length, nat_le, not};
 ghost use Rattle.std.specs.Str.{IsCharBoundary};
-ghost use Rattle.markdown_grammar.specs.Bytes as bytes;
-ghost use Rattle.markdown_grammar.specs.Fronts.{has_one};
+ghost use Rattle.site_text.specs.Bytes as bytes;
+ghost use Rattle.site_text.specs.Fronts.{has_one};
 ghost use Rattle.markdown_grammar.specs.Labels as grammar;
 ghost use Rattle.markdown_grammar.specs.Labels.{label_key, squeezed};
 ghost use Rattle.cm_links.specs.Cuts.{HasByte, IsLabelled};
 
-use crate::classes::is_white;
-use crate::gaps::begins;
 use caseless::default_case_fold_str;
 use site_base::{Memory, Text};
+use site_text::starts_with_byte;
 use std::alloc::{AllocError, Global};
 
 /// A label without white space at its ends, with one space for each run of white space inside, and
@@ -34,6 +33,12 @@ pub(crate) fn folded_label(alloc: Global, label: &str) -> Result<String, Memory>
         Ok(folded) => Ok(folded),
         Err(_) => Err(Memory),
     }
+}
+
+fn is_white(c: char) -> bool
+    ensures { result ≡ bytes.is_white c }
+{
+    c == ' ' || c == '\t' || c == '\n' || c == '\r'
 }
 
 fn squeeze(alloc: Global, label: &str) -> Result<String, AllocError>
@@ -69,7 +74,7 @@ pub fn link_label(text: &str) -> Option<usize>
     ensures value { result ≡ grammar.link_label text.now }
     ensures cuts { IfSome result (IsLabelled text.now) }
 {
-    if begins(text, b'[') {
+    if starts_with_byte(text, b'[') {
         label_behind(text)
     } else {
         None

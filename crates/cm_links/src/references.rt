@@ -1,15 +1,13 @@
 // Character grammar.
 ghost use Rattle.std.specs.Prelude.{◌≡◌, ◌≤◌, ◌<◌, ◌+◌, ◌-◌, ◌^◌, IfSome, drop, length, option_map};
 ghost use Rattle.std.specs.Str.{IsCharBoundary};
-ghost use Rattle.std.specs.Char.{digit_value};
-ghost use Rattle.std.specs.Str.Parse.{digits_value};
 ghost use Rattle.cm_links.specs.Answers.{char_ref};
 ghost use Rattle.cm_links.specs.Resolving.{HasEnd};
-ghost use Rattle.markdown_grammar.specs.Bytes as bytes;
+ghost use Rattle.site_text.specs.Bytes as bytes;
 ghost use Rattle.markdown_grammar.specs.References as grammar;
 
-use crate::classes::{Class, class_run};
 use crate::names::named;
+use site_text::{Class, class_run, number};
 
 /// A character reference in a text: its character, and the place where it ends.
 #[derive(Clone, Copy, PartialEq, Eq, Debug)]
@@ -84,42 +82,6 @@ fn hexadecimal(text: &[u8]) -> Option<(char, usize)>
         return None;
     }
     Some((valid_char(number(16, &text[..n])), n + 4))
-}
-
-// The number that a few digits spell.
-fn number(base: u64, digits: &[u8]) -> u64
-    requires base { base ≤ 16 }
-    requires few { length digits.now ≤ 7 }
-    ensures { result ≡ digits_value base digits.now }
-{
-    let mut value = 0;
-    let mut i = 0;
-    while i < digits.len() {
-        value = value * base + digit(digits[i]);
-        i += 1;
-    }
-    value
-}
-
-fn digit(c: u8) -> u64
-    ensures value { result ≡ digit_value c }
-    ensures small { result ≤ 36 }
-{
-    if c < 48 {
-        36
-    } else if c < 58 {
-        c as u64 - 48
-    } else if c < 65 {
-        36
-    } else if c < 91 {
-        c as u64 - 55
-    } else if c < 97 {
-        36
-    } else if c < 123 {
-        c as u64 - 87
-    } else {
-        36
-    }
 }
 
 // The character of a code, or U+FFFD where there is none.

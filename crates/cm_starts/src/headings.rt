@@ -1,7 +1,8 @@
 // Headings.
 ghost use Rattle.std.specs.Prelude.{◌≡◌, ◌<◌, ◌||◌, if◌then◌else◌, reverse, true};
-ghost use Rattle.markdown_grammar.specs.Bytes.{is_space};
-ghost use Rattle.markdown_grammar.specs.Fronts.{first_byte, is_empty};
+ghost use Rattle.site_text.specs.Bytes.{is_space};
+ghost use Rattle.site_text.specs.Fronts.{first_byte};
+ghost use Rattle.markdown_grammar.specs.Fronts.{is_empty};
 ghost use Rattle.markdown_grammar.specs.Lines.{trim};
 ghost use Rattle.markdown_grammar.specs.Places.{in_paragraph};
 ghost use Rattle.markdown_grammar.specs.Starts.{atx_start, text_start};
