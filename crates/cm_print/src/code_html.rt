@@ -41,9 +41,7 @@ impl Writer {
     fn push_language(&mut self, alloc: Global, info: &str) -> Result<(), HtmlError>
         ensures { Prints self.old self.new (class_text (info_word info.now)) result }
     {
-        let Ok(info) = resolved(alloc, info) else {
-            return Err(HtmlError::Memory);
-        };
+        let info = resolved(alloc, info)?;
         self.push_class(first_word(info.as_str()))
     }
 
