@@ -1,8 +1,7 @@
 -- Beyond ASCII a class has all bytes or none.
-use Rattle.std.proofs.Common.{◌≡◌, Bool, List, [], arith, codes, false, not, refl, true, ℕ, ◌&&◌, ◌==◌, ◌∷◌, ◌≤◌, ◌||◌, nat_lt}
+use Rattle.std.proofs.Common.{◌≡◌, Bool, List, [], arith, codes, false, refl, true, ℕ, ◌&&◌, ◌==◌, ◌∷◌, ◌≤◌, nat_lt}
 use Rattle.std.specs.List.{list_all}
 use Rattle.site_text.specs.Bytes.{is_one_of}
-use Rattle.site_text.specs.Fronts.{has_one}
 use Rattle.site_text.specs.Classes.{is_in}
 use Rattle.site_text.specs.declared.classes.Class.{Class}
 use Rattle.site_text.specs.declared.classes.Class.TheVariants.{Address, Alphanumeric, AttributeName, NoWhite, Digit, HexDigit, Hyphenated, Literal, Mailbox, Name, NoDoubleQuote, NoSingleQuote, Plain, Scheme, Space, Textual, Unquoted}

@@ -1,4 +1,4 @@
-pub mod Numbers
+pub mod Digits
 pub mod Runs
 pub mod Words
-mod Ascii
+pub mod Ascii

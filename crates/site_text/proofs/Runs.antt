@@ -1,5 +1,5 @@
 -- Runs of bytes at the front of a text, and where it may be cut behind them.
-use Rattle.std.proofs.Common.{◌≡◌, ◌∙◌, ◌⊎◌, inl, inr, Bool, List, [], ap, arith, cond, drop, false, get_or, length, refl, suc, sym, true, zero, ℕ, ◌+◌, ◌-◌, ◌<◌, ◌∷◌, ◌≤◌, IsUtf8, subst}
+use Rattle.std.proofs.Common.{◌≡◌, ◌∙◌, ◌⊎◌, inl, inr, Bool, List, [], ap, arith, cond, drop, false, get_or, length, refl, suc, sym, true, zero, ℕ, ◌+◌, ◌<◌, ◌∷◌, ◌≤◌, IsUtf8, subst}
 use Rattle.std.specs.List.{prefix_len}
 use Rattle.std.specs.Str.{IsCharBoundary}
 use Rattle.std.proofs.lemmas.Bool.{cases_lt}

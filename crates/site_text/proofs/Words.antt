@@ -1,9 +1,9 @@
--- A word at the front of a text.
-use Rattle.std.proofs.Common.{Bool, List, [], ap, arith, drop, false, get_or, length, nat_eq, refl, sym, true, ℕ, ◌+◌, ◌<◌, ◌&&◌, ◌==◌, ◌∙◌, ◌∷◌, ◌≡◌, ◌≤◌}
-use Rattle.std.specs.List.{starts_with}
+-- A word at the front of a text, and a byte among others.
+use Rattle.std.proofs.Common.{Bool, List, [], ap, arith, drop, false, get_or, length, nat_eq, refl, sym, true, ℕ, ◌+◌, ◌<◌, ◌&&◌, ◌==◌, ◌∙◌, ◌∷◌, ◌≡◌, ◌||◌}
+use Rattle.std.specs.List.{list_any, starts_with}
 use Rattle.std.proofs.lemmas.List.{drop_more}
 use Rattle.site_text.specs.Bytes.{lower, lowered}
-use Rattle.site_text.specs.Fronts.{begins_with}
+use Rattle.site_text.specs.Fronts.{begins_with, has_one}
 
 pub begins_std : (word text : List ℕ) → starts_with nat_eq text word ≡ begins_with word text
 begins_std [] text = refl
@@ -47,3 +47,10 @@ begins_one [] c lt e = absurd (omega (arith, lt))
 begins_one (d ∷ ds) c lt e =
     let same : (c == d) ≡ true = grind arith in
     ap (λ (b : Bool). elim b as (λ x. Bool) [ true ↦ true | false ↦ false ]) same
+
+pub any_is : (c : ℕ) (t : List ℕ) → list_any (λ d. d == c) t ≡ has_one (λ d. d == c) t
+any_is c [] = refl
+any_is c (d ∷ ds) = go (d == c) (any_is c ds) where
+  go : (b : Bool) → list_any (λ d. d == c) ds ≡ has_one (λ d. d == c) ds → (b || list_any (λ d. d == c) ds) ≡ elim b as (λ x. Bool) [ true ↦ true | false ↦ has_one (λ d. d == c) ds ]
+  go true h = refl
+  go false h = h

@@ -1,5 +1,5 @@
 // What stands at the front of a text.
-ghost use Rattle.std.specs.Prelude.{◌≡◌, ◌<◌, [], ◌∷◌, drop, length, nat_eq, take};
+ghost use Rattle.std.specs.Prelude.{◌≡◌, ◌<◌, ◌≤◌, [], ◌∷◌, IsTrue, drop, length, nat_eq};
 ghost use Rattle.std.specs.Bool.{OnTrue};
 ghost use Rattle.std.specs.List.{starts_with};
 ghost use Rattle.std.specs.Str.{IsCharBoundary};
@@ -11,6 +11,7 @@ use crate::bytes::lower;
 /// Whether a text begins with a word.
 pub fn begins(text: &[u8], word: &[u8]) -> bool
     ensures value { result ≡ begins_with word.now text.now }
+    ensures within { IsTrue result → length word.now ≤ length text.now }
     ensures as_std { result ≡ starts_with nat_eq text.now word.now }
 {
     text.starts_with(word)

@@ -116,7 +116,10 @@ fn words_at_the_front(rt: HostRuntime) {
         ("", "a", false, false),
     ];
     for (text, word, is_front, in_lower_case) in ROWS {
-        assert!(rt; begins_as_said(text, word, *is_front, *in_lower_case), "{text}");
+        assert!(rt;
+            begins_as_said(text, word, *is_front, *in_lower_case),
+            "{text}"
+        );
     }
 }
 
@@ -171,14 +174,15 @@ fn numbers(rt: HostRuntime) {
 
 // Letter, letter or digit, start of a name, punctuation, space, white space.
 fn is_of_kinds(c: u8, kinds: [bool; 6]) -> bool {
-    kinds == [
-        is_letter(c),
-        is_alnum(c),
-        is_name_start(c),
-        is_punctuation(c),
-        is_space(c),
-        is_white(c),
-    ]
+    kinds
+        == [
+            is_letter(c),
+            is_alnum(c),
+            is_name_start(c),
+            is_punctuation(c),
+            is_space(c),
+            is_white(c),
+        ]
 }
 
 #[test]
@@ -194,6 +198,8 @@ fn single_bytes(rt: HostRuntime) {
 
 #[test]
 fn lower_case(rt: HostRuntime) {
-    assert!(rt; lower(b'A') == b'a' && lower(b'Z') == b'z' && lower(b'[') == b'[' && lower(b'@') == b'@');
+    assert!(rt;
+        lower(b'A') == b'a' && lower(b'Z') == b'z' && lower(b'[') == b'[' && lower(b'@') == b'@'
+    );
     assert!(rt; is_one_of(b"_:", b':') && !is_one_of(b"_:", b'a') && !is_one_of(b"", b'a'));
 }

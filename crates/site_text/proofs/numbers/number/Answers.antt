@@ -1,5 +1,5 @@
 use Rattle.std.proofs.Common.{arith}
-use Rattle.site_text.proofs.Numbers.{digit_more, mul_fits, add_fits, number_more}
+use Rattle.site_text.proofs.Digits.{digit_more, mul_fits, add_fits, number_more}
 use Rattle.site_text.proofs.numbers.number.Goals as goal
 
 pub overflow_mul-value : goal.overflow_mul-value

@@ -1,6 +1,6 @@
 use Rattle.std.proofs.Common.{length, ◌-◌, ◌≡◌, ◌<◌, ◌≤◌, drop}
 use Rattle.std.specs.Str.Parse.{digits_value, digits_value_after}
-use Rattle.site_text.proofs.Numbers.{cap}
+use Rattle.site_text.proofs.Digits.{cap}
 use Rattle.site_text.proofs.numbers.number.Given as goal
 
 abbrev pub invariant-loop-i : goal.invariant-loop-i
