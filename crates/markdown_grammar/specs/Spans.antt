@@ -1,6 +1,6 @@
 -- Pieces that stand for themselves: escapes, references, breaks, autolinks, raw HTML and text. CommonMark 0.31.2, sections 2.4, 2.5 and 6.5 to 6.9.
 use Rattle.std.specs.Char.{encode_utf8}
-use Rattle.std.specs.Prelude.{Bool, List, None, Some, [], codes, drop, false, if◌then◌else◌, nat_lt, not, suc, take, true, ℕ, ◌&&◌, ◌++◌, ◌+◌, ◌-◌, ◌==◌, ◌||◌, ◌∷◌}
+use Rattle.std.specs.Prelude.{List, None, Some, [], codes, drop, false, if◌then◌else◌, nat_lt, not, suc, take, true, ℕ, ◌&&◌, ◌++◌, ◌+◌, ◌-◌, ◌==◌, ◌||◌, ◌∷◌}
 use Rattle.markdown_grammar.specs.Autolinks.{email, pointed, uri}
 use Rattle.site_text.specs.Bytes.{ampersand, backslash, backtick, exclamation_mark, is_punct, is_special, left_bracket, less_than, line_feed, space, star, underscore}
 use Rattle.site_text.specs.Fronts.{first_byte, run_len}

@@ -1,5 +1,5 @@
 -- Raw HTML: CommonMark 0.31.2, section 6.6, in the standard's words.
-use Rattle.std.specs.Prelude.{Bool, List, [], codes, not, ℕ, ◌==◌, ◌||◌, ◌∷◌}
+use Rattle.std.specs.Prelude.{[], codes, not, ℕ, ◌==◌, ◌||◌, ◌∷◌}
 use Rattle.site_text.specs.Bytes.{double_quote, hyphen, is_alnum, is_letter, is_one_of, is_white, single_quote}
 use Rattle.markdown_grammar.specs.Readers.{Reader, ahead, at_least, exactly, one_byte, perhaps, repeat, some_white_gap, to, white_gap, ◌or◌, ◌then◌}
 
