@@ -206,7 +206,10 @@ mod tests {
     #[test]
     fn definitions_are_read(rt: HostRuntime) {
         for (text, label, url, title, end) in DEFINITIONS {
-            assert!(rt; defines(rt.alloc(), text, label, url, *title, *end), "{text}");
+            assert!(rt;
+                defines(rt.alloc(), text, label, url, *title, *end),
+                "{text}"
+            );
         }
     }
 
