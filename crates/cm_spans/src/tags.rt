@@ -8,9 +8,8 @@ ghost use Rattle.cm_spans.specs.Cuts.{Ends};
 ghost use Rattle.cm_spans.specs.Missing.{Lacks, LacksWord};
 
 use crate::missing_ends::MissingEnds;
-use cm_links::is_letter;
 use cm_starts::{closing_tag, open_tag};
-use site_text::begins;
+use site_text::{begins, is_letter};
 
 /// How many bytes of raw HTML a text begins with: an open or closing tag, a comment, a processing
 /// instruction, a declaration or a CDATA section; or none. `missing` are ends that the text is known to lack.

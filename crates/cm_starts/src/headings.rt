@@ -53,7 +53,7 @@ fn ends_apart(text: &str) -> bool
     ensures { result ≡ (is_empty (reverse text.now) || is_space (first_byte (reverse text.now))) }
 {
     let bytes = text.as_bytes();
-    bytes.len() == 0 || cm_links::is_space(bytes[bytes.len() - 1])
+    bytes.len() == 0 || site_text::is_space(bytes[bytes.len() - 1])
 }
 
 /// The underline of a heading, by the text of the line behind its white space, or `Text` where the line

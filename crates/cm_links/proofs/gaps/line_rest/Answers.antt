@@ -1,5 +1,5 @@
 use Rattle.std.proofs.Common.{arith}
-use Rattle.cm_links.proofs.Boundaries.{boundary_byte}
+use Rattle.site_text.proofs.Runs.{boundary_byte}
 use Rattle.cm_links.proofs.gaps.line_rest.Goals as goal
 
 pub returns-then-as_bytes-n-eq10-clause-boundary : goal.returns-then-as_bytes-n-eq10-clause-boundary
