@@ -4,9 +4,8 @@ use Rattle.std.specs.List.{list_all}
 use Rattle.std.specs.Str.{IsCharBoundary}
 use Rattle.std.proofs.lemmas.Str.{IsCharBoundary-before_ascii, IsCharBoundary-after_ascii, IsCharBoundary-end}
 use Rattle.std.proofs.lemmas.List.{get_or_past}
-use Rattle.markdown_grammar.specs.Fronts.{first_byte, has_one, run_len}
-use Rattle.markdown_grammar.specs.Bytes.{is_punct}
-use Rattle.markdown_grammar.specs.Spans.{is_special}
+use Rattle.site_text.specs.Bytes.{is_punct, is_special}
+use Rattle.site_text.specs.Fronts.{first_byte, has_one, run_len}
 use Rattle.cm_links.specs.Resolving.{HasEnd}
 use Rattle.cm_starts.proofs.Words.{first_at}
 use Rattle.markdown_grammar.specs.Flanking.{char_after, char_before}
