@@ -87,7 +87,10 @@ pub(crate) fn belonging(floor: usize, lines: &[TextLine]) -> usize
     ensures value { result ≡ prefix_len (belongs floor) lines.now }
     ensures within { result ≤ length lines.now }
 {
-    lines.iter().take_while(|line| belongs(floor, *line)).count()
+    lines
+        .iter()
+        .take_while(|line| belongs(floor, *line))
+        .count()
 }
 
 /// How many lines at the front may go on a quoted text or a block scalar.
@@ -95,7 +98,10 @@ pub(crate) fn reaching(floor: usize, lines: &[TextLine]) -> usize
     ensures value { result ≡ prefix_len (reaches floor) lines.now }
     ensures within { result ≤ length lines.now }
 {
-    lines.iter().take_while(|line| reaches(floor, *line)).count()
+    lines
+        .iter()
+        .take_while(|line| reaches(floor, *line))
+        .count()
 }
 
 /// How many lines may belong to the scalar or flow value that starts so.
