@@ -1,5 +1,5 @@
 // Where flow values end.
-ghost use Rattle.std.specs.Prelude.{◌≡◌, ◌<◌, ◌+◌, ◌&&◌, ◌==◌, ◌^◌, false, length};
+ghost use Rattle.std.specs.Prelude.{◌≡◌, ◌<◌, ◌+◌, ◌&&◌, ◌==◌, ◌^◌, false, true, length};
 ghost use Rattle.front_yaml.specs.Extents.{opens, begins_value, closes, may_end_key, is_fresh, is_separator, is_closed};
 ghost use Rattle.front_yaml.specs.Scanning.{Stepped, IsNear};
 ghost use Rattle.front_yaml.specs.Quotes.{is_quote};
