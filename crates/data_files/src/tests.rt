@@ -89,10 +89,7 @@ fn reads_tables(rt: HostRuntime) {
     }
 }
 
-const TABS: &[(&str, &str)] = &[(
-    "aaa\tbbb\tccc\nzzz\tyyy\txxx\n1\t\ta b\n",
-    TWO_RECORDS,
-)];
+const TABS: &[(&str, &str)] = &[("aaa\tbbb\tccc\nzzz\tyyy\txxx\n1\t\ta b\n", TWO_RECORDS)];
 
 #[test]
 fn reads_tables_with_tabs(rt: HostRuntime) {

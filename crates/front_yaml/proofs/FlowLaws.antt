@@ -8,8 +8,8 @@ use Rattle.site_base.specs.Recursion.{down_is}
 use Rattle.site_base.specs.declared.faults.YamlKind.TheVariants as kind
 use Rattle.front_yaml.specs.Reading.{Fault, Reading, further}
 use Rattle.front_yaml.specs.Bytes.{starts}
-use Rattle.front_yaml.specs.declared.flow_values.Part.{Part}
-use Rattle.front_yaml.specs.declared.flow_values.Part.TheVariants.{Shut, Last, More}
+use Rattle.front_yaml.specs.declared.flow_parts.Part.{Part}
+use Rattle.front_yaml.specs.declared.flow_parts.Part.TheVariants.{Shut, Last, More}
 use Rattle.front_yaml.specs.Flow.{Node, node, part, items_after, items_step, items, entry, pairs_after, pairs_step, pairs, hash_pairs, settled, list_value, hash_value, collection}
 
 shorter : (k c : ℕ) (cs : List ℕ) → length (drop k cs) < length (c ∷ cs)

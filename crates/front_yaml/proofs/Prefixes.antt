@@ -1,5 +1,5 @@
 -- The longest front of a list that passes a test, one element after another.
-use Rattle.std.proofs.Common.{◌≡◌, ℕ, suc, ◌+◌, ◌<◌, Bool, true, false, List, ◌∷◌, refl, arith}
+use Rattle.std.proofs.Common.{◌≡◌, suc, ◌+◌, ◌<◌, Bool, true, false, List, ◌∷◌, refl, arith}
 use Rattle.std.specs.List.{prefix_len}
 
 module _ {X : Type 0} (p : X → Bool) where

@@ -1,15 +1,14 @@
 -- Sequences and mappings over lines: YAML 1.2.2, sections 6.1 and 8.2.
-use Rattle.std.specs.Prelude.{ℕ, zero, suc, ◌+◌, Bool, true, false, ◌||◌, List, [], ◌∷◌, drop, nat_lt, nat_le, if◌then◌else◌, Option, Some, None, Ok, Err}
-use Rattle.site_base.specs.Chains.{◌>>=◌}
+use Rattle.std.specs.Prelude.{ℕ, zero, suc, ◌+◌, Bool, true, false, ◌||◌, List, [], ◌∷◌, drop, nat_le, if◌then◌else◌, Some, None, Ok, Err}
 use Rattle.site_base.specs.declared.faults.YamlKind.TheVariants as kind
 use Rattle.site_base.specs.Plain.{Plain, nil, list, hash, Items, no_items, item, Pairs, no_pairs, pair}
-use Rattle.front_yaml.specs.Reading.{Fault, Reading, unless}
+use Rattle.front_yaml.specs.Reading.{Reading, unless}
 use Rattle.front_yaml.specs.Bytes.{starts, is_empty, white_len}
 use Rattle.front_yaml.specs.TextLines.{Line, indent, inside, has_tab, span, from_place}
 use Rattle.front_yaml.specs.Flow.{settled}
 use Rattle.front_yaml.specs.Keys.{is_dash, starts_block}
 use Rattle.front_yaml.specs.LineRuns.{is_idle, belongs, is_item, is_pair}
-use Rattle.front_yaml.specs.Leftovers.{none_left}
+use Rattle.front_yaml.specs.LineFaults.{indent_fault, none_left}
 use Rattle.front_yaml.specs.LineLeaves.{leaf_lines, scalar_lines}
 use Rattle.front_yaml.specs.LineKeys.{line_key, no_key_fault}
 
@@ -60,9 +59,6 @@ abbrev pub all_entries : (Line → Bool) → Line → List Line → List Entry
 all_entries heads l ls = let s = entries heads ls in record { head = l; more = s.0 } ∷ s.1
 
 -- no entry stands at an indent below the block's
-abbrev pub indent_fault : ℕ → Line → Option Fault
-indent_fault n l = if has_tab l then Some (l.number, kind.Tab) else if nat_lt (indent l) n then Some (l.number, kind.Indent) else None
-
 abbrev pub at_indent : {A : Type 0} → ℕ → Line → Reading A → Reading A
 at_indent n l r = unless (indent_fault n l) r
 

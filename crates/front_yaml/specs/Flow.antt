@@ -5,8 +5,8 @@ use Rattle.site_base.specs.Chains.{◌>>=◌}
 use Rattle.site_base.specs.declared.faults.YamlKind.TheVariants as kind
 use Rattle.site_base.specs.Plain.{Plain, nil, text, list, hash, Items, no_items, item, Pairs, no_pairs, pair, set}
 use Rattle.site_base.specs.Recursion.{down}
-use Rattle.front_yaml.specs.declared.flow_values.Part.{Part}
-use Rattle.front_yaml.specs.declared.flow_values.Part.TheVariants.{Shut, Last, More}
+use Rattle.front_yaml.specs.declared.flow_parts.Part.{Part}
+use Rattle.front_yaml.specs.declared.flow_parts.Part.TheVariants.{Shut, Last, More}
 use Rattle.front_yaml.specs.Reading.{Fault, Reading, further}
 use Rattle.front_yaml.specs.Bytes.{starts, is_empty}
 use Rattle.front_yaml.specs.Folding.{fold}

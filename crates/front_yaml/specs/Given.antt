@@ -5,8 +5,8 @@ use Rattle.site_base.specs.View.{plain}
 use Rattle.site_base.specs.declared.value.Value.{Value}
 use Rattle.front_yaml.specs.Reading.{Reading}
 use Rattle.front_yaml.specs.Bytes.{is_gap, white_len}
-use Rattle.front_yaml.specs.declared.flow_values.Part.{Part}
-use Rattle.front_yaml.specs.declared.flow_values.Part.TheVariants.{Shut, Last, More}
+use Rattle.front_yaml.specs.declared.flow_parts.Part.{Part}
+use Rattle.front_yaml.specs.declared.flow_parts.Part.TheVariants.{Shut, Last, More}
 use Rattle.front_yaml.specs.Folding.{within, folded, ends_line}
 use Rattle.site_base.specs.declared.faults.YamlKind.{YamlKind}
 use Rattle.front_yaml.specs.declared.faults.PlaceFault.{PlaceFault}

@@ -10,7 +10,7 @@ pub mod Gaps
 pub mod Given
 pub mod Keys
 pub mod Leaves
-pub mod Leftovers
+pub mod LineFaults
 pub mod LineKeys
 pub mod LineLeaves
 pub mod LineRuns

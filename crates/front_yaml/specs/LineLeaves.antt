@@ -7,7 +7,7 @@ use Rattle.front_yaml.specs.TextLines.{Line, stream, span, by_lines}
 use Rattle.front_yaml.specs.BlockScalars.{block_scalar}
 use Rattle.front_yaml.specs.Leaves.{leaf}
 use Rattle.front_yaml.specs.LineRuns.{reaches, taken_by}
-use Rattle.front_yaml.specs.Leftovers.{none_left}
+use Rattle.front_yaml.specs.LineFaults.{none_left}
 
 -- the scalar or flow value s at the end of the line l, whose other lines have indent f
 abbrev pub leaf_lines : ℕ → ℕ → Line → List ℕ → List Line → Reading Plain

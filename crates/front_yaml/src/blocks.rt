@@ -1,15 +1,15 @@
 // Sequences and mappings.
-ghost use Rattle.std.specs.Prelude.{◌≡◌, ◌<◌, ◌≤◌, ◌^◌, ◌∷◌, length, drop, option_map, false};
+ghost use Rattle.std.specs.Prelude.{◌≡◌, ◌<◌, ◌≤◌, ◌^◌, ◌∷◌, length, drop, false};
 ghost use Rattle.front_yaml.specs.Bytes.{starts};
 ghost use Rattle.front_yaml.specs.TextLines.{indent, inside};
 ghost use Rattle.front_yaml.specs.LineRuns.{is_item};
-ghost use Rattle.front_yaml.specs.Given.{Gives, ReadsLines, GivesPair, as_line_pair};
-ghost use Rattle.front_yaml.specs.Blocks.{block, below, below_first, entry_value, indent_fault, at_indent, item_value, item_at, pair_at, pair_value, sequence, all_entries, entry, mapping_pairs};
+ghost use Rattle.front_yaml.specs.Given.{Gives, ReadsLines, GivesPair};
+ghost use Rattle.front_yaml.specs.Blocks.{block, below, below_first, entry_value, at_indent, item_value, item_at, pair_at, sequence, all_entries, entry, mapping_pairs};
 
-use crate::faults::{YamlError, YamlFault};
+use crate::faults::YamlError;
 use crate::growth::put;
-use crate::keys::starts_block;
-use crate::leftovers::none_left;
+use crate::keys::{starts_block, value_place};
+use crate::line_faults::{indent_fault, none_left};
 use crate::line_keys::{line_key, no_key_fault};
 use crate::line_leaves::{leaf_lines, scalar_lines};
 use crate::line_runs::{before_item, before_pair, belonging, first_lines, idle_lines, lines_after};
@@ -17,23 +17,6 @@ use crate::scans::{dash_len, is_dash, is_empty, starts, tail, white_len};
 use crate::text_lines::TextLine;
 use site_base::{GrowingHash, Hash, List, Text, Value, YamlKind};
 use std::alloc::Global;
-
-// What is wrong with the place of an entry in a block of this indent.
-fn indent_fault(indent: usize, line: &TextLine) -> Option<YamlFault>
-    ensures { option_map as_line_pair result ≡ indent_fault indent line.now }
-{
-    let kind = if line.has_tab() {
-        YamlKind::Tab
-    } else if line.indent() < indent {
-        YamlKind::Indent
-    } else {
-        return None;
-    };
-    Some(YamlFault {
-        line: line.number(),
-        kind,
-    })
-}
 
 // The value of lines whose first carries something; the other lines have the indent `floor` at least, if they carry
 // anything.
@@ -187,54 +170,20 @@ fn pair<'l, 'a>(
     if let Some(fault) = indent_fault(indent, head) {
         return Err(YamlError::Fault(fault));
     }
-    pair_at(alloc, depth, indent, head, more)
-}
-
-// The same, once the indent is known to fit.
-#[cycle(block)]
-fn pair_at<'l, 'a>(
-    alloc: Global,
-    depth: u32,
-    indent: usize,
-    head: &'l TextLine<'a>,
-    more: &'l [TextLine<'a>],
-) -> Result<(Text, Value), YamlError>
-    requires { indent < 2 ^ 63 }
-    ensures { GivesPair result (pair_at depth (block depth) indent (entry head.now more.now)) }
-{
-    let found = match line_key(alloc, head) {
-        Ok(found) => found,
-        Err(error) => return Err(error),
-    };
-    match found {
-        Some((name, len)) => match pair_value(alloc, depth, indent, head, len, more) {
-            Ok(value) => Ok((name, value)),
-            Err(error) => Err(error),
-        },
-        None => match no_key_fault(alloc, indent + 1, head, more) {
+    match line_key(alloc, head) {
+        Ok(Some((name, len))) => {
+            let text = tail(head.inside(), value_place(head.inside(), len));
+            match entry_value(alloc, depth, indent + 1, head, text, more) {
+                Ok(value) => Ok((name, value)),
+                Err(error) => Err(error),
+            }
+        }
+        Ok(None) => match no_key_fault(alloc, indent + 1, head, more) {
             Ok(fault) => Err(YamlError::Fault(fault)),
             Err(_) => Err(YamlError::Memory),
         },
+        Err(error) => Err(error),
     }
-}
-
-// The value of a key that takes some bytes of the line.
-#[cycle(block)]
-fn pair_value<'l, 'a>(
-    alloc: Global,
-    depth: u32,
-    indent: usize,
-    head: &'l TextLine<'a>,
-    len: usize,
-    more: &'l [TextLine<'a>],
-) -> Result<Value, YamlError>
-    requires small { indent < 2 ^ 63 }
-    requires within { len ≤ length (inside head.now) }
-    ensures { Gives result (pair_value depth (block depth) indent (entry head.now more.now) len) }
-{
-    let text = head.inside();
-    let place = len + white_len(tail(text, len));
-    entry_value(alloc, depth, indent + 1, head, tail(text, place), more)
 }
 
 // The value that starts with a text at the end of a line, or stands below it.

@@ -1,73 +1,18 @@
 // Flow lists and hashes.
-ghost use Rattle.std.specs.Prelude.{◌≡◌, ◌≤◌, true, length, drop};
-ghost use Rattle.front_yaml.specs.Reading.{further};
+ghost use Rattle.std.specs.Prelude.{◌≡◌, true, length};
 ghost use Rattle.front_yaml.specs.Extents.{begins_value};
-ghost use Rattle.front_yaml.specs.Flow.{separator, scalar, node, part, items, pair_value, entry, hash_pairs, list_value, hash_value, collection, flow};
-ghost use Rattle.front_yaml.specs.Given.{ReadsAt, ReadsSized, ReadsEntry, ReadsItem, ReadsPair, Fits, EntryFits, PartFits, SeparatorFits};
+ghost use Rattle.front_yaml.specs.Flow.{node, part, items, pair_value, entry, hash_pairs, list_value, hash_value, collection, flow};
+ghost use Rattle.front_yaml.specs.Given.{ReadsAt, ReadsSized, ReadsEntry, ReadsItem, ReadsPair, Fits, EntryFits, PartFits};
 
-use crate::extents::{begins_value, is_closed, is_quote};
+use crate::extents::{begins_value, is_closed};
 use crate::faults::PlaceError;
-use crate::flow_keys::{key, start_fault};
-use crate::gaps::{skip, skip_from};
+use crate::flow_parts::{Part, separator_from};
+use crate::flow_scalars::{key, scalar};
+use crate::gaps::skip;
 use crate::growth::put;
-use crate::plain_scalars::{plain, starts_plain};
-use crate::quotes::quoted;
 use crate::scans::{starts, tail};
 use site_base::{GrowingHash, Hash, List, Text, Value, YamlKind};
 use std::alloc::Global;
-
-/// What stands in a list or hash up to the next separator, with the bytes before that.
-#[derive(Drop)]
-pub(crate) enum Part<T> {
-    /// Nothing, and then the end.
-    Shut(usize),
-    /// An entry before the end.
-    Last(T, usize),
-    /// An entry before a comma.
-    More(T, usize),
-}
-
-// The separator behind some bytes, or the closing bracket: whether it closes, and the bytes before it.
-fn separator_from(close: u8, text: &[u8], at: usize) -> Result<(bool, usize), PlaceError>
-    requires { at ≤ length text.now }
-    ensures value { ReadsAt result (further at (separator close (drop at text.now))) }
-    ensures within { SeparatorFits at (length text.now) result }
-{
-    let gap = match skip_from(text, at) {
-        Ok(gap) => gap,
-        Err(error) => return Err(error),
-    };
-    let rest = tail(text, at + gap);
-    if starts(rest, close) {
-        Ok((true, gap))
-    } else if starts(rest, b',') {
-        Ok((false, gap))
-    } else {
-        Err(PlaceError::at(at + gap, YamlKind::Flow))
-    }
-}
-
-// The scalar at the front, and its bytes.
-fn scalar(alloc: Global, text: &[u8]) -> Result<(Value, usize), PlaceError>
-    ensures value { ReadsSized result (scalar text.now) }
-    ensures within { Fits (length text.now) result }
-{
-    match text {
-        [] => Err(start_fault(text)),
-        [c, ..] => {
-            if is_quote(*c) {
-                match quoted(alloc, text) {
-                    Ok((text, len)) => Ok((Value::Text(text), len)),
-                    Err(error) => Err(error),
-                }
-            } else if starts_plain(true, text) {
-                plain(alloc, true, text)
-            } else {
-                Err(start_fault(text))
-            }
-        }
-    }
-}
 
 // The value at the front, in which some more lists and hashes may nest, and its bytes.
 #[cycle(flow)]

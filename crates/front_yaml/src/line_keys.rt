@@ -4,12 +4,13 @@ ghost use Rattle.front_yaml.specs.TextLines.{inside};
 ghost use Rattle.front_yaml.specs.LineKeys.{line_key, no_key, no_quoted_key, no_key_fault};
 ghost use Rattle.front_yaml.specs.Given.{ReadsLines, as_line_pair};
 
-use crate::extents::{is_closed, is_quote, opens, quote_len};
+use crate::extents::{is_closed, opens};
 use crate::faults::{PlaceError, YamlError, YamlFault};
 use crate::keys::key;
 use crate::line_leaves::joined;
 use crate::line_runs::{first_lines, taken};
 use crate::plain_scalars::starts_plain;
+use crate::quote_ends::{is_quote, quote_len};
 use crate::text_lines::TextLine;
 use site_base::{Memory, Text, YamlKind};
 use std::alloc::Global;

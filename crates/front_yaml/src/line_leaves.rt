@@ -10,7 +10,7 @@ use crate::faults::{PlaceError, PlaceFault, YamlError};
 use crate::folding::line_ends;
 use crate::growth::append;
 use crate::leaves::leaf;
-use crate::leftovers::none_left;
+use crate::line_faults::none_left;
 use crate::line_runs::{first_lines, lines_after, reaching, taken};
 use crate::scans::front;
 use crate::text_lines::TextLine;

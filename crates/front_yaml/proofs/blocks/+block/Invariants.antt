@@ -23,12 +23,6 @@ decreases-pair l = 10 * l.depth + 6
 abbrev pub decreases-item_at : goal.decreases-item_at
 decreases-item_at l = 10 * l.depth + 5
 
-abbrev pub decreases-pair_at : goal.decreases-pair_at
-decreases-pair_at l = 10 * l.depth + 5
-
-abbrev pub decreases-pair_value : goal.decreases-pair_value
-decreases-pair_value l = 10 * l.depth + 4
-
 abbrev pub decreases-entry_value : goal.decreases-entry_value
 decreases-entry_value l = 10 * l.depth + 3
 

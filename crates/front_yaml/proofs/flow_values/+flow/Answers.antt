@@ -3,7 +3,7 @@ use Rattle.site_base.specs.View.{plain}
 use Rattle.front_yaml.specs.declared.faults.PlaceError.{PlaceError}
 use Rattle.front_yaml.specs.declared.faults.PlaceError.TheVariants as place_error
 use Rattle.front_yaml.specs.declared.faults.PlaceFault.{PlaceFault}
-use Rattle.front_yaml.specs.declared.flow_values.Part.{Part}
+use Rattle.front_yaml.specs.declared.flow_parts.Part.{Part}
 use Rattle.site_base.specs.declared.value.Value.{Value}
 use Rattle.front_yaml.specs.Given.{FailsAt, ReadsSized, ReadsItem, ReadsPair, PartFits}
 use Rattle.front_yaml.specs.Flow.{node, part, items, pairs, entry, hash_pairs, collection}
