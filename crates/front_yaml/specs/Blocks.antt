@@ -1,5 +1,6 @@
 -- Sequences and mappings over lines: YAML 1.2.2, sections 6.1 and 8.2.
 use Rattle.std.specs.Prelude.{ℕ, zero, suc, ◌+◌, Bool, true, false, ◌||◌, List, [], ◌∷◌, drop, nat_le, if◌then◌else◌, Some, None, Ok, Err}
+use Rattle.site_base.specs.Chains.{◌>>=◌}
 use Rattle.site_base.specs.declared.faults.YamlKind.TheVariants as kind
 use Rattle.site_base.specs.Plain.{Plain, nil, list, hash, Items, no_items, item, Pairs, no_pairs, pair}
 use Rattle.front_yaml.specs.Reading.{Reading, unless}
