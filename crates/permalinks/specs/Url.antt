@@ -1,39 +1,12 @@
 -- URLs: templates with placeholders, after Jekyll 4's manual, "Permalinks".
-use Rattle.std.specs.Prelude.{◌≡◌, ◌≤◌, ◌⊎◌, ℕ, length, ◌==◌, nat_le, Bool, true, false, ◌&&◌, ◌||◌, List, [], ◌∷◌, ◌++◌, take, drop, codes, Option, Some, None, if◌then◌else◌}
+use Rattle.std.specs.Prelude.{◌≡◌, ◌≤◌, ◌⊎◌, ℕ, length, ◌==◌, nat_le, Bool, true, false, ◌&&◌, ◌||◌, List, [], ◌∷◌, ◌++◌, take, drop, codes, Option, Some, None}
 use Rattle.std.specs.Option.{option_map}
 use Rattle.std.specs.List.{prefix_len, slice_split}
-use Rattle.std.specs.Str.{bytes_eq, IsUtf8, IsCharBoundary}
+use Rattle.std.specs.Str.{IsUtf8, IsCharBoundary}
+use Rattle.permalinks.specs.Placeholders.{field}
 use Rattle.permalinks.specs.declared.parts.UrlParts.{UrlParts}
 use Rattle.permalinks.specs.declared.template.UrlError.{UrlError}
 use Rattle.permalinks.specs.declared.template.UrlError.TheVariants.{Placeholder, Memory}
-
--- the part of a day that a placeholder names
-abbrev pub date_field : UrlParts → List ℕ → Option (List ℕ)
-date_field parts name =
-    if bytes_eq name (codes "year") then parts.year
-    else if bytes_eq name (codes "month") then parts.month
-    else if bytes_eq name (codes "day") then parts.day
-    else if bytes_eq name (codes "i_month") then parts.i_month
-    else if bytes_eq name (codes "i_day") then parts.i_day
-    else if bytes_eq name (codes "short_year") then parts.short_year
-    else if bytes_eq name (codes "y_day") then parts.y_day
-    else if bytes_eq name (codes "hour") then parts.hour
-    else if bytes_eq name (codes "minute") then parts.minute
-    else if bytes_eq name (codes "second") then parts.second
-    else None
-
--- the value of a placeholder
-abbrev pub field : UrlParts → List ℕ → Option (List ℕ)
-field parts name =
-    if bytes_eq name (codes "title") then parts.title
-    else if bytes_eq name (codes "slug") then parts.slug
-    else if bytes_eq name (codes "categories") then parts.categories
-    else if bytes_eq name (codes "name") then parts.name
-    else if bytes_eq name (codes "basename") then parts.basename
-    else if bytes_eq name (codes "path") then parts.path
-    else if bytes_eq name (codes "collection") then parts.collection
-    else if bytes_eq name (codes "output_ext") then parts.output_ext
-    else date_field parts name
 
 -- `a` to `z` and `_`
 abbrev pub is_name : ℕ → Bool

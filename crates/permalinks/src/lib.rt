@@ -3,11 +3,13 @@
 
 mod output;
 mod parts;
+mod placeholder;
 mod slug;
 mod template;
 
 pub use output::dest;
 pub use parts::UrlParts;
+pub use placeholder::Placeholder;
 pub use slug::slugify;
 pub use template::{UrlError, url};
 

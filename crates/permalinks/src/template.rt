@@ -29,6 +29,17 @@ impl From<AllocError> for UrlError {
     }
 }
 
+impl From<Memory> for UrlError {
+    ghost use Rattle.std.specs.Prelude.{◌≡◌};
+    ghost use Rattle.permalinks.specs.declared.template.UrlError.TheVariants as url_error;
+
+    ghost from_gives = { λ _ error. error ≡ url_error.Memory };
+
+    fn from(_: Memory) -> UrlError {
+        UrlError::Memory
+    }
+}
+
 /// The URL of a template: each placeholder, which is `:` and the longest run of `a` to `z` and `_`, is replaced by its
 /// value; then `/` is put in front where it is missing, and runs of `/` become one.
 ///
@@ -39,10 +50,7 @@ pub fn url(alloc: Global, template: &str, parts: &UrlParts) -> Result<Text, UrlE
         (IsRefusal (url template.now parts.now)) }
 {
     let text = filled(alloc, template, parts)?;
-    match Text::from_string(with_slashes(alloc, text.as_str())?) {
-        Ok(text) => Ok(text),
-        Err(Memory) => Err(UrlError::Memory),
-    }
+    Ok(Text::from_string(with_slashes(alloc, text.as_str())?)?)
 }
 
 fn filled(alloc: Global, template: &str, parts: &UrlParts) -> Result<String, UrlError>
@@ -51,10 +59,8 @@ fn filled(alloc: Global, template: &str, parts: &UrlParts) -> Result<String, Url
         (IsRefusal (filled parts.now template.now)) }
 {
     let mut text = String::new(alloc);
-    match push_template(&mut text, template, parts) {
-        Ok(()) => Ok(text),
-        Err(error) => Err(error),
-    }
+    push_template(&mut text, template, parts)?;
+    Ok(text)
 }
 
 fn push_template(text: &mut String, template: &str, parts: &UrlParts) -> Result<(), UrlError>
@@ -92,7 +98,7 @@ fn push_part(text: &mut String, part: &str, parts: &UrlParts) -> Result<(), UrlE
         (IsRefusal (part_text parts.now part.now)) }
 {
     let end = name_len(part.as_bytes());
-    match parts.field(&part.as_bytes()[..end]) {
+    match parts.field(&part[..end]) {
         Some(value) => {
             text.push_str(value.as_str())?;
             text.push_str(&part[end..])?;
