@@ -18,7 +18,7 @@ use Rattle.liquid_grammar.specs.declared.item.Item.{Item}
 use Rattle.liquid_grammar.specs.declared.item.Item.TheVariants as item
 use Rattle.liquid_grammar.specs.Readings.{Refusal, syntax_fault, overflow}
 use Rattle.liquid_grammar.specs.Pieces.{after_white}
-use Rattle.liquid_grammar.specs.Tokens.{is_letter, is_name_byte}
+use Rattle.site_text.specs.Bytes.{is_name_byte, is_name_start}
 use Rattle.liquid_grammar.specs.Expressions.{read_expression}
 use Rattle.liquid_grammar.specs.Conditions.{read_condition}
 use Rattle.liquid_grammar.specs.Tags.{read_nothing, read_name, read_assign, read_values, read_cycle, read_loop, read_include, read_path, read_language, inside}
@@ -120,7 +120,7 @@ tag_named None text name rest = ending (block_ended name) text name rest
 -- how many bytes at the front are a name
 abbrev pub tag_name_len : List ℕ → ℕ
 tag_name_len [] = 0
-tag_name_len (c ∷ cs) = if is_letter c then prefix_len is_name_byte (c ∷ cs) else 0
+tag_name_len (c ∷ cs) = if is_name_start c then prefix_len is_name_byte (c ∷ cs) else 0
 
 -- a tag without a name is none
 abbrev pub tag_with : List ℕ → List ℕ → List ℕ → Result Item FaultKind
