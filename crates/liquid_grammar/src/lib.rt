@@ -14,6 +14,7 @@ mod piece;
 mod several;
 mod step;
 mod tag;
+mod tag_kind;
 
 pub use condition::{Condition, Joined, Test};
 pub use expression::{Expr, Filter, Parameter, Params};
@@ -26,3 +27,4 @@ pub use piece::{Front, Piece, PieceKind, Span};
 pub use several::Several;
 pub use step::Step;
 pub use tag::{Assign, Cycle, Include, Loop, LoopKey, LoopKind, LoopPart, NamePart, NamePlace};
+pub use tag_kind::{LeafName, PartName, TagKind};
