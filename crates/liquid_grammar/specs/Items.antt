@@ -44,7 +44,7 @@ made f (Err e) = Err (fault_of e)
 -- ---- Names of tags
 
 -- what each tag is, by its word
-abbrev pub tag_words : List (List ℕ × TagKind)
+unfoldable pub tag_words : List (List ℕ × TagKind)
 tag_words =
     (codes "if", Opens block_name.If)
     ∷ (codes "endif", Ends block_name.If)
