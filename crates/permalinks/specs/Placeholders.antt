@@ -49,5 +49,10 @@ value parts Path = parts.path
 value parts Collection = parts.collection
 value parts OutputExt = parts.output_ext
 
-abbrev pub field : UrlParts → List ℕ → Option (List ℕ)
-field parts name = option_and_then (value parts) (named name)
+-- what placeholders stand for, where they stand for something
+abbrev pub Values : Type 0
+Values = Placeholder → Option (List ℕ)
+
+-- what the placeholder of a name stands for
+abbrev pub field : Values → List ℕ → Option (List ℕ)
+field values name = option_and_then values (named name)

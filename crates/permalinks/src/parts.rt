@@ -3,7 +3,9 @@ ghost use Rattle.std.specs.Prelude.{◌≡◌};
 ghost use Rattle.std.specs.Option.{option_copied};
 
 use crate::placeholder::Placeholder;
-use site_base::Text;
+use crate::values::Values;
+use site_base::{Memory, Text};
+use std::alloc::Global;
 
 /// The values of the placeholders of a template. One that an item lacks is `None`.
 #[derive(Drop)]
@@ -40,20 +42,23 @@ pub struct UrlParts {
     pub output_ext: Option<Text>,
 }
 
-impl UrlParts {
-    ghost use Rattle.permalinks.specs.Placeholders.{field, value};
+impl Values for UrlParts {
+    ghost use Rattle.permalinks.specs.Placeholders.{value};
 
-    /// The value of the placeholder of this name.
-    pub(crate) fn field(&self, name: &str) -> Option<&Text>
-        ensures { option_copied result ≡ field self.now name.now }
-    {
-        match Placeholder::named(name) {
-            Some(placeholder) => self.value(placeholder),
-            None => None,
+    ghost stands_for = { value };
+
+    fn value(&self, alloc: Global, placeholder: Placeholder) -> Result<Option<Text>, Memory> {
+        match self.part(placeholder) {
+            Some(text) => Ok(Some(Text::copy(alloc, text.as_str())?)),
+            None => Ok(None),
         }
     }
+}
 
-    fn value(&self, placeholder: Placeholder) -> Option<&Text>
+impl UrlParts {
+    ghost use Rattle.permalinks.specs.Placeholders.{value};
+
+    fn part(&self, placeholder: Placeholder) -> Option<&Text>
         ensures { option_copied result ≡ value self.now placeholder }
     {
         match placeholder {
