@@ -42,7 +42,11 @@ pub(crate) fn url_of(
     ensures { let found = found_url (url_by template.now (placeholders item.now slug.now (key_list categories.now))) in
         MatchResult result (λ text. found ≡ Ok text) (IsFault found) }
 {
-    let values = Named::of(item, slug, categories);
+    let values = Named {
+        item,
+        slug,
+        categories,
+    };
     match url_by(alloc, template, &values) {
         Ok(url) => Ok(url),
         Err(UrlError::Memory) => Err(ItemError::Memory),

@@ -1,6 +1,7 @@
 // What the placeholders of templates stand for.
 ghost use Rattle.std.specs.Prelude.{◌≡◌, ◌++◌, IfOk, IfSome, OnOk, map};
 ghost use Rattle.std.specs.Char.{to_ascii_lowercase};
+ghost use Rattle.std.proofs.Props.{props};
 ghost use Rattle.site_base.specs.Plain.{key_list};
 ghost use Rattle.site_base.specs.View.{pairs_of};
 ghost use Rattle.site_dates.specs.Moment.{IsMoment};
@@ -20,27 +21,11 @@ use std::alloc::Global;
 /// An item whose URL is made, with its slug and its categories.
 #[derive(Clone, Copy)]
 pub(crate) struct Named<'a> {
-    item: &'a Sought<'a>,
-    slug: &'a Text,
-    categories: &'a Hash,
+    pub item: &'a Sought<'a>,
+    pub slug: &'a Text,
+    pub categories: &'a Hash,
     ghost offset: { IsOffset item.now.config.now.timezone },
-    ghost moment: { IfSome item.now.moment IsMoment },
-}
-
-impl<'a> Named<'a> {
-    pub(crate) fn of(item: &'a Sought<'a>, slug: &'a Text, categories: &'a Hash) -> Named<'a>
-        requires offset { IsOffset item.now.config.now.timezone }
-        requires moment { IfSome item.now.moment IsMoment }
-        ensures item { result.item.now ≡ item.now }
-        ensures slug { result.slug.now ≡ slug.now }
-        ensures categories { result.categories.now ≡ categories.now }
-    {
-        Named {
-            item,
-            slug,
-            categories,
-        }
-    }
+    ghost moment: { IfSome item.now.moment IsMoment } by { Prim.hlevel props },
 }
 
 impl Values for Named<'_> {
