@@ -1,0 +1,244 @@
+// Claims by several seats, and by several threads.
+ghost use Rattle.std.specs.Prelude.{◌≡◌, ◌≤◌, ◌<◌, [], All, IfOk, IfSome};
+ghost use Rattle.claim_table.specs.Counts.{EachOnce};
+ghost use Rattle.claim_table.specs.Seats.{empty_seat};
+
+use super::*;
+use site_base::Memory;
+use std::alloc::{AllocError, Global};
+use std::test::Fail;
+use std::thread;
+use std::thread::Threads;
+
+// Who claims which item, and the answer.
+const ENDED: &[(u32, Claimed)] = &[
+    (0, Claimed::Finished),
+    (1, Claimed::Finished),
+    (2, Claimed::Finished),
+];
+
+// Whether the claims of these items, one after another, have these answers.
+fn answers(table: &ClaimTable, seat: &mut ClaimSeat, rows: &[(u32, Claimed)]) -> bool
+    requires table { seat.old.table ≡ table.now }
+    requires items { All (λ row. row.0 < table.now.words) rows.now }
+{
+    for &(item, answer) in rows {
+        if table.try_claim(seat, item) != answer {
+            return false;
+        }
+    }
+    true
+}
+
+// One item and two seats: the first to claim it has it, until it is finished for all.
+fn one_item(alloc: Global) -> Result<bool, Memory> {
+    let (table, mut first) = ClaimTable::new(alloc, 1)?;
+    let mut second = table.split(&mut first);
+    let Claimed::Mine = table.try_claim(&mut first, 0) else {
+        return Ok(false);
+    };
+    let before = table.try_claim(&mut second, 0);
+    table.finish(&mut first, 0);
+    let after = table.try_claim(&mut second, 0);
+    Ok(before == Claimed::Taken && after == Claimed::Finished)
+}
+
+// Two seats and three items: the second claims and finishes items 1 and 0 while the first is at item 2.
+fn three_items(alloc: Global) -> Result<bool, Memory> {
+    let (table, mut first) = ClaimTable::new(alloc, 3)?;
+    let mut second = table.split(&mut first);
+    let Claimed::Mine = table.try_claim(&mut first, 2) else {
+        return Ok(false);
+    };
+    let is_free = ends(&table, &mut second, 1) && ends(&table, &mut second, 0);
+    let taken = table.try_claim(&mut second, 2);
+    table.finish(&mut first, 2);
+    Ok(is_free && taken == Claimed::Taken && answers(&table, &mut second, ENDED))
+}
+
+// Whether the seat claims the item, which it then finishes.
+fn ends(table: &ClaimTable, seat: &mut ClaimSeat, item: u32) -> bool
+    requires table { seat.old.table ≡ table.now }
+    requires item { item < table.now.words }
+    ensures table { seat.new.table ≡ seat.old.table }
+{
+    match table.try_claim(seat, item) {
+        Claimed::Mine => {
+            table.finish(seat, item);
+            true
+        }
+        _ => false,
+    }
+}
+
+#[test]
+fn tells_what_stands(rt: HostRuntime) {
+    assert!(rt; one_item(rt.alloc()) == Ok(true), "one item");
+    assert!(rt; three_items(rt.alloc()) == Ok(true), "three items");
+}
+
+// What a thread brings back: its seat, and the items that it finished.
+#[derive(Drop)]
+struct Part {
+    seat: ClaimSeat,
+    had: Vec<u32>,
+}
+
+// Claims and finishes each item that is free.
+fn work(alloc: Global, table: &ClaimTable, mut seat: ClaimSeat, items: u32) -> Option<Part>
+    requires seat { seat ≡ empty_seat table.now }
+    requires items { items ≤ table.now.words }
+    ensures table { IfSome result (λ part. part.seat.table ≡ table.now) }
+    ensures had { IfSome result (λ part. part.seat.done ≡ part.had.items) }
+{
+    let mut had = Vec::new(alloc);
+    for item in 0..items {
+        if ends_and_notes(table, &mut seat, item, &mut had).is_err() {
+            return None;
+        }
+    }
+    Some(Part { seat, had })
+}
+
+// Claims and finishes the item where it is free, and then adds it to what was had.
+fn ends_and_notes(
+    table: &ClaimTable,
+    seat: &mut ClaimSeat,
+    item: u32,
+    had: &mut Vec<u32>,
+) -> Result<(), AllocError>
+    requires table { seat.old.table ≡ table.now }
+    requires item { item < table.now.words }
+    requires had { seat.old.done ≡ had.old.items }
+    ensures table { seat.new.table ≡ seat.old.table }
+    ensures had { OnOk result (seat.new.done ≡ had.new.items) }
+{
+    match table.try_claim(seat, item) {
+        Claimed::Mine => {
+            table.finish(seat, item);
+            had.push(item)?;
+            Ok(())
+        }
+        _ => Ok(()),
+    }
+}
+
+// So many seats beside the first.
+fn seats(
+    alloc: Global,
+    table: &ClaimTable,
+    first: &mut ClaimSeat,
+    count: u32,
+) -> Result<Vec<ClaimSeat>, AllocError>
+    requires table { first.old.table ≡ table.now }
+    ensures same { first.new ≡ first.old }
+    ensures seats { IfOk result (λ made. All (λ seat. seat ≡ empty_seat table.now) made.items) }
+{
+    let mut made = Vec::new(alloc);
+    for _ in 0..count {
+        made.push(table.split(first))?;
+    }
+    Ok(made)
+}
+
+// Each seat works in a thread of its own.
+fn spread<R: Threads + Sync>(
+    rt: &R,
+    alloc: Global,
+    table: &ClaimTable,
+    seats: Vec<ClaimSeat>,
+    items: u32,
+) -> Result<Vec<Option<Part>>, AllocError>
+    requires seats { All (λ seat. seat ≡ empty_seat table.now) seats.items }
+    requires items { items ≤ table.now.words }
+    ensures table { IfOk result (λ parts. All (λ part. IfSome part (λ p. p.seat.table ≡ table.now)) parts.items) }
+    ensures had { IfOk result (λ parts. All (λ part. IfSome part (λ p. p.seat.done ≡ p.had.items)) parts.items) }
+{
+    thread::map_vec(
+        rt,
+        seats,
+        &|seat: ClaimSeat| -> Option<Part>
+            requires { (seat ≡ empty_seat table.now) × (items ≤ table.now.words) }
+            ensures { IfSome result (λ part. (part.seat.table ≡ table.entry.now) × (part.seat.done ≡ part.had.items)) }
+        { work(alloc, table, seat, items) },
+    )
+}
+
+// The items that the threads had. Their seats are joined, so that no item is there twice.
+fn gathered(
+    table: &ClaimTable,
+    mut seat: ClaimSeat,
+    mut parts: Vec<Option<Part>>,
+    alloc: Global,
+) -> Option<Vec<u32>>
+    requires seat { seat ≡ empty_seat table.now }
+    requires table { All (λ part. IfSome part (λ p. p.seat.table ≡ table.now)) parts.items }
+    requires had { All (λ part. IfSome part (λ p. p.seat.done ≡ p.had.items)) parts.items }
+    ensures { IfSome result (λ all. EachOnce [] all.items) }
+{
+    let mut all = Vec::new(alloc);
+    while let Some(part) = parts.pop() {
+        let Part { seat: from, had } = part?;
+        table.join(&mut seat, from);
+        if all.extend_from_slice(had.as_slice()).is_err() {
+            return None;
+        }
+    }
+    Some(all)
+}
+
+fn shared_out<R: Threads + Sync>(rt: &R, alloc: Global, threads: u32, items: u32) -> Option<Vec<u32>>
+    ensures { IfSome result (λ all. EachOnce [] all.items) }
+{
+    let Ok((table, mut seat)) = ClaimTable::new(alloc, items) else {
+        return None;
+    };
+    let Ok(seats) = seats(alloc, &table, &mut seat, threads) else {
+        return None;
+    };
+    let Ok(parts) = spread(rt, alloc, &table, seats, items) else {
+        return None;
+    };
+    gathered(&table, seat, parts, alloc)
+}
+
+// Whether these are the items below the count, each once, in some order.
+fn is_each_once(mut all: Vec<u32>, items: u32) -> bool {
+    all.sort_unstable();
+    all.iter().copied().eq(0..items)
+}
+
+#[test]
+fn threads_have_each_item_once(rt: HostRuntime) {
+    for threads in 2..=8 {
+        let is_right = match shared_out(&rt, rt.alloc(), threads, 100_000) {
+            Some(all) => is_each_once(all, 100_000),
+            None => false,
+        };
+        assert!(rt; is_right, "{threads} threads");
+    }
+}
+
+// A table and its seat, moved to another thread.
+fn claims_elsewhere(rt: &impl Threads, table: ClaimTable, seat: ClaimSeat) -> Option<Claimed>
+    requires table { seat.table ≡ table }
+    requires items { 0 < table.words }
+{
+    let child = thread::spawn(rt, move || -> Claimed
+        requires { (seat.table ≡ table) × (0 < table.words) }
+    {
+        let mut seat = seat;
+        table.try_claim(&mut seat, 0)
+    })
+    .ok()?;
+    Some(child.join(rt))
+}
+
+#[test]
+fn goes_to_another_thread(rt: HostRuntime) -> Result<(), Fail> {
+    let Ok((table, seat)) = ClaimTable::new(rt.alloc(), 0) else {
+        return Err(Fail);
+    };
+    assert!(rt; claims_elsewhere(&rt, table, seat) == Some(Claimed::Mine));
+    Ok(())
+}
