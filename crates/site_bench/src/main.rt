@@ -1,6 +1,8 @@
 // The measured program: reads its standard input, and calls one library on it. `bench/` runs it.
 #![tactic(auto)]
 
+mod claims;
+
 use cm_print::{HtmlError, to_html};
 use data_files::{DataError, read_data};
 use front_yaml::{YamlError, read_yaml};
@@ -42,6 +44,7 @@ fn status(rt: HostRuntime, word: &str, text: &str) -> u8 {
         "tsv" => data(rt, "_data/bench.tsv", text),
         "liquid" => liquid(rt, text),
         "markdown" => markdown(rt, text),
+        "claims" => claims(rt, text),
         _ => USAGE,
     }
 }
@@ -91,6 +94,20 @@ fn markdown(rt: HostRuntime, text: &str) -> u8 {
         Ok(html) => written(rt, html.as_str()),
         Err(HtmlError::TooLong) => REFUSED,
         Err(HtmlError::Memory) => FAILED,
+    }
+}
+
+// The status of as many threads' claims as the text says. The nanoseconds that they took and the claims that succeeded are written.
+fn claims(rt: HostRuntime, text: &str) -> u8 {
+    let Ok(threads) = text.trim().parse::<u32>() else {
+        return REFUSED;
+    };
+    let Some((taken, claimed)) = claims::timed(&rt, rt.alloc(), threads) else {
+        return FAILED;
+    };
+    match format!(in rt.alloc(); "{} {claimed}\n", taken.as_nanos()) {
+        Ok(line) => written(rt, line.as_str()),
+        Err(_) => FAILED,
     }
 }
 
