@@ -133,20 +133,20 @@ module _ (n slots id i : ℕ) (me : Sitting) (inside : i < n) where
 module _ (n id : ℕ) (v : SeatLists) where
   pub splits : Splits (Holds n) id v v empty_lists
   splits s h at = record {
-      size = h.size;
-      each = λ x.
+    size = h.size;
+    each = λ x.
         let old = h.each x in
         let m = total_added (λ v. times x v.mine) (set s.views id v) empty_lists in
         let d = total_added (λ v. times x v.done) (set s.views id v) empty_lists in
         let m' = total_set (λ v. times x v.mine) s.views id v v at in
         let d' = total_set (λ v. times x v.done) s.views id v v at in
         record { known = old.known; mine = omega (arith, old.mine); done = omega (arith, old.done) };
-    }
+  }
 
   pub joins : (other : ℕ) (w : SeatLists) → Joins (Holds n) id v other w (joined_lists v w) empty_lists
   joins other w s h at ne there = record {
-      size = h.size;
-      each = λ x.
+    size = h.size;
+    each = λ x.
         let old = h.each x in
         let m = total_set (λ v. times x v.mine) s.views id v (joined_lists v w) at in
         let d = total_set (λ v. times x v.done) s.views id v (joined_lists v w) at in
@@ -155,4 +155,4 @@ module _ (n id : ℕ) (v : SeatLists) where
         let a = times_append x v.mine w.mine in
         let b = times_append x v.done w.done in
         record { known = old.known; mine = omega (arith, old.mine); done = omega (arith, old.done) };
-    }
+  }

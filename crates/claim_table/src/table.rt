@@ -56,8 +56,8 @@ impl ClaimTable {
         ensures once { EachOnce seat.new.mine seat.new.done }
     {
         let shared = &self.table.shared;
-        let found =
-            shared.compare_exchange::<ClaimStep>(&mut seat.seat, item as usize, FREE, CLAIMED);
+        let place = item as usize;
+        let found = shared.compare_exchange::<ClaimStep>(&mut seat.seat, place, FREE, CLAIMED);
         match found {
             FREE => Claimed::Mine,
             CLAIMED => Claimed::Taken,

@@ -187,7 +187,12 @@ fn gathered(
     Some(all)
 }
 
-fn shared_out<R: Threads + Sync>(rt: &R, alloc: Global, threads: u32, items: u32) -> Option<Vec<u32>>
+fn shared_out<R: Threads + Sync>(
+    rt: &R,
+    alloc: Global,
+    threads: u32,
+    items: u32,
+) -> Option<Vec<u32>>
     ensures { IfSome result (λ all. EachOnce [] all.items) }
 {
     let Ok((table, mut seat)) = ClaimTable::new(alloc, items) else {
@@ -224,12 +229,15 @@ fn claims_elsewhere(rt: &impl Threads, table: ClaimTable, seat: ClaimSeat) -> Op
     requires table { seat.table ≡ table }
     requires items { 0 < table.words }
 {
-    let child = thread::spawn(rt, move || -> Claimed
-        requires { (seat.table ≡ table) × (0 < table.words) }
-    {
-        let mut seat = seat;
-        table.try_claim(&mut seat, 0)
-    })
+    let child = thread::spawn(
+        rt,
+        move || -> Claimed
+            requires { (seat.table ≡ table) × (0 < table.words) }
+        {
+            let mut seat = seat;
+            table.try_claim(&mut seat, 0)
+        },
+    )
     .ok()?;
     Some(child.join(rt))
 }
