@@ -1,18 +1,18 @@
 -- Each kind of step keeps the rule of the table.
-use Rattle.std.proofs.Common.{◌≡◌, ◌≢◌, ◌⊎◌, ℕ, zero, suc, ◌+◌, ◌<◌, ◌≤◌, length, List, [], ◌∷◌, ◌++◌, set, Bool, true, false, refl, sym, ap, ◌∙◌, subst, arith, inl, inr, eqb, eq-eqb, ne_eqb, if◌then◌else◌}
-use Rattle.std.specs.Prelude.{slice_index, replicate, max}
+use Rattle.std.proofs.Common.{◌≡◌, ◌≢◌, ◌⊎◌, ℕ, zero, suc, ◌+◌, ◌<◌, ◌≤◌, length, List, [], ◌∷◌, ◌++◌, set, true, false, refl, sym, ap, ◌∙◌, subst, arith, inl, inr, eqb, eq-eqb, ne_eqb, if◌then◌else◌}
+use Rattle.std.specs.Prelude.{slice_index}
 use Rattle.std.proofs.lemmas.List.{get_or-set_same, get_or-set_other, length-set}
 use Rattle.std.proofs.lemmas.Bool.Decides.{eqb_tells}
 use native.Mathlib.Decide.{ℕ_discrete}
 use mathlib.Core.Option.{some, none, some-ne-none, some-injective}
 use lib.ListN.{get_elem?}
 use prog.Atomic.{either}
-use Rattle.atomic_table.specs.Table.{State, Me, step, keeps, Allows, Splits, Joins}
+use Rattle.atomic_table.specs.Table.{State, step, keeps, Allows, Splits, Joins}
 use Rattle.atomic_table.proofs.Lists.{set_here}
 use Rattle.claim_table.specs.declared.rule.SeatLists.{SeatLists}
-use Rattle.claim_table.specs.Counts.{one_if_same, times, without, EachOnce}
+use Rattle.claim_table.specs.Counts.{one_if_same, times, EachOnce}
 use Rattle.claim_table.specs.Rule.{total, Stands, Agrees}
-use Rattle.claim_table.specs.Steps.{empty_lists, claimed, after_claim, after_finish, joined_lists, Sitting, claims, finishes, looks}
+use Rattle.claim_table.specs.Steps.{empty_lists, after_claim, after_finish, joined_lists, Sitting, claims, finishes, looks}
 use Rattle.claim_table.proofs.Counting.{times_append, times_other, times_self, times_added, times_without, one_of_two, is_one}
 
 -- ---- a number of each seat, added up
@@ -100,7 +100,7 @@ module _ (n slots id i : ℕ) (me : Sitting) (inside : i < n) where
       let found = slice_index s.words i in
       let v = after_claim found i me.0 in
       let k = claimed_at found (ℕ_discrete found 0) s h at refl in
-      (v, keeps, tt, k, ((h.each i).known, refl, once n _ _ k id v (set_here s.views id v (here_length s.views id me.0 at))))
+      (v, keeps, tt, k, ((h.each i).known, (refl, once n _ _ k id v (set_here s.views id v (here_length s.views id me.0 at)))))
 
   pub finishes_allowed : 0 < times i me.0.mine → Allows (Holds n) slots id me i (λ _. 2) (λ _. finishes (step slots i 2 0 none) me 2)
   finishes_allowed has s h homes at fits =

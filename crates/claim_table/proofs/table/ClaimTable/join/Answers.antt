@@ -1,4 +1,7 @@
-use Rattle.std.proofs.Common.{◌<◌, ◌∙◌, sym, ap}
+use Rattle.std.proofs.Common.{◌≡◌, ◌<◌, ◌∙◌, sym, ap, subst}
+use Rattle.atomic_table.specs.Seated.{TableId}
+use Rattle.claim_table.specs.Counts.{AllBelow}
+use Rattle.claim_table.proofs.Counting.{below_joined}
 use Rattle.claim_table.proofs.Keeping.{joins, looks_allowed}
 use Rattle.claim_table.proofs.table.ClaimTable.join.Goals as goal
 
@@ -21,3 +24,14 @@ load-requires c =
       c.self.invariant.0,
       looks_allowed t.key t.table_id.slots c.join_seat.new.seat.id 0 c.join_seat.new.seat.me zero,
     )
+
+pub invariant_of-into : goal.invariant_of-into
+invariant_of-into c =
+    let s = c.into.inside.seat in
+    let other = c.from.inside.seat in
+    let e = c.join_seat.ensures in
+    let f = c.load.ensures in
+    let same : other.table_id ≡ s.table_id =
+      ap (λ s. s.table) c.from.view_is ∙ c.requires.from ∙ sym c.requires.into ∙ sym (ap (λ s. s.table) c.into.view_is) in
+    let below : AllBelow s.table_id.words other.me.0.mine = subst (λ (z : TableId). AllBelow z.words other.me.0.mine) same c.from.invariant.1 in
+    rw (f.2.0, f.0, e.2, e.0) (c.into.invariant.0, below_joined s.table_id.words s.me.0.mine other.me.0.mine c.into.invariant.1 below)

@@ -1,4 +1,6 @@
-use Rattle.std.proofs.Common.{◌<◌, ◌∙◌, sym, ap}
+use Rattle.std.proofs.Common.{◌≡◌, ◌<◌, ◌∙◌, sym, ap, subst}
+use Rattle.atomic_table.specs.Seated.{TableId}
+use Rattle.claim_table.proofs.Counting.{below_claimed}
 use Rattle.claim_table.proofs.Keeping.{claims_allowed}
 use Rattle.claim_table.proofs.table.ClaimTable.try_claim.Goals as goal
 
@@ -10,3 +12,12 @@ compare_exchange-found-requires c =
       rw c.self.view_is c.requires.item,
       claims_allowed t.key t.table_id.slots c.seat.inside.seat.id c.args.item c.seat.inside.seat.me item,
     )
+
+pub invariant_of-seat : goal.invariant_of-seat
+invariant_of-seat c =
+    let s = c.seat.inside.seat in
+    let found = c.compare_exchange-found.result in
+    let e = c.compare_exchange-found.ensures in
+    let table : s.table_id ≡ c.args.self.now = ap (λ s. s.table) c.seat.view_is ∙ c.requires.table in
+    let inside : c.args.item < s.table_id.words = subst (λ (z : TableId). c.args.item < z.words) (sym table) c.requires.item in
+    rw (e.2.1.0, e.0) (c.seat.invariant.0, below_claimed s.table_id.words found c.args.item s.me.0.mine inside c.seat.invariant.1)
