@@ -1,5 +1,5 @@
 -- How often an item stands in lists that are made of others.
-use Rattle.std.proofs.Common.{◌≡◌, ◌≢◌, ◌⊎◌, ℕ, zero, suc, ◌+◌, ◌<◌, ◌≤◌, List, [], ◌∷◌, ◌++◌, Bool, true, false, refl, sym, ap, arith, inl, inr, eqb, eq-eqb, ne_eqb, eqb-true, if◌then◌else◌}
+use Rattle.std.proofs.Common.{subst, ◌≡◌, ◌≢◌, ◌⊎◌, ℕ, zero, suc, ◌+◌, ◌<◌, ◌≤◌, List, [], ◌∷◌, ◌++◌, Bool, true, false, refl, sym, ap, arith, inl, inr, eqb, eq-eqb, ne_eqb, eqb-true, if◌then◌else◌}
 use Rattle.std.proofs.lemmas.Bool.Decides.{eqb_tells}
 use Rattle.claim_table.specs.Counts.{one_if_same, times, without, AllBelow}
 use Rattle.claim_table.specs.Steps.{claimed}
@@ -17,6 +17,9 @@ times_self x = ap (λ (b : Bool). (if b then 1 else 0) + 0) (eq-eqb x x refl)
 -- a claimed item stands in `mine` afterwards
 pub times_added : (x : ℕ) (xs : List ℕ) → times x (xs ++ x ∷ []) ≡ times x xs + 1
 times_added x xs = let a = times_append x xs (x ∷ []) in let o = times_self x in omega arith
+
+pub has_claimed : (word x : ℕ) (xs : List ℕ) → word ≡ 0 → 0 < times x (claimed word x xs)
+has_claimed word x xs e = subst (λ w. 0 < times x (claimed w x xs)) (sym e) (let a = times_added x xs in omega arith)
 
 pub times_without : (y : ℕ) (xs : List ℕ) → 0 < times y xs → (x : ℕ) → times x (without y xs) + times x (y ∷ []) ≡ times x xs
 times_without y [] h x = absurd (omega arith)

@@ -53,6 +53,7 @@ impl ClaimTable {
         ensures table { seat.new.table ≡ seat.old.table }
         ensures done { seat.new.done ≡ seat.old.done }
         ensures tries { Tries result item seat.old seat.new }
+        ensures mine { result ≡ Claimed.Mine → 0 < times item seat.new.mine }
         ensures once { EachOnce seat.new.mine seat.new.done }
     {
         let shared = &self.table.shared;

@@ -1,12 +1,11 @@
 // Claims by several seats, and by several threads.
-ghost use Rattle.std.specs.Prelude.{◌≡◌, ◌≤◌, ◌<◌, [], All, IfOk, IfSome};
+ghost use Rattle.std.specs.Prelude.{◌≡◌, ◌≤◌, ◌<◌, All, IfOk, OnOk, IfSome};
 ghost use Rattle.claim_table.specs.Counts.{EachOnce};
 ghost use Rattle.claim_table.specs.Seats.{empty_seat};
 
 use super::*;
 use site_base::Memory;
 use std::alloc::{AllocError, Global};
-use std::test::Fail;
 use std::thread;
 use std::thread::Threads;
 
@@ -151,49 +150,62 @@ fn spread<R: Threads + Sync>(
 ) -> Result<Vec<Option<Part>>, AllocError>
     requires seats { All (λ seat. seat ≡ empty_seat table.now) seats.items }
     requires items { items ≤ table.now.words }
-    ensures table { IfOk result (λ parts. All (λ part. IfSome part (λ p. p.seat.table ≡ table.now)) parts.items) }
-    ensures had { IfOk result (λ parts. All (λ part. IfSome part (λ p. p.seat.done ≡ p.had.items)) parts.items) }
+    ensures { IfOk result (λ parts. All (λ part. IfSome part (λ p. (p.seat.table ≡ table.now) × (p.seat.done ≡ p.had.items))) parts.items) }
 {
     thread::map_vec(
         rt,
         seats,
         &|seat: ClaimSeat| -> Option<Part>
             requires { (seat ≡ empty_seat table.now) × (items ≤ table.now.words) }
-            ensures { IfSome result (λ part. (part.seat.table ≡ table.entry.now) × (part.seat.done ≡ part.had.items)) }
+            ensures { IfSome result (λ p. (p.seat.table ≡ table.entry.now) × (p.seat.done ≡ p.had.items)) }
         { work(alloc, table, seat, items) },
     )
 }
 
-// The items that the threads had. Their seats are joined, so that no item is there twice.
-fn gathered(
-    table: &ClaimTable,
-    mut seat: ClaimSeat,
-    mut parts: Vec<Option<Part>>,
-    alloc: Global,
-) -> Option<Vec<u32>>
-    requires seat { seat ≡ empty_seat table.now }
-    requires table { All (λ part. IfSome part (λ p. p.seat.table ≡ table.now)) parts.items }
-    requires had { All (λ part. IfSome part (λ p. p.seat.done ≡ p.had.items)) parts.items }
-    ensures { IfSome result (λ all. EachOnce [] all.items) }
+// Adds what a thread brings back.
+fn gather(table: &ClaimTable, all: &mut Part, part: Part) -> Result<(), AllocError>
+    requires all { (all.old.seat.table ≡ table.now) × (all.old.seat.done ≡ all.old.had.items) }
+    requires part { (part.seat.table ≡ table.now) × (part.seat.done ≡ part.had.items) }
+    ensures table { OnOk result (all.new.seat.table ≡ table.now) }
+    ensures had { OnOk result (all.new.seat.done ≡ all.new.had.items) }
+    ensures once { OnOk result (EachOnce all.new.seat.mine all.new.seat.done) }
 {
-    let mut all = Vec::new(alloc);
+    let Part { seat, had } = part;
+    table.join(&mut all.seat, seat);
+    all.had.extend_from_slice(had.as_slice())?;
+    Ok(())
+}
+
+// All that the threads bring back. Their seats are joined, so that no item is there twice.
+fn gathered(
+    alloc: Global,
+    table: &ClaimTable,
+    seat: ClaimSeat,
+    mut parts: Vec<Option<Part>>,
+) -> Option<Part>
+    requires seat { seat ≡ empty_seat table.now }
+    requires parts { All (λ part. IfSome part (λ p. (p.seat.table ≡ table.now) × (p.seat.done ≡ p.had.items))) parts.items }
+    ensures had { IfSome result (λ all. all.seat.done ≡ all.had.items) }
+    ensures once { IfSome result (λ all. EachOnce all.seat.mine all.seat.done) }
+{
+    let mut all = Part {
+        seat,
+        had: Vec::new(alloc),
+    };
     while let Some(part) = parts.pop() {
-        let Part { seat: from, had } = part?;
-        table.join(&mut seat, from);
-        if all.extend_from_slice(had.as_slice()).is_err() {
+        let Some(part) = part else {
+            return None;
+        };
+        if gather(table, &mut all, part).is_err() {
             return None;
         }
     }
     Some(all)
 }
 
-fn shared_out<R: Threads + Sync>(
-    rt: &R,
-    alloc: Global,
-    threads: u32,
-    items: u32,
-) -> Option<Vec<u32>>
-    ensures { IfSome result (λ all. EachOnce [] all.items) }
+fn shared_out<R: Threads + Sync>(rt: &R, alloc: Global, threads: u32, items: u32) -> Option<Part>
+    ensures had { IfSome result (λ all. all.seat.done ≡ all.had.items) }
+    ensures once { IfSome result (λ all. EachOnce all.seat.mine all.seat.done) }
 {
     let Ok((table, mut seat)) = ClaimTable::new(alloc, items) else {
         return None;
@@ -204,7 +216,7 @@ fn shared_out<R: Threads + Sync>(
     let Ok(parts) = spread(rt, alloc, &table, seats, items) else {
         return None;
     };
-    gathered(&table, seat, parts, alloc)
+    gathered(alloc, &table, seat, parts)
 }
 
 // Whether these are the items below the count, each once, in some order.
@@ -217,7 +229,7 @@ fn is_each_once(mut all: Vec<u32>, items: u32) -> bool {
 fn threads_have_each_item_once(rt: HostRuntime) {
     for threads in 2..=8 {
         let is_right = match shared_out(&rt, rt.alloc(), threads, 100_000) {
-            Some(all) => is_each_once(all, 100_000),
+            Some(all) => is_each_once(all.had, 100_000),
             None => false,
         };
         assert!(rt; is_right, "{threads} threads");
@@ -242,11 +254,15 @@ fn claims_elsewhere(rt: &impl Threads, table: ClaimTable, seat: ClaimSeat) -> Op
     Some(child.join(rt))
 }
 
+// A table of no items has one word.
+fn new_claims_elsewhere(rt: &impl Threads, alloc: Global) -> Option<Claimed> {
+    match ClaimTable::new(alloc, 0) {
+        Ok((table, seat)) => claims_elsewhere(rt, table, seat),
+        Err(_) => None,
+    }
+}
+
 #[test]
-fn goes_to_another_thread(rt: HostRuntime) -> Result<(), Fail> {
-    let Ok((table, seat)) = ClaimTable::new(rt.alloc(), 0) else {
-        return Err(Fail);
-    };
-    assert!(rt; claims_elsewhere(&rt, table, seat) == Some(Claimed::Mine));
-    Ok(())
+fn goes_to_another_thread(rt: HostRuntime) {
+    assert!(rt; new_claims_elsewhere(&rt, rt.alloc()) == Some(Claimed::Mine));
 }

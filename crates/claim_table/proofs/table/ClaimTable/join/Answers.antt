@@ -32,6 +32,6 @@ invariant_of-into c =
     let e = c.join_seat.ensures in
     let f = c.load.ensures in
     let same : other.table_id ≡ s.table_id =
-      ap (λ s. s.table) c.from.view_is ∙ c.requires.from ∙ sym c.requires.into ∙ sym (ap (λ s. s.table) c.into.view_is) in
+    ap (λ s. s.table) c.from.view_is ∙ c.requires.from ∙ sym c.requires.into ∙ sym (ap (λ s. s.table) c.into.view_is) in
     let below : AllBelow s.table_id.words other.me.0.mine = subst (λ (z : TableId). AllBelow z.words other.me.0.mine) same c.from.invariant.1 in
     rw (f.2.0, f.0, e.2, e.0) (c.into.invariant.0, below_joined s.table_id.words s.me.0.mine other.me.0.mine c.into.invariant.1 below)
