@@ -3,9 +3,10 @@ ghost use Rattle.std.specs.Prelude.{◌≡◌, ◌≤◌, All, IfOk};
 
 use claim_table::{ClaimSeat, ClaimTable, Claimed};
 use std::alloc::{AllocError, Global};
+use std::rt::Clock;
 use std::thread;
 use std::thread::Threads;
-use std::time::{Clock, Duration, Instant};
+use std::time::{Duration, Instant};
 
 const ITEMS: u32 = 1_000_000;
 

@@ -9,8 +9,11 @@ use front_yaml::{YamlError, read_yaml};
 use liquid_parse::{ParseError, parse};
 use site_base::SitePath;
 use site_config::{ConfigError, read_config};
+use std::alloc::Global;
 use std::io::Write;
 use std::process::ExitCode;
+use std::rt::Clock;
+use std::thread::Threads;
 use std::{env, io};
 
 // The status of a run whose input is refused, whose words are wrong, or that failed.
@@ -28,6 +31,9 @@ fn main(rt: HostRuntime) -> ExitCode {
         return ExitCode::from(FAILED);
     };
     match arguments.nth(1) {
+        Some(word) if word.as_str() == "claims" => {
+            ExitCode::from(claim_times(&rt, rt.alloc(), text.as_str()))
+        }
         Some(word) => ExitCode::from(status(rt, word.as_str(), text.as_str())),
         None => ExitCode::from(USAGE),
     }
@@ -44,7 +50,6 @@ fn status(rt: HostRuntime, word: &str, text: &str) -> u8 {
         "tsv" => data(rt, "_data/bench.tsv", text),
         "liquid" => liquid(rt, text),
         "markdown" => markdown(rt, text),
-        "claims" => claims(rt, text),
         _ => USAGE,
     }
 }
@@ -98,15 +103,15 @@ fn markdown(rt: HostRuntime, text: &str) -> u8 {
 }
 
 // The status of as many threads' claims as the text says. The nanoseconds that they took and the claims that succeeded are written.
-fn claims(rt: HostRuntime, text: &str) -> u8 {
+fn claim_times<R: Threads + Clock + Print + Sync>(rt: &R, alloc: Global, text: &str) -> u8 {
     let Ok(threads) = text.trim().parse::<u32>() else {
         return REFUSED;
     };
-    let Some((taken, claimed)) = claims::timed(&rt, rt.alloc(), threads) else {
+    let Some((taken, claimed)) = claims::timed(rt, alloc, threads) else {
         return FAILED;
     };
-    match format!(in rt.alloc(); "{} {claimed}\n", taken.as_nanos()) {
-        Ok(line) => written(rt, line.as_str()),
+    match println!(rt; "{} {claimed}", taken.as_nanos()) {
+        Ok(()) => 0,
         Err(_) => FAILED,
     }
 }
