@@ -2,8 +2,8 @@
 use Rattle.std.specs.Prelude.{◌≡◌, ℕ, List, [], ◌∷◌, ◌++◌}
 use Rattle.atomic_table.specs.Seated.{TableId}
 use Rattle.claim_table.specs.Counts.{without}
-use Rattle.claim_table.specs.declared.claimed.Claimed.{Claimed}
-use Rattle.claim_table.specs.declared.claimed.Claimed.TheVariants as claimed
+use Rattle.claim_table.specs.declared.table.Claimed.{Claimed}
+use Rattle.claim_table.specs.declared.table.Claimed.TheVariants as claimed
 
 -- The table; the items that the seat claimed and did not finish; those that it finished; each item that it tried to claim, with the word that this step found
 pub record Seated : Type 0 where

@@ -3,7 +3,6 @@ ghost use Rattle.std.specs.Prelude.{◌≡◌, ◌<◌, max, IfOk};
 ghost use Rattle.claim_table.specs.Counts.{times, EachOnce};
 ghost use Rattle.claim_table.specs.Seats.{empty_seat, finished, joined, Tries};
 
-use crate::claimed::Claimed;
 use crate::rule::{ClaimRule, ClaimStep, FinishStep, JoinStep, LoadStep, SeatLists, SplitStep};
 use crate::seat::ClaimSeat;
 use atomic_table::Table;
@@ -16,6 +15,14 @@ const FREE: u64 = 0;
 const CLAIMED: u64 = 1;
 
 const FINISHED: u64 = 2;
+
+/// Whether the item was free, and so belongs to the seat now, or was claimed or finished before.
+#[derive(Clone, Copy, Debug, PartialEq, Eq)]
+pub enum Claimed {
+    Mine,
+    Taken,
+    Finished,
+}
 
 /// Which items are claimed and which are finished: one word for each item, and at least one.
 #[derive(Drop)]

@@ -1,6 +1,6 @@
 use Rattle.std.proofs.Common.{◌≡◌, All}
 use Rattle.claim_table.specs.Seats.{empty_seat}
-use Rattle.claim_table.proofs.tests.seats.Given as goal
+use Rattle.claim_table.proofs.thread_tests.seats.Given as goal
 
 abbrev pub invariant-loop : goal.invariant-loop
 invariant-loop l = record {

@@ -1,5 +1,5 @@
 use Rattle.std.proofs.Common.{◌≡◌}
-use Rattle.claim_table.proofs.tests.work.Given as goal
+use Rattle.claim_table.proofs.thread_tests.work.Given as goal
 
 abbrev pub invariant-loop-item : goal.invariant-loop-item
 invariant-loop-item l = record {

@@ -1,6 +1,6 @@
 use Rattle.std.proofs.Common.{◌≡◌, All, IfSome, length}
 use Rattle.claim_table.specs.Counts.{EachOnce}
-use Rattle.claim_table.proofs.tests.gathered.Given as goal
+use Rattle.claim_table.proofs.thread_tests.gathered.Given as goal
 
 abbrev pub invariant-loop-part : goal.invariant-loop-part
 invariant-loop-part l = record {
