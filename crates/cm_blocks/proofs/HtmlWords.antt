@@ -1,5 +1,5 @@
 -- Words in lines of HTML.
-use Rattle.std.proofs.Common.{Bool, List, None, Option, Some, [], ap, arith, cond, drop, false, get_or, length, nat_lt, refl, replicate, suc, sym, true, zero, ℕ, ◌++◌, ◌+◌, ◌<◌, ◌==◌, ◌||◌, ◌∙◌, ◌∷◌, ◌≡◌, ◌≤◌, codes}
+use Rattle.std.proofs.Common.{Bool, List, None, Option, Some, [], ap, arith, drop, false, get_or, length, nat_lt, refl, replicate, suc, sym, true, zero, ℕ, ◌++◌, ◌+◌, ◌<◌, ◌||◌, ◌∙◌, ◌∷◌, ◌≡◌, ◌≤◌, codes}
 use Rattle.std.proofs.lemmas.List.{drop_more}
 use Rattle.site_text.specs.Bytes.{lowered}
 use Rattle.site_text.specs.Fronts.{begins_with}

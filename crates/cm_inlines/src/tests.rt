@@ -232,7 +232,10 @@ const MANY_BRACKETS: &[(&str, &str, &str, usize)] = &[
 #[test]
 fn many_brackets(rt: HostRuntime) {
     for (first, middle, second, count) in MANY_BRACKETS {
-        assert!(rt; opens_so_often(rt.alloc(), first, middle, second, *count), "{first}");
+        assert!(rt;
+            opens_so_often(rt.alloc(), first, middle, second, *count),
+            "{first}"
+        );
     }
 }
 
@@ -249,7 +252,10 @@ const MANY_MARKS: &[(&str, &str, &str, usize)] = &[
 #[test]
 fn many_marks(rt: HostRuntime) {
     for (first, middle, second, count) in MANY_MARKS {
-        assert!(rt; opens_so_often(rt.alloc(), first, middle, second, *count), "{first}");
+        assert!(rt;
+            opens_so_often(rt.alloc(), first, middle, second, *count),
+            "{first}"
+        );
     }
 }
 
@@ -262,6 +268,9 @@ const MANY_OF_BOTH: &[(&str, &str, &str, usize)] = &[
 #[test]
 fn many_of_both(rt: HostRuntime) {
     for (first, middle, second, count) in MANY_OF_BOTH {
-        assert!(rt; opens_so_often(rt.alloc(), first, middle, second, *count), "{first}");
+        assert!(rt;
+            opens_so_often(rt.alloc(), first, middle, second, *count),
+            "{first}"
+        );
     }
 }

@@ -11,7 +11,8 @@ use Rattle.markdown_grammar.specs.Readers.{plus}
 use Rattle.cm_links.specs.Cuts.{Encloses, HasByte}
 use Rattle.cm_spans.specs.Code.{is_blank, is_padded}
 use Rattle.cm_spans.specs.Cuts.{Ends}
-use Rattle.cm_spans.proofs.Runs.{ends_ascii, run_ends, run_within}
+use Rattle.site_text.proofs.Runs.{run_within}
+use Rattle.cm_spans.proofs.Runs.{ends_ascii, run_ends}
 
 -- ---- the run that ends a code span
 

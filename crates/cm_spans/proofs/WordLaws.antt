@@ -7,7 +7,8 @@ use Rattle.site_text.specs.Bytes.{is_special}
 use Rattle.site_text.specs.Fronts.{first_byte, run_len}
 use Rattle.cm_starts.proofs.Words.{first_at}
 use Rattle.cm_spans.specs.Words.{is_line_end, is_plain, is_word_at, words_len}
-use Rattle.cm_spans.proofs.Runs.{among_ascii, byte_within, run_byte, run_stop, run_within, same_is}
+use Rattle.site_text.proofs.Runs.{run_byte, run_stop, run_within}
+use Rattle.cm_spans.proofs.Runs.{among_ascii, byte_within, same_is}
 
 -- ---- where they end
 

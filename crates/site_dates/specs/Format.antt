@@ -6,6 +6,7 @@ use Rattle.std.specs.Fmt.{signed_decimal}
 use Rattle.std.specs.Str.{IsUtf8, IsCharBoundary}
 use Rattle.site_dates.specs.declared.directive.Directive.{Directive}
 use Rattle.site_dates.specs.declared.directive.Directive.TheVariants.{Year, ShortYear, Month, BareMonth, Day, BareDay, SpacedDay, Hour, BareHour, HalfHour, BareHalfHour, Minute, Second, Half, MonthName, ShortMonthName, WeekdayName, ShortWeekdayName, DayOfYear, Offset, ColonOffset, Moment, FullDate, FullTime}
+use Rattle.site_dates.specs.declared.directive.Found.{Found}
 use Rattle.site_dates.specs.declared.format.FormatError.{FormatError}
 use Rattle.site_dates.specs.declared.format.FormatError.TheVariants.{BadFormat, Memory}
 use Rattle.site_dates.specs.Days.{CivilDay}
@@ -118,11 +119,14 @@ bare_directive b =
 abbrev pub colon_directive : ℕ → Option Directive
 colon_directive b = if b == 122 then Some ColonOffset else None
 
-abbrev pub sized : ℕ → Option Directive → Option (Directive × ℕ)
-sized len directive = option_map (λ found. (found, len)) directive
+abbrev pub found : ℕ → Directive → Found
+found len directive = record { directive = directive; len = len }
 
--- the directive at the front of what stands behind a `%`, and its length
-abbrev pub directive_at : List ℕ → Option (Directive × ℕ)
+abbrev pub sized : ℕ → Option Directive → Option Found
+sized len directive = option_map (found len) directive
+
+-- the directive at the front of what stands behind a `%`
+abbrev pub directive_at : List ℕ → Option Found
 directive_at [] = None
 directive_at (b ∷ []) = sized 1 (letter_directive b)
 directive_at (b ∷ c ∷ rest) =
@@ -136,7 +140,7 @@ IsCut text at = (at ≤ length text) × (IsUtf8 text → IsCharBoundary text at)
 
 -- a part of a pattern, with the directive at its front written
 abbrev pub part_text : Shown → List ℕ → Option (List ℕ)
-part_text t part = option_map (λ found. directive_text found.0 t ++ drop found.1 part) (directive_at part)
+part_text t part = option_map (λ at. directive_text at.directive t ++ drop at.len part) (directive_at part)
 
 -- one text behind another, where both are there
 abbrev pub both : Option (List ℕ) → Option (List ℕ) → Option (List ℕ)

@@ -1,5 +1,6 @@
 -- Moments, in seconds from the beginning of 1970 in UTC, and the texts that name them, dates and clocks as in ISO 8601.
 use Rattle.std.specs.Prelude.{◌≤ℤ◌, ℕ, ◌+◌, ◌*◌, ◌==◌, nat_lt, nat_le, Bool, ◌&&◌, ◌||◌, List, [], ◌∷◌, drop, codes, ℤ, pos, negsuc, neg_ℤ, ◌+ℤ◌, ◌-ℤ◌, ◌*ℤ◌, unsigned_abs, Option, Some, None, option_and_then, if◌then◌else◌}
+use Rattle.site_base.specs.Limits.{last_moment}
 use Rattle.site_dates.specs.declared.moment.Clock.{Clock}
 use Rattle.site_dates.specs.Days.{CivilDay, ymd, if_day}
 use Rattle.site_dates.specs.Shape.{begins, two_digits_at}
@@ -9,16 +10,12 @@ use Rattle.site_dates.specs.Offset.{clock_time, read_offset}
 abbrev pub first_moment : ℤ
 first_moment = neg_ℤ (pos 62_135_510_400)
 
--- the last
-abbrev pub last_moment : ℤ
-last_moment = pos 253_402_214_399
-
 abbrev pub IsMoment : ℤ → Type 0
-IsMoment z = (first_moment ≤ℤ z) × (z ≤ℤ last_moment)
+IsMoment z = (first_moment ≤ℤ z) × (z ≤ℤ pos last_moment)
 
 -- the same as a test
 abbrev pub is_moment : ℤ → Bool
-is_moment (pos n) = nat_le n (unsigned_abs last_moment)
+is_moment (pos n) = nat_le n last_moment
 is_moment (negsuc n) = nat_lt n (unsigned_abs first_moment)
 
 -- the day that `YYYY-MM-DD` writes

@@ -41,10 +41,18 @@ pub(crate) enum Directive {
     FullTime,
 }
 
-/// The directive at the front of what stands behind a `%`, and its length.
-pub(crate) fn directive_at(part: &[u8]) -> Option<(Directive, usize)>
+/// A directive that stands at the front of a text.
+#[derive(Clone, Copy)]
+pub(crate) struct Found {
+    pub directive: Directive,
+    /// How many bytes write it.
+    pub len: usize,
+}
+
+/// The directive at the front of what stands behind a `%`.
+pub(crate) fn directive_at(part: &[u8]) -> Option<Found>
     ensures is { result ≡ directive_at part.now }
-    ensures cut { IfSome result (λ found. IsCut part.now found.1) }
+    ensures cut { IfSome result (λ found. IsCut part.now found.len) }
 {
     match part {
         [b'-', letter, ..] => sized(bare_directive(*letter), 2),
@@ -54,10 +62,10 @@ pub(crate) fn directive_at(part: &[u8]) -> Option<(Directive, usize)>
     }
 }
 
-fn sized(directive: Option<Directive>, len: usize) -> Option<(Directive, usize)>
+fn sized(directive: Option<Directive>, len: usize) -> Option<Found>
     ensures { result ≡ sized len directive }
 {
-    directive.map(|directive| (directive, len))
+    directive.map(|directive| Found { directive, len })
 }
 
 fn letter_directive(letter: u8) -> Option<Directive>

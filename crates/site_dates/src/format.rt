@@ -128,9 +128,9 @@ fn push_directive(text: &mut String, part: &str, time: &LocalTime) -> Result<(),
         (IsRefusal (part_text time.now part.now)) }
 {
     match directive_at(part.as_bytes()) {
-        Some((directive, len)) => {
-            directive.push(text, time)?;
-            text.push_str(&part[len..])?;
+        Some(found) => {
+            found.directive.push(text, time)?;
+            text.push_str(&part[found.len..])?;
             Ok(())
         }
         None => Err(FormatError::BadFormat),

@@ -7,12 +7,10 @@ ghost use Rattle.site_dates.specs.Moment.{IsMoment, time_of_day, with_seconds, w
 use crate::day::written_number;
 use crate::offset::{clock_time, offset_of};
 use crate::shape::{begins, two_digits_at};
+use site_base::LAST_MOMENT;
 
 /// The first moment that has a date in the years 1 to 9999 at every offset, in seconds from 1970 in UTC.
 pub const FIRST_MOMENT: i64 = -62_135_510_400;
-
-/// The last one.
-pub const LAST_MOMENT: i64 = 253_402_214_399;
 
 /// The time of day that a text begins with.
 #[derive(Clone, Copy)]

@@ -1,5 +1,5 @@
-use crate::{FIRST_MOMENT, FormatError, LAST_MOMENT, format_moment, read_moment, read_offset};
-use site_base::Text;
+use crate::{FIRST_MOMENT, FormatError, format_moment, read_moment, read_offset};
+use site_base::{LAST_MOMENT, Text};
 
 const OFFSETS: &[(&str, Option<i32>)] = &[
     ("UTC", Some(0)),

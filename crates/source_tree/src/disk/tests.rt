@@ -47,12 +47,16 @@ fn holds(alloc: Global, held: &Held, paths: &[&str]) -> bool {
     true
 }
 
-fn scans(alloc: Global, held: &mut Held, source: &mut DiskSource) -> bool {
+fn scans(alloc: Global, held: &mut Held, source: &mut DiskSource<HostRuntime>) -> bool {
     matches!(held.scan(alloc, source), Ok(3)) && holds(alloc, held, SCANNED)
 }
 
 // A name that is no path of a site.
-fn fails_at_a_bad_name(rt: &HostRuntime, held: &mut Held, source: &mut DiskSource) -> bool {
+fn fails_at_a_bad_name(
+    rt: &HostRuntime,
+    held: &mut Held,
+    source: &mut DiskSource<HostRuntime>,
+) -> bool {
     fs::write(rt, "bad/\u{1}", "").is_ok()
         && matches!(held.scan(rt.alloc(), source), Err(ScanError::Failed))
         && held.len() == 3
