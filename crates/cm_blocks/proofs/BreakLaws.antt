@@ -2,7 +2,8 @@
 use Rattle.std.proofs.Common.{Bool, List, [], ap, arith, cond, drop, false, get_or, length, nat_lt, not, refl, subst, suc, sym, true, zero, ℕ, ◌&&◌, ◌+◌, ◌-◌, ◌<◌, ◌==◌, ◌||◌, ◌∙◌, ◌∷◌, ◌≡◌}
 use Rattle.markdown_grammar.specs.Breaks.{break_at, count_of}
 use Rattle.markdown_grammar.specs.Columns.{indent}
-use Rattle.markdown_grammar.specs.Fronts.{first_byte, has_one, is_empty}
+use Rattle.markdown_grammar.specs.Fronts.{is_empty}
+use Rattle.site_text.specs.Fronts.{first_byte, has_one}
 use Rattle.markdown_grammar.specs.Lines.{trim_front}
 use Rattle.markdown_grammar.specs.LineStarts.{mark_at, start_of}
 use Rattle.markdown_grammar.specs.ListMarks.{item_at}

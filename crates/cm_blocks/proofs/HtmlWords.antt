@@ -1,9 +1,10 @@
 -- Words in lines of HTML.
-use Rattle.std.proofs.Common.{Bool, List, None, Option, Some, [], ap, arith, cond, drop, false, get_or, length, nat_lt, refl, replicate, suc, sym, true, zero, ℕ, ◌++◌, ◌+◌, ◌<◌, ◌==◌, ◌||◌, ◌∙◌, ◌∷◌, ◌≡◌, ◌≤◌, codes}
+use Rattle.std.proofs.Common.{Bool, List, None, Option, Some, [], ap, arith, drop, false, get_or, length, nat_lt, refl, replicate, suc, sym, true, zero, ℕ, ◌++◌, ◌+◌, ◌<◌, ◌||◌, ◌∙◌, ◌∷◌, ◌≡◌, ◌≤◌, codes}
 use Rattle.std.proofs.lemmas.List.{drop_more}
-use Rattle.markdown_grammar.specs.Bytes.{lowered}
+use Rattle.site_text.specs.Bytes.{lowered}
+use Rattle.site_text.specs.Fronts.{begins_with}
 use Rattle.markdown_grammar.specs.Columns.{tab_width}
-use Rattle.markdown_grammar.specs.Fronts.{begins_with, has}
+use Rattle.markdown_grammar.specs.Fronts.{has}
 use Rattle.markdown_grammar.specs.HtmlStarts.{ends_html}
 use Rattle.markdown_grammar.specs.declared.html_kind.HtmlKind.{HtmlKind}
 use Rattle.markdown_grammar.specs.declared.html_kind.HtmlKind.TheVariants.{Cdata, Comment, Declaration, Instruction, Listed, Lone, Verbatim}
@@ -20,35 +21,6 @@ seen-cons false c cs = refl
 seen-nil : (f : Bool) → seen f [] ≡ []
 seen-nil true = refl
 seen-nil false = refl
-
-abbrev front_cases : List ℕ → List ℕ → Bool → Bool
-front_cases ws t b = elim b as (λ x. Bool) [ true ↦ begins_with ws t | false ↦ false ]
-
-front : (f : Bool) (word text : List ℕ) (i : ℕ) → i < length word → i < length text
-    → begins_with (drop i word) (seen f (drop i text)) ≡ front_cases (drop (i + 1) word) (seen f (drop (i + 1) text)) (get_or word i 0 == seen_byte f (get_or text i 0))
-front f word text i a b =
-    ap (λ (w : List ℕ). begins_with w (seen f (drop i text))) (drop_more word i 0 a)
-    ∙ ap (λ (t : List ℕ). begins_with (get_or word i 0 ∷ drop (i + 1) word) t) (ap (λ (t : List ℕ). seen f t) (drop_more text i 0 b) ∙ seen-cons f (get_or text i 0) (drop (i + 1) text))
-
-pub same_front : (f : Bool) (word text : List ℕ) (i : ℕ) (whole : Bool) → i < length word → i < length text → get_or word i 0 ≡ seen_byte f (get_or text i 0)
-    → begins_with (drop i word) (seen f (drop i text)) ≡ whole → begins_with (drop (i + 1) word) (seen f (drop (i + 1) text)) ≡ whole
-same_front f word text i whole a b e w =
-    let test : (get_or word i 0 == seen_byte f (get_or text i 0)) ≡ true = grind (arith, e) in
-    sym (front f word text i a b ∙ ap (front_cases (drop (i + 1) word) (seen f (drop (i + 1) text))) test) ∙ w
-
-pub other_front : (f : Bool) (word text : List ℕ) (i : ℕ) (whole : Bool) → i < length word → i < length text → (get_or word i 0 ≡ seen_byte f (get_or text i 0) → ⊥)
-    → begins_with (drop i word) (seen f (drop i text)) ≡ whole → false ≡ whole
-other_front f word text i whole a b e w =
-    let test : (get_or word i 0 == seen_byte f (get_or text i 0)) ≡ false = grind (arith, e) in
-    sym (front f word text i a b ∙ ap (front_cases (drop (i + 1) word) (seen f (drop (i + 1) text))) test) ∙ w
-
-pub too_short : (f : Bool) (word text : List ℕ) → length text < length word → false ≡ begins_with word (seen f text)
-too_short f [] text h = absurd (omega (arith, h))
-too_short f (w ∷ ws) [] h = sym (ap (λ (t : List ℕ). begins_with (w ∷ ws) t) (seen-nil f))
-too_short f (w ∷ ws) (c ∷ cs) h = go (w == seen_byte f c) (too_short f ws cs (omega (arith, h))) ∙ sym (ap (λ (t : List ℕ). begins_with (w ∷ ws) t) (seen-cons f c cs)) where
-  go : (b : Bool) → false ≡ begins_with ws (seen f cs) → false ≡ front_cases ws (seen f cs) b
-  go true h = h
-  go false h = refl
 
 has_plus : (o : Option ℕ) → has (plus 1 o) ≡ has o
 has_plus (Some n) = refl

@@ -5,7 +5,7 @@ use Rattle.std.specs.Str.{IsCharBoundary}
 use Rattle.std.proofs.lemmas.Str.{IsCharBoundary-after_ascii}
 use Rattle.site_base.specs.Lines.{begins_lf, ends_line, lines}
 use Rattle.markdown_grammar.specs.Columns.{own_line, whole_lines}
-use Rattle.markdown_grammar.specs.Fronts.{has_one, run_len}
+use Rattle.site_text.specs.Fronts.{has_one, run_len}
 use Rattle.markdown_grammar.specs.Lines.{is_line_end, nul_replaced, text_lines, without_end}
 use Rattle.cm_blocks.specs.LineCuts.{IsCut, Replaces, end_size, is_inside, is_nul, is_plain}
 use Rattle.cm_blocks.specs.declared.lines.Cut.{Cut}

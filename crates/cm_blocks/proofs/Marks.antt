@@ -1,10 +1,11 @@
 -- The marks of quotes and items take one column a byte.
 use Rattle.std.proofs.Common.{Bool, List, [], ap, arith, cond, drop, false, get_or, nat_lt, refl, subst, suc, sym, take, true, ℕ, ◌&&◌, ◌+◌, ◌-◌, ◌<◌, ◌==◌, ◌||◌, ◌∙◌, ◌∷◌, ◌≡◌}
 use Rattle.markdown_grammar.specs.Breaks.{break_at}
-use Rattle.markdown_grammar.specs.Bytes.{is_digit, is_space}
+use Rattle.site_text.specs.Bytes.{is_digit, is_space}
+use Rattle.site_text.specs.Fronts.{first_byte, run_len}
 use Rattle.markdown_grammar.specs.Columns.{indent, tab_width}
 use Rattle.markdown_grammar.specs.Fences.{fence_at}
-use Rattle.markdown_grammar.specs.Fronts.{first_byte, is_empty, run_len}
+use Rattle.markdown_grammar.specs.Fronts.{is_empty}
 use Rattle.markdown_grammar.specs.Headings.{atx_at}
 use Rattle.markdown_grammar.specs.declared.html_kind.HtmlKind.TheVariants.{Cdata, Comment, Declaration, Instruction, Listed, Lone, Verbatim}
 use Rattle.markdown_grammar.specs.HtmlStarts.{html_at}

@@ -3,9 +3,9 @@ use Rattle.std.proofs.Common.{IsUtf8, List, [], ap, arith, drop, length, refl, r
 use Rattle.std.specs.Str.{IsCharBoundary}
 use Rattle.std.proofs.lemmas.List.{append-nil, reverse-append}
 use Rattle.std.proofs.lemmas.Str.{IsCharBoundary-from_take}
-use Rattle.markdown_grammar.specs.Bytes.{is_space}
+use Rattle.site_text.specs.Bytes.{is_space}
+use Rattle.site_text.specs.Fronts.{run_len}
 use Rattle.markdown_grammar.specs.Definitions.{after_definitions, definitions, total_size}
-use Rattle.markdown_grammar.specs.Fronts.{run_len}
 use Rattle.markdown_grammar.specs.Lines.{trim, trim_front}
 use Rattle.cm_blocks.specs.LineTexts.{unended}
 use Rattle.cm_blocks.specs.Making.{prose_of}

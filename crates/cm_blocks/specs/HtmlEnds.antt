@@ -1,6 +1,6 @@
 -- Where a word stands in a line, in any case or as it is written.
 use Rattle.std.specs.Prelude.{Bool, List, if◌then◌else◌, ℕ}
-use Rattle.markdown_grammar.specs.Bytes.{lower, lowered}
+use Rattle.site_text.specs.Bytes.{lower, lowered}
 
 -- a line, in lower case where case does not count
 abbrev pub seen : Bool → List ℕ → List ℕ

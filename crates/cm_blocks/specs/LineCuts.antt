@@ -2,7 +2,7 @@
 use Rattle.std.specs.Prelude.{Bool, List, [], drop, if◌then◌else◌, not, ℕ, ◌&&◌, ◌+◌, ◌++◌, ◌<◌, ◌==◌, ◌∷◌, ◌≡◌}
 use Rattle.std.specs.Str.{IsCharBoundary}
 use Rattle.site_base.specs.Lines.{begins_lf}
-use Rattle.markdown_grammar.specs.Fronts.{run_len}
+use Rattle.site_text.specs.Fronts.{run_len}
 use Rattle.markdown_grammar.specs.Lines.{is_line_end, nul_replaced}
 use Rattle.cm_blocks.specs.declared.lines.Cut.{Cut}
 

@@ -1,6 +1,6 @@
 -- Lines as one text, with a line end behind each: CommonMark 0.31.2, section 2.1.
 use Rattle.std.specs.Prelude.{List, [], length, slice_index, take, ℕ, ◌++◌, ◌-◌, ◌<◌, ◌∷◌, ◌≡◌}
-use Rattle.markdown_grammar.specs.Bytes.{line_feed}
+use Rattle.site_text.specs.Bytes.{line_feed}
 
 -- a line with its end
 abbrev pub ended : List ℕ → List ℕ

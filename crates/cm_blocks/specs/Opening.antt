@@ -2,13 +2,13 @@
 use Rattle.std.specs.Prelude.{Bool, List, None, Option, Some, drop, length, not, slice_index, take, true, ℕ, ◌+◌, ◌-◌, ◌<◌, ◌==◌, ◌||◌, ◌≡◌, ◌≤◌}
 use Rattle.markdown_grammar.specs.Blocks.{opening}
 use Rattle.markdown_grammar.specs.Breaks.{break_at}
-use Rattle.markdown_grammar.specs.Bytes.{is_space}
+use Rattle.site_text.specs.Bytes.{is_space}
+use Rattle.site_text.specs.Fronts.{first_byte}
 use Rattle.markdown_grammar.specs.Columns.{Line}
 use Rattle.markdown_grammar.specs.Containers as grammar
 use Rattle.markdown_grammar.specs.Extents.{Opening, opens_container, opens_leaf, opens_nothing}
 use Rattle.markdown_grammar.specs.Leaves as leaves
 use Rattle.markdown_grammar.specs.LineStarts.{start_of}
-use Rattle.markdown_grammar.specs.Fronts.{first_byte}
 use Rattle.markdown_grammar.specs.Places.{not_in_paragraph}
 use Rattle.markdown_grammar.specs.Starts.{text_start}
 use Rattle.cm_containers.specs.Rests.{column_behind}

@@ -1,13 +1,15 @@
 // The lines that end blocks of HTML.
 ghost use Rattle.std.specs.Prelude.{◌≡◌, ◌<◌, drop, length};
-ghost use Rattle.markdown_grammar.specs.Bytes as bytes;
-ghost use Rattle.markdown_grammar.specs.Fronts.{begins_with, has};
+ghost use Rattle.site_text.specs.Bytes as bytes;
+ghost use Rattle.markdown_grammar.specs.Fronts.{has};
+ghost use Rattle.site_text.specs.Fronts.{begins_with};
 ghost use Rattle.markdown_grammar.specs.HtmlStarts as grammar;
 ghost use Rattle.markdown_grammar.specs.declared.html_kind.HtmlKind.TheVariants as kind;
 ghost use Rattle.markdown_grammar.specs.Readers.{to};
-ghost use Rattle.cm_blocks.specs.HtmlEnds.{seen, seen_byte};
+ghost use Rattle.cm_blocks.specs.HtmlEnds.{seen};
 
 use markdown_grammar::HtmlKind;
+use site_text::{begins, begins_in_lower_case};
 
 /// Whether a line ends a block of HTML, of a kind that a line ends. CommonMark 0.31.2, section 4.6.
 pub(crate) fn ends_html(kind: HtmlKind, text: &str) -> bool
@@ -41,7 +43,7 @@ fn has_word(text: &[u8], word: &[u8], folds: bool) -> bool
 {
     let mut at = 0;
     while at < text.len() {
-        if begins(&text[at..], word, folds) {
+        if is_here(&text[at..], word, folds) {
             return true;
         }
         at += 1;
@@ -49,28 +51,12 @@ fn has_word(text: &[u8], word: &[u8], folds: bool) -> bool
     false
 }
 
-fn begins(text: &[u8], word: &[u8], folds: bool) -> bool
+fn is_here(text: &[u8], word: &[u8], folds: bool) -> bool
     ensures { result ≡ begins_with word.now (seen folds text.now) }
 {
-    if text.len() < word.len() {
-        return false;
-    }
-    let mut i = 0;
-    while i < word.len() {
-        if word[i] != byte(text[i], folds) {
-            return false;
-        }
-        i += 1;
-    }
-    true
-}
-
-fn byte(c: u8, folds: bool) -> u8
-    ensures { result ≡ seen_byte folds c }
-{
-    if folds && b'A' <= c && c <= b'Z' {
-        c + 32
+    if folds {
+        begins_in_lower_case(text, word)
     } else {
-        c
+        begins(text, word)
     }
 }

@@ -10,9 +10,10 @@ use crate::kinds::{Leaf, Token};
 use crate::leaf_lines::LeafLines;
 use crate::leaf_more::behind_definitions;
 use crate::node::Node;
-use cm_links::{Links, definition, spaces};
+use cm_links::{Links, definition};
 use cm_starts::{HeadingLevel, trim};
 use site_base::{Memory, Text};
+use site_text::{Class, class_len};
 use std::alloc::Global;
 
 /// The node of a leaf; none of a paragraph that is definitions alone.
@@ -69,7 +70,7 @@ fn prose(alloc: Global, lines: LeafLines) -> Result<Text, Memory>
     let all = lines.as_str();
     let rest = behind_definitions(alloc, lines.inside())?;
     let text = trim(rest);
-    if rest.len() + 1 == all.len() && spaces(rest) == 0 {
+    if rest.len() + 1 == all.len() && class_len(Class::Space, rest) == 0 {
         let count = text.len();
         return lines.into_front(count);
     }

@@ -1,8 +1,8 @@
 // The lines of a text.
 ghost use Rattle.std.specs.Prelude.{◌≡◌, ◌<◌, ◌∷◌, IfOk, drop, length, take};
 ghost use Rattle.std.specs.Str.{IsCharBoundary};
-ghost use Rattle.markdown_grammar.specs.Bytes as bytes;
-ghost use Rattle.markdown_grammar.specs.Fronts.{has_one, run_len};
+ghost use Rattle.site_text.specs.Bytes as bytes;
+ghost use Rattle.site_text.specs.Fronts.{has_one, run_len};
 ghost use Rattle.markdown_grammar.specs.Lines as lines;
 ghost use Rattle.cm_blocks.specs.LineCuts.{IsCut, Replaces, end_size, is_inside, is_nul, is_plain};
 

@@ -1,8 +1,8 @@
 -- How far white space is taken, and what is left.
 use Rattle.std.proofs.Common.{◌≡◌, ◌∙◌, Bool, List, [], ap, arith, drop, false, min, refl, replicate, suc, true, zero, ℕ, ◌++◌, ◌+◌, ◌-◌, ◌<◌, ◌==◌, ◌∷◌, ◌||◌}
 use Rattle.markdown_grammar.specs.Columns.{Line, indent, lazy_line, line_text, own_line, shifted, tab_width}
-use Rattle.markdown_grammar.specs.Bytes.{is_space}
-use Rattle.markdown_grammar.specs.Fronts.{run_len}
+use Rattle.site_text.specs.Bytes.{is_space}
+use Rattle.site_text.specs.Fronts.{run_len}
 use Rattle.markdown_grammar.specs.Lines.{trim_front}
 
 abbrev pub line_column : Line → ℕ

@@ -1,8 +1,8 @@
 -- Behind all white space.
 use Rattle.std.proofs.Common.{◌≡◌, ◌∙◌, Bool, List, [], ap, arith, drop, false, length, nat_lt, refl, replicate, suc, sym, true, ℕ, ◌++◌, ◌+◌, ◌-◌, ◌<◌, ◌==◌, ◌∷◌, ◌≤◌, ◌*◌, ◌||◌}
 use Rattle.markdown_grammar.specs.Columns.{indent, shifted, tab_width}
-use Rattle.markdown_grammar.specs.Bytes.{is_space}
-use Rattle.markdown_grammar.specs.Fronts.{run_len}
+use Rattle.site_text.specs.Bytes.{is_space}
+use Rattle.site_text.specs.Fronts.{run_len}
 use Rattle.markdown_grammar.specs.Lines.{trim_front}
 use Rattle.cm_containers.specs.Spots.{BehindWhite, IsSpot, rest_at, text_at}
 use Rattle.cm_containers.specs.declared.spots.Spot.{Spot}

@@ -1,6 +1,6 @@
 -- The rest of a line by the place where it begins: CommonMark 0.31.2, section 2.2.
 use Rattle.std.specs.Prelude.{List, [], drop, false, if◌then◌else◌, nat_lt, replicate, suc, take, true, ℕ, ◌++◌, ◌+◌, ◌==◌, ◌∷◌}
-use Rattle.markdown_grammar.specs.Bytes.{space, tab}
+use Rattle.site_text.specs.Bytes.{space, tab}
 use Rattle.markdown_grammar.specs.Columns.{tab_width}
 
 -- the column behind a byte

@@ -6,7 +6,7 @@ use Rattle.std.proofs.lemmas.List.Elements.{All-append, All-cons, All-head, All-
 use Rattle.markdown_grammar.specs.Emphasis.{lengths_fit, strength}
 use Rattle.cm_inlines.specs.Machine.{change_between, changed, close_node, close_nodes, is_sought, last_place, open_node, open_nodes, opens_for, pair_at, pair_closer, pair_found, pair_from, pair_last, pair_nodes, pair_run, run_at, shorter}
 use Rattle.cm_inlines.specs.Machine as sought
-use Rattle.cm_inlines.specs.Pairing.{IsLike, Nearest, NoneFrom, OpensNot, Paired, PairsAll, PairsWith, Raised, Starts, closer_of, coming_by, floor_for, floor_of, kept_by, left_at, opens_at, outcome_of}
+use Rattle.cm_inlines.specs.Pairing.{IsLike, Nearest, NoneFrom, OpensNot, Paired, PairsAll, PairsWith, Raised, Starts, closer_of, coming_by, floor_for, floor_of, kept_by, left_at, opens_at, leftover_of}
 use Rattle.cm_inlines.specs.Places.{change_each, is_live, listed, places}
 use Rattle.cm_inlines.specs.States.{waiting}
 use Rattle.cm_inlines.specs.declared.changes.Change.TheVariants.{Freeze}
@@ -16,8 +16,8 @@ use Rattle.cm_inlines.specs.declared.node.Node.TheVariants as node
 use Rattle.cm_inlines.specs.declared.openers.Misses.{Misses}
 use Rattle.cm_inlines.specs.declared.openers.Opener.{Opener}
 use Rattle.cm_inlines.specs.declared.openers.Openers.{Openers}
-use Rattle.cm_inlines.specs.declared.pairing.Outcome.{Outcome}
-use Rattle.cm_inlines.specs.declared.pairing.Outcome.TheVariants.{Shorter, UsedUp}
+use Rattle.cm_inlines.specs.declared.pairing.Leftover.{Leftover}
+use Rattle.cm_inlines.specs.declared.pairing.Leftover.TheVariants.{Shorter, UsedUp}
 use Rattle.cm_inlines.proofs.PlaceLaws.{all_front, change_listed, freeze_spares, last_found, last_none, places-append, places_range, places_split}
 use Rattle.cm_inlines.proofs.Slots.{after, change_behind, close_room, closed, get_there, live_close, only, opened, run_start, waiting-append}
 use Rattle.cm_spans.specs.Pieces.{mark_byte}
@@ -266,14 +266,14 @@ openers_left o k ps lt = go (nat_lt k o.run.len) where
   go true = take_more ps o.index 0 lt
   go false = sym (append-nil (take o.index ps))
 
-outcome_kept : (closer : Run) (k place : ℕ) (ps : List ℕ) → kept_by (outcome_of closer k) place ps ≡ ps
-outcome_kept closer k place ps = go (nat_lt k closer.len) where
+leftover_kept : (closer : Run) (k place : ℕ) (ps : List ℕ) → kept_by (leftover_of closer k) place ps ≡ ps
+leftover_kept closer k place ps = go (nat_lt k closer.len) where
   go : (b : Bool) → kept_by (cond b Shorter UsedUp) place ps ≡ ps
   go true = refl
   go false = refl
 
-outcome_coming : (closer : Run) (k place : ℕ) (ahead : List ℕ) → coming_by (outcome_of closer k) place ahead ≡ only (nat_lt k closer.len) (place + 1) ++ ahead
-outcome_coming closer k place ahead = go (nat_lt k closer.len) where
+leftover_coming : (closer : Run) (k place : ℕ) (ahead : List ℕ) → coming_by (leftover_of closer k) place ahead ≡ only (nat_lt k closer.len) (place + 1) ++ ahead
+leftover_coming closer k place ahead = go (nat_lt k closer.len) where
   go : (b : Bool) → coming_by (cond b Shorter UsedUp) place ahead ≡ only b (place + 1) ++ ahead
   go true = refl
   go false = refl
@@ -382,9 +382,9 @@ floors_kept front a inside behind o k rest ns ms m mark first opens ps i e f hd 
           let then_ : slice_get ns at ≡ Some (node.Run o) = ap (λ (zs : List Node). slice_get zs at) e ∙ get_there (front ++ a) (node.Run o) (inside ++ behind) at size in
           All-cons New at [] (λ below. ap (opens_at mark first opens) now ∙ sym (ap (opens_at mark first opens) then_) ∙ here_old below) (All-nil New)
 
-pub pairs : (front : List Node) (x : ℕ) (ahead : List ℕ) (ns ms whole : List Node) (closer : Run) (o : Opener) (outcome : Outcome) (old new : Openers) → Some closer ≡ closer_of (run_at (slice_get ns x)) → Nearest ns old.places.items closer o → PairsWith o x closer outcome old new ns ms
-    → Paired front old.places.items (x ∷ ahead) old.misses ns whole → Paired front (kept_by outcome x new.places.items) (coming_by outcome x ahead) new.misses ms whole
-pairs front x ahead ns ms whole closer o outcome old new is near w p =
+pub pairs : (front : List Node) (x : ℕ) (ahead : List ℕ) (ns ms whole : List Node) (closer : Run) (o : Opener) (leftover : Leftover) (old new : Openers) → Some closer ≡ closer_of (run_at (slice_get ns x)) → Nearest ns old.places.items closer o → PairsWith o x closer leftover old new ns ms
+    → Paired front old.places.items (x ∷ ahead) old.misses ns whole → Paired front (kept_by leftover x new.places.items) (coming_by leftover x ahead) new.misses ms whole
+pairs front x ahead ns ms whole closer o leftover old new is near w p =
     let ps = old.places.items in
     let h = here front x ps ahead old.misses ns whole p in
     let c = closer_is (run_at (slice_get ns x)) closer is in
@@ -416,8 +416,8 @@ pairs front x ahead ns ms whole closer o outcome old new is near w p =
     let done = a ++ (l.nodes ++ close_node k ∷ []) in
     let flat : done ++ l.rest ≡ a ++ (l.nodes ++ close_node k ∷ l.rest) = append_assoc a (l.nodes ++ close_node k ∷ []) l.rest ∙ ap (λ (zs : List Node). a ++ zs) (append_assoc l.nodes (close_node k ∷ []) l.rest) in
     let far : start + length done ≡ x + 1 = omega (arith, l.far, length-append a (l.nodes ++ close_node k ∷ []), length-append l.nodes (close_node k ∷ [])) in
-    let kept : kept_by outcome x new.places.items ≡ take o.index ps ++ only (nat_lt k o.run.len) at =
-    ap (λ (y : Outcome). kept_by y x new.places.items) w.outcome_is ∙ outcome_kept closer k x new.places.items ∙ w.places ∙ openers_left o k ps near.within ∙ ap (λ (q : ℕ). take o.index ps ++ only (nat_lt k o.run.len) q) (sym near.place ∙ place) in
+    let kept : kept_by leftover x new.places.items ≡ take o.index ps ++ only (nat_lt k o.run.len) at =
+    ap (λ (y : Leftover). kept_by y x new.places.items) w.leftover_is ∙ leftover_kept closer k x new.places.items ∙ w.places ∙ openers_left o k ps near.within ∙ ap (λ (q : ℕ). take o.index ps ++ only (nat_lt k o.run.len) q) (sym near.place ∙ place) in
     let before : take o.index ps ≡ places is_live start a = ap (take o.index) h.kept ∙ s.before in
     record {
       done = done;
@@ -427,11 +427,11 @@ pairs front x ahead ns ms whole closer o outcome old new is near w p =
       behind =
           kept ∙ ap (λ (qs : List ℕ). qs ++ only (nat_lt k o.run.len) at) before
           ∙ sym (places-append is_live start a (l.nodes ++ close_node k ∷ []) ∙ ap (λ (qs : List ℕ). places is_live start a ++ qs) (places-append is_live at l.nodes (close_node k ∷ []) ∙ ap (λ (qs : List ℕ). places is_live at l.nodes ++ qs) (live_close k (at + length l.nodes) []) ∙ append-nil (places is_live at l.nodes) ∙ l.listed));
-      coming = ap (λ (y : Outcome). coming_by y x ahead) w.outcome_is ∙ outcome_coming closer k x ahead ∙ l.coming ∙ ap (λ (q : ℕ). places is_live q l.rest) (sym far);
+      coming = ap (λ (y : Leftover). coming_by y x ahead) w.leftover_is ∙ leftover_coming closer k x ahead ∙ l.coming ∙ ap (λ (q : ℕ). places is_live q l.rest) (sym far);
       so_far = ap (λ (q : ℕ). pair_from start q (length l.rest) ms) far ∙ l.so_far;
       within = λ mark first opens. subst (λ (m : Misses). floor_of m mark first opens ≤ start + length done) (sym w.misses) (omega (arith, h.within mark first opens, far, h.place));
       floors = λ mark first opens.
-          subst (λ (m : Misses). All (λ q. q < floor_of m mark first opens → OpensNot ms mark first opens q) (kept_by outcome x new.places.items)) (sym w.misses)
+          subst (λ (m : Misses). All (λ q. q < floor_of m mark first opens → OpensNot ms mark first opens q) (kept_by leftover x new.places.items)) (sym w.misses)
           (subst (All (λ q. q < floor_of old.misses mark first opens → OpensNot ms mark first opens q)) (sym (kept ∙ ap (λ (qs : List ℕ). qs ++ only (nat_lt k o.run.len) at) before))
           (floors_kept front a s.behind (h.node ∷ h.behind) o.run k (l.nodes ++ close_node k ∷ l.rest) ns ms old.misses mark first opens ps o.index (done_is ∙ ap (λ (n : Node). (front ++ a) ++ n ∷ (s.behind ++ h.node ∷ h.behind)) opener) l.split l.head before (sym near.place ∙ place) near.within (h.floors mark first opens)));
     }
@@ -499,8 +499,8 @@ length_open place r k ns = go (nat_lt k r.len) where
   go true = length-set (set ns place (shorter r k)) (place + (r.len - k)) (open_node k) ∙ length-set ns place (shorter r k)
   go false = length-set ns place (open_node k)
 
-pub length_pair : (o : Opener) (place : ℕ) (closer : Run) (outcome : Outcome) (old new : Openers) (ns ms : List Node) → PairsWith o place closer outcome old new ns ms → length ms ≡ length ns
-length_pair o place closer outcome old new ns ms w =
+pub length_pair : (o : Opener) (place : ℕ) (closer : Run) (leftover : Leftover) (old new : Openers) (ns ms : List Node) → PairsWith o place closer leftover old new ns ms → length ms ≡ length ns
+length_pair o place closer leftover old new ns ms w =
     let k = strength o.run.len closer.len in
     let frozen = change_each Freeze (drop (o.index + 1) old.places.items) ns in
     ap (λ (zs : List Node). length zs) w.nodes ∙ length_open o.place o.run k (close_nodes place closer k frozen) ∙ length_close place closer k frozen ∙ length_changes (drop (o.index + 1) old.places.items) ns

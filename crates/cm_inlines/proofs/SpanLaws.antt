@@ -10,8 +10,8 @@ use Rattle.markdown_grammar.specs.CodeSpans as code
 use Rattle.markdown_grammar.specs.CodeSpans.{before_run, code_at}
 use Rattle.markdown_grammar.specs.Definitions.{Definition}
 use Rattle.markdown_grammar.specs.Flanking.{char_after, char_before, is_unicode_punct, left_flanking, right_flanking}
-use Rattle.markdown_grammar.specs.Fronts.{first_byte, run_len}
-use Rattle.markdown_grammar.specs.Bytes.{is_punct}
+use Rattle.site_text.specs.Bytes.{is_punct}
+use Rattle.site_text.specs.Fronts.{first_byte, run_len}
 use Rattle.markdown_grammar.specs.Inlines.{code_span, hard_break, no_inlines, raw_html, soft_break}
 use Rattle.markdown_grammar.specs.Links.{close_bracket}
 use Rattle.markdown_grammar.specs.Pieces.{Piece, delimiter_run, finished, open_bracket, run_at}

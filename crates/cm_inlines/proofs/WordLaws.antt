@@ -6,11 +6,12 @@ use Rattle.std.proofs.lemmas.Str.{IsCharBoundary-from_rest}
 use Rattle.markdown_grammar.specs.CodeSpans.{Taken, as_textual, code_at}
 use Rattle.markdown_grammar.specs.Definitions.{Definition}
 use Rattle.markdown_grammar.specs.Flanking.{char_after, char_before}
-use Rattle.markdown_grammar.specs.Fronts.{first_byte, run_len}
+use Rattle.site_text.specs.Bytes.{is_special}
+use Rattle.site_text.specs.Fronts.{first_byte, run_len}
 use Rattle.markdown_grammar.specs.Inlines.{no_inlines, textual}
 use Rattle.markdown_grammar.specs.Pieces.{Piece, finished, open_bracket, run_at}
 use Rattle.markdown_grammar.specs.Reading.{further, pieces_from}
-use Rattle.markdown_grammar.specs.Spans.{escape_at, is_special, piece_at, pointed_at, reference_at, spaces_at, textual_at}
+use Rattle.markdown_grammar.specs.Spans.{escape_at, piece_at, pointed_at, reference_at, spaces_at, textual_at}
 use Rattle.cm_spans.proofs.Runs.{same_is}
 use Rattle.cm_spans.proofs.WordLaws.{line_space, words_within}
 use Rattle.cm_spans.specs.Words.{is_line_end, is_word_at, words_len}

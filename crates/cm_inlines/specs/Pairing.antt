@@ -11,9 +11,9 @@ use Rattle.cm_inlines.specs.declared.node.Run.{Run}
 use Rattle.cm_inlines.specs.declared.openers.Misses.{Misses}
 use Rattle.cm_inlines.specs.declared.openers.Opener.{Opener}
 use Rattle.cm_inlines.specs.declared.openers.Openers.{Openers}
-use Rattle.cm_inlines.specs.declared.pairing.Outcome.{Outcome}
+use Rattle.cm_inlines.specs.declared.pairing.Leftover.{Leftover}
 use Rattle.cm_spans.specs.Pieces.{mark_byte}
-use Rattle.cm_inlines.specs.declared.pairing.Outcome.TheVariants.{Shorter, Unpaired, UsedUp}
+use Rattle.cm_inlines.specs.declared.pairing.Leftover.TheVariants.{Shorter, Unpaired, UsedUp}
 
 -- ---- where nothing opens
 
@@ -76,15 +76,15 @@ abbrev pub closer_of : Option Run → Option Run
 closer_of (Some r) = if r.closes then Some r else None
 closer_of None = None
 
-abbrev pub outcome_of : Run → ℕ → Outcome
-outcome_of closer taken = if nat_lt taken closer.len then Shorter else UsedUp
+abbrev pub leftover_of : Run → ℕ → Leftover
+leftover_of closer taken = if nat_lt taken closer.len then Shorter else UsedUp
 
 -- an opener and a closer, where the openers behind the first are frozen
-pub record PairsWith (o : Opener) (place : ℕ) (closer : Run) (outcome : Outcome) (old new : Openers) (ns ms : List Node) : Type 0 where
+pub record PairsWith (o : Opener) (place : ℕ) (closer : Run) (leftover : Leftover) (old new : Openers) (ns ms : List Node) : Type 0 where
   pub nodes : ms ≡ open_nodes o.place o.run (strength o.run.len closer.len) (close_nodes place closer (strength o.run.len closer.len) (change_each Freeze (drop (o.index + 1) old.places.items) ns))
   pub places : new.places.items ≡ take (left_at o (strength o.run.len closer.len)) old.places.items
   pub misses : new.misses ≡ old.misses
-  pub outcome_is : outcome ≡ outcome_of closer (strength o.run.len closer.len)
+  pub leftover_is : leftover ≡ leftover_of closer (strength o.run.len closer.len)
 
 -- ---- a pass over the runs
 
@@ -101,16 +101,16 @@ pub record Paired (front : List Node) (ps ahead : List ℕ) (m : Misses) (ns who
   pub floors : (mark first : ℕ) (opens : Bool) → All (λ p. p < floor_of m mark first opens → OpensNot ns mark first opens p) ps
 
 -- what is an opener now, and what is still to come
-abbrev pub kept_by : Outcome → ℕ → List ℕ → List ℕ
+abbrev pub kept_by : Leftover → ℕ → List ℕ → List ℕ
 kept_by Unpaired place ps = ps ++ place ∷ []
 kept_by other place ps = ps
 
-abbrev pub coming_by : Outcome → ℕ → List ℕ → List ℕ
+abbrev pub coming_by : Leftover → ℕ → List ℕ → List ℕ
 coming_by Shorter place ahead = (place + 1) ∷ ahead
 coming_by other place ahead = ahead
 
-abbrev pub PairsOnce : ℕ → Outcome → Openers → Openers → List Node → List Node → Type 0
-PairsOnce place outcome old new ns ms = (front : List Node) (ahead : List ℕ) (whole : List Node) → Paired front old.places.items (place ∷ ahead) old.misses ns whole → Paired front (kept_by outcome place new.places.items) (coming_by outcome place ahead) new.misses ms whole
+abbrev pub PairsOnce : ℕ → Leftover → Openers → Openers → List Node → List Node → Type 0
+PairsOnce place leftover old new ns ms = (front : List Node) (ahead : List ℕ) (whole : List Node) → Paired front old.places.items (place ∷ ahead) old.misses ns whole → Paired front (kept_by leftover place new.places.items) (coming_by leftover place ahead) new.misses ms whole
 
 abbrev pub PairsRun : ℕ → Openers → Openers → List Node → List Node → Type 0
 PairsRun place old new ns ms = (front : List Node) (ahead : List ℕ) (whole : List Node) → Paired front old.places.items (place ∷ ahead) old.misses ns whole → Paired front new.places.items ahead new.misses ms whole

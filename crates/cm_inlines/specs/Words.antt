@@ -1,8 +1,7 @@
 -- Plain text as the pieces of which it is made: words and runs of spaces. CommonMark 0.31.2, sections 6.7 to 6.9.
 use Rattle.std.specs.Prelude.{List, [], drop, if◌then◌else◌, length, map, not, suc, take, zero, ℕ, ◌==◌, ◌∷◌}
-use Rattle.markdown_grammar.specs.Bytes.{space}
-use Rattle.markdown_grammar.specs.Fronts.{first_byte, run_len}
-use Rattle.markdown_grammar.specs.Spans.{is_special}
+use Rattle.site_text.specs.Bytes.{is_special, space}
+use Rattle.site_text.specs.Fronts.{first_byte, run_len}
 use Rattle.cm_inlines.specs.Tokens.{Token, text_token}
 
 -- how many bytes its first piece has

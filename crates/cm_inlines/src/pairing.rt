@@ -1,7 +1,7 @@
 // Runs of marks, paired where they stand.
 ghost use Rattle.std.specs.Prelude.{◌≡◌, ◌+◌, ◌<◌, IfOk, OnOk, Some, length, slice_get, slice_set, ℕ};
 ghost use Rattle.cm_inlines.specs.Machine as machine;
-ghost use Rattle.cm_inlines.specs.Pairing.{PairsAll, PairsOnce, PairsRun, PairsWith, Starts, closer_of, outcome_of};
+ghost use Rattle.cm_inlines.specs.Pairing.{PairsAll, PairsOnce, PairsRun, PairsWith, Starts, closer_of, leftover_of};
 
 use crate::changes::{Change, change_each, put};
 use crate::node::{Node, Run};
@@ -37,9 +37,9 @@ fn pair_run<'a>(
     let mut place = first;
     while place < nodes.len() {
         match pair_once(nodes, openers, place) {
-            Outcome::Unpaired => return openers.push(place),
-            Outcome::Shorter => place += 1,
-            Outcome::UsedUp => return Ok(()),
+            Leftover::Unpaired => return openers.push(place),
+            Leftover::Shorter => place += 1,
+            Leftover::UsedUp => return Ok(()),
         }
     }
     Ok(())
@@ -47,7 +47,7 @@ fn pair_run<'a>(
 
 /// What becomes of a closer.
 #[derive(Clone, Copy)]
-enum Outcome {
+enum Leftover {
     /// There is no opener for it.
     Unpaired,
     /// It has marks left, at the place behind.
@@ -55,13 +55,13 @@ enum Outcome {
     UsedUp,
 }
 
-fn pair_once<'a>(nodes: &mut Vec<Node<'a>>, openers: &mut Openers, place: usize) -> Outcome
+fn pair_once<'a>(nodes: &mut Vec<Node<'a>>, openers: &mut Openers, place: usize) -> Leftover
     ensures value { PairsOnce place result openers.old openers.new nodes.old.items nodes.new.items }
     ensures len { length nodes.new.items ≡ length nodes.old.items }
 {
     match closer_at(nodes, place) {
         Some(closer) => pair_closer(nodes, openers, place, closer),
-        None => Outcome::Unpaired,
+        None => Leftover::Unpaired,
     }
 }
 
@@ -79,7 +79,7 @@ fn pair_closer<'a>(
     openers: &mut Openers,
     place: usize,
     closer: Run,
-) -> Outcome
+) -> Leftover
     requires { Some closer ≡ closer_of (machine.run_at (slice_get nodes.old.items place)) }
     ensures value { PairsOnce place result openers.old openers.new nodes.old.items nodes.new.items }
     ensures len { length nodes.new.items ≡ length nodes.old.items }
@@ -88,7 +88,7 @@ fn pair_closer<'a>(
         Some(opener) => pair_with(nodes, openers, opener, place, closer),
         None => {
             openers.miss(closer, place);
-            Outcome::Unpaired
+            Leftover::Unpaired
         }
     }
 }
@@ -100,7 +100,7 @@ fn pair_with<'a>(
     opener: Opener,
     place: usize,
     closer: Run,
-) -> Outcome
+) -> Leftover
     requires { opener.index < length openers.old.places.items }
     ensures { PairsWith opener place closer result openers.old openers.new nodes.old.items nodes.new.items }
 {
@@ -112,13 +112,13 @@ fn pair_with<'a>(
     left_over(closer, taken)
 }
 
-fn left_over(closer: Run, taken: usize) -> Outcome
-    ensures { result ≡ outcome_of closer taken }
+fn left_over(closer: Run, taken: usize) -> Leftover
+    ensures { result ≡ leftover_of closer taken }
 {
     if taken < closer.len {
-        Outcome::Shorter
+        Leftover::Shorter
     } else {
-        Outcome::UsedUp
+        Leftover::UsedUp
     }
 }
 

@@ -1,7 +1,7 @@
 // Where a link or an image goes whose text has ended.
 ghost use Rattle.std.specs.Prelude.{◌≡◌, ◌+◌, ◌<◌, ◌^◌, None, Some, [], IfOk, IfSome, codes, drop, length, option_map};
 ghost use Rattle.std.specs.Bool.{OnTrue};
-ghost use Rattle.markdown_grammar.specs.Fronts.{begins_with};
+ghost use Rattle.site_text.specs.Fronts.{begins_with};
 ghost use Rattle.std.specs.Str.{IsCharBoundary};
 ghost use Rattle.markdown_grammar.specs.Links as grammar;
 ghost use Rattle.cm_links.specs.Table as table;
@@ -9,8 +9,8 @@ ghost use Rattle.cm_inlines.specs.Targets.{behind_paren, reached_pair, target_pa
 
 use crate::node::Target;
 use cm_links::{LinkDef, Links, destination, is_label, link_label, link_title, white_gap};
-use cm_spans::byte_at;
 use site_base::{Memory, Text};
+use site_text::byte_at;
 use std::alloc::Global;
 
 /// A target, and how many bytes stand for it behind the closing bracket.

@@ -2,8 +2,8 @@
 use crate::{Node, Target, read_inlines};
 use cm_links::{Links, definition};
 use cm_spans::Mark;
+use site_base::Memory;
 use std::alloc::{AllocError, Global};
-use std::test::Fail;
 
 fn push_target(out: &mut String, mark: &str, target: &Target) -> Result<(), AllocError> {
     out.push_str(mark)?;
@@ -61,7 +61,7 @@ fn push_node(out: &mut String, node: &Node) -> Result<(), AllocError> {
     }
 }
 
-fn known(alloc: Global) -> Result<Links, Fail> {
+fn known(alloc: Global) -> Result<Links, Memory> {
     let mut links = Links::new(alloc);
     for text in ["[foo]: /url 'title'", "[bar]: /bar", "[ref[]: /uri"] {
         match definition(alloc, text)? {
@@ -72,106 +72,111 @@ fn known(alloc: Global) -> Result<Links, Fail> {
     Ok(links)
 }
 
-fn shown(alloc: Global, text: &str) -> Result<String, Fail> {
+fn shown(alloc: Global, text: &str) -> Result<String, Memory> {
     let links = known(alloc)?;
+    let inlines = read_inlines(alloc, text, &links)?;
     let mut out = String::new(alloc);
-    match read_inlines(alloc, text, &links) {
-        Ok(inlines) => {
-            for node in inlines.nodes() {
-                push_node(&mut out, node)?;
-            }
-        }
-        Err(_) => out.push_str("no memory")?,
+    for node in inlines.nodes() {
+        push_node(&mut out, node)?;
     }
     Ok(out)
 }
 
-#[test]
-fn empty(rt: HostRuntime) -> Result<(), Fail> {
-    let links = Links::new(rt.alloc());
-    match read_inlines(rt.alloc(), "", &links) {
-        Ok(inlines) => assert_eq!(rt; inlines.nodes().len(), 0),
-        Err(_) => assert!(rt; false),
+fn is_shown(alloc: Global, text: &str, html: &str) -> bool {
+    match shown(alloc, text) {
+        Ok(found) => found.as_str() == html,
+        Err(_) => false,
     }
-    Ok(())
+}
+
+fn has_nodes(alloc: Global, text: &str, count: usize) -> bool {
+    match read_inlines(alloc, text, &Links::new(alloc)) {
+        Ok(inlines) => inlines.nodes().len() == count,
+        Err(_) => false,
+    }
 }
 
 #[test]
-fn emphasis(rt: HostRuntime) -> Result<(), Fail> {
-    let rows = [
-        ("*foo bar*", "<em>foo bar</em>"),
-        ("a * foo bar*", "a * foo bar*"),
-        ("foo_bar_", "foo_bar_"),
-        ("foo*bar*", "foo<em>bar</em>"),
-        ("foo-_(bar)_", "foo-<em>(bar)</em>"),
-        ("**foo bar**", "<strong>foo bar</strong>"),
-        ("***foo***", "<em><strong>foo</strong></em>"),
-        ("*foo**bar*", "<em>foo**bar</em>"),
-        ("*foo**bar**baz*", "<em>foo<strong>bar</strong>baz</em>"),
-        ("***foo** bar*", "<em><strong>foo</strong> bar</em>"),
-        ("*foo **bar***", "<em>foo <strong>bar</strong></em>"),
-        ("foo***bar***baz", "foo<em><strong>bar</strong></em>baz"),
-        (
-            "foo******bar*********baz",
-            "foo<strong><strong><strong>bar</strong></strong></strong>***baz",
-        ),
-        ("**foo*", "*<em>foo</em>"),
-        ("*foo**", "<em>foo</em>*"),
-        ("****foo*", "***<em>foo</em>"),
-        ("*foo _bar* baz_", "<em>foo _bar</em> baz_"),
-        ("**foo **bar baz**", "**foo <strong>bar baz</strong>"),
-        ("*\u{a0}a\u{a0}*", "*\u{a0}a\u{a0}*"),
-    ];
-    for (text, html) in rows {
-        assert_eq!(rt; shown(rt.alloc(), text)?.as_str(), html);
-    }
-    Ok(())
+fn empty(rt: HostRuntime) {
+    assert!(rt; has_nodes(rt.alloc(), "", 0));
 }
 
-#[test]
-fn links(rt: HostRuntime) -> Result<(), Fail> {
-    let rows = [
-        ("[link](/uri \"title\")", "<a /uri|title>link</a>"),
-        ("[link]()", "<a >link</a>"),
-        ("[link](</my uri>)", "<a /my uri>link</a>"),
-        ("[link](/my uri)", "[link](/my uri)"),
-        ("[link](foo(and(bar)))", "<a foo(and(bar))>link</a>"),
-        ("[a [b](c) d](e)", "[a <a c>b</a> d](e)"),
-        ("![a [b](c) d](e)", "<img e>a <a c>b</a> d</img>"),
-        ("[a ![b](c) d](e)", "<a e>a <img c>b</img> d</a>"),
-        ("*foo [bar* baz]", "<em>foo [bar</em> baz]"),
-        ("*foo [bar*](u)", "*foo <a u>bar*</a>"),
-        ("[foo`](/uri)`", "[foo<code>](/uri)</code>"),
-        ("[Foo]", "<a /url|title>Foo</a>"),
-        ("[foo][]", "<a /url|title>foo</a>"),
-        ("[x][foo]", "<a /url|title>x</a>"),
-        ("[foo][bar]", "<a /bar>foo</a>"),
-        ("[foo][baz]", "[foo][baz]"),
-        ("[foo](not a link)", "<a /url|title>foo</a>(not a link)"),
-        ("![foo]", "<img /url|title>foo</img>"),
-        ("\\[foo]", "[foo]"),
-    ];
-    for (text, html) in rows {
-        assert_eq!(rt; shown(rt.alloc(), text)?.as_str(), html);
-    }
-    Ok(())
-}
+const EMPHASIS: &[(&str, &str)] = &[
+    ("*foo bar*", "<em>foo bar</em>"),
+    ("a * foo bar*", "a * foo bar*"),
+    ("foo_bar_", "foo_bar_"),
+    ("foo*bar*", "foo<em>bar</em>"),
+    ("foo-_(bar)_", "foo-<em>(bar)</em>"),
+    ("**foo bar**", "<strong>foo bar</strong>"),
+    ("***foo***", "<em><strong>foo</strong></em>"),
+    ("*foo**bar*", "<em>foo**bar</em>"),
+    ("*foo**bar**baz*", "<em>foo<strong>bar</strong>baz</em>"),
+    ("***foo** bar*", "<em><strong>foo</strong> bar</em>"),
+    ("*foo **bar***", "<em>foo <strong>bar</strong></em>"),
+    ("foo***bar***baz", "foo<em><strong>bar</strong></em>baz"),
+    (
+        "foo******bar*********baz",
+        "foo<strong><strong><strong>bar</strong></strong></strong>***baz",
+    ),
+    ("**foo*", "*<em>foo</em>"),
+    ("*foo**", "<em>foo</em>*"),
+    ("****foo*", "***<em>foo</em>"),
+    ("*foo _bar* baz_", "<em>foo _bar</em> baz_"),
+    ("**foo **bar baz**", "**foo <strong>bar baz</strong>"),
+    ("*\u{a0}a\u{a0}*", "*\u{a0}a\u{a0}*"),
+];
 
 #[test]
-fn spans(rt: HostRuntime) -> Result<(), Fail> {
-    let rows = [
-        ("`` foo ` bar ``", "<code>foo ` bar</code>"),
-        ("`foo`bar`", "<code>foo</code>bar`"),
-        ("<http://a.b>c", "<uri http://a.b>c"),
-        ("<a@b.c>", "<email a@b.c>"),
-        ("a<b c='d'>", "a{<b c='d'>}"),
-        ("a  \nb\nc\\\nd", "a<br>b\nc<br>d"),
-        ("&amp;\\*&x;", "&*&x;"),
-    ];
-    for (text, html) in rows {
-        assert_eq!(rt; shown(rt.alloc(), text)?.as_str(), html);
+fn emphasis(rt: HostRuntime) {
+    for (text, html) in EMPHASIS {
+        assert!(rt; is_shown(rt.alloc(), text, html), "{text}");
     }
-    Ok(())
+}
+
+const LINKS: &[(&str, &str)] = &[
+    ("[link](/uri \"title\")", "<a /uri|title>link</a>"),
+    ("[link]()", "<a >link</a>"),
+    ("[link](</my uri>)", "<a /my uri>link</a>"),
+    ("[link](/my uri)", "[link](/my uri)"),
+    ("[link](foo(and(bar)))", "<a foo(and(bar))>link</a>"),
+    ("[a [b](c) d](e)", "[a <a c>b</a> d](e)"),
+    ("![a [b](c) d](e)", "<img e>a <a c>b</a> d</img>"),
+    ("[a ![b](c) d](e)", "<a e>a <img c>b</img> d</a>"),
+    ("*foo [bar* baz]", "<em>foo [bar</em> baz]"),
+    ("*foo [bar*](u)", "*foo <a u>bar*</a>"),
+    ("[foo`](/uri)`", "[foo<code>](/uri)</code>"),
+    ("[Foo]", "<a /url|title>Foo</a>"),
+    ("[foo][]", "<a /url|title>foo</a>"),
+    ("[x][foo]", "<a /url|title>x</a>"),
+    ("[foo][bar]", "<a /bar>foo</a>"),
+    ("[foo][baz]", "[foo][baz]"),
+    ("[foo](not a link)", "<a /url|title>foo</a>(not a link)"),
+    ("![foo]", "<img /url|title>foo</img>"),
+    ("\\[foo]", "[foo]"),
+];
+
+#[test]
+fn links(rt: HostRuntime) {
+    for (text, html) in LINKS {
+        assert!(rt; is_shown(rt.alloc(), text, html), "{text}");
+    }
+}
+
+const SPANS: &[(&str, &str)] = &[
+    ("`` foo ` bar ``", "<code>foo ` bar</code>"),
+    ("`foo`bar`", "<code>foo</code>bar`"),
+    ("<http://a.b>c", "<uri http://a.b>c"),
+    ("<a@b.c>", "<email a@b.c>"),
+    ("a<b c='d'>", "a{<b c='d'>}"),
+    ("a  \nb\nc\\\nd", "a<br>b\nc<br>d"),
+    ("&amp;\\*&x;", "&*&x;"),
+];
+
+#[test]
+fn spans(rt: HostRuntime) {
+    for (text, html) in SPANS {
+        assert!(rt; is_shown(rt.alloc(), text, html), "{text}");
+    }
 }
 
 // How often something opens in texts that are meant to be slow; the numbers are those of cmark, where an image in an image
@@ -185,20 +190,8 @@ fn opens(node: &Node) -> bool {
     )
 }
 
-fn opened(alloc: Global, text: &str) -> Result<usize, Fail> {
-    let links = Links::new(alloc);
-    match read_inlines(alloc, text, &links) {
-        Ok(inlines) => Ok(inlines.nodes().iter().filter(|node| opens(node)).count()),
-        Err(_) => Ok(usize::MAX),
-    }
-}
-
-// The first part again and again, then the second.
-fn opened_in(alloc: Global, first: &str, second: &str) -> Result<usize, Fail> {
-    opened_around(alloc, first, "", second)
-}
-
-fn opened_around(alloc: Global, first: &str, middle: &str, second: &str) -> Result<usize, Fail> {
+// The first part again and again, the middle once, and the second part again and again.
+fn repeated(alloc: Global, first: &str, middle: &str, second: &str) -> Result<String, AllocError> {
     let mut text = String::new(alloc);
     for _ in 0..TIMES {
         text.push_str(first)?;
@@ -207,40 +200,77 @@ fn opened_around(alloc: Global, first: &str, middle: &str, second: &str) -> Resu
     for _ in 0..TIMES {
         text.push_str(second)?;
     }
-    opened(alloc, text.as_str())
+    Ok(text)
 }
 
-#[test]
-fn many_brackets(rt: HostRuntime) -> Result<(), Fail> {
-    let alloc = rt.alloc();
-    assert_eq!(rt; opened_in(alloc, "[", "]")?, 0);
-    assert_eq!(rt; opened_in(alloc, "![", "](a)")?, TIMES);
-    assert_eq!(rt; opened_in(alloc, "[a](b)", "")?, TIMES);
-    assert_eq!(rt; opened_in(alloc, "](", "")?, 0);
-    assert_eq!(rt; opened_in(alloc, "![", "[a](b)")?, TIMES);
-    assert_eq!(rt; opened_around(alloc, "[", "[a](b)", "]")?, 1);
-    assert_eq!(rt; opened_in(alloc, "[*a", "]")?, 0);
-    Ok(())
+fn opened(alloc: Global, text: &str) -> Result<usize, Memory> {
+    let links = Links::new(alloc);
+    let inlines = read_inlines(alloc, text, &links)?;
+    Ok(inlines.nodes().iter().filter(|node| opens(node)).count())
 }
 
-#[test]
-fn many_marks(rt: HostRuntime) -> Result<(), Fail> {
-    let alloc = rt.alloc();
-    assert_eq!(rt; opened_in(alloc, "*a_ ", "")?, 0);
-    assert_eq!(rt; opened_in(alloc, "*a_ ", "a* ")?, TIMES);
-    assert_eq!(rt; opened_in(alloc, "*a **b ", "c** d* ")?, 2 * TIMES);
-    assert_eq!(rt; opened_in(alloc, "a**b", "")?, TIMES / 2);
-    assert_eq!(rt; opened_in(alloc, "c*_", "")?, 1);
-    assert_eq!(rt; opened_around(alloc, "*", "a", "*")?, TIMES / 2);
-    assert_eq!(rt; opened_in(alloc, "a*b**c***d_", "")?, 2 * TIMES);
-    Ok(())
+fn opens_so_often(alloc: Global, first: &str, middle: &str, second: &str, count: usize) -> bool {
+    match repeated(alloc, first, middle, second) {
+        Ok(text) => match opened(alloc, text.as_str()) {
+            Ok(found) => found == count,
+            Err(_) => false,
+        },
+        Err(_) => false,
+    }
 }
 
+const MANY_BRACKETS: &[(&str, &str, &str, usize)] = &[
+    ("[", "", "]", 0),
+    ("![", "", "](a)", TIMES),
+    ("[a](b)", "", "", TIMES),
+    ("](", "", "", 0),
+    ("![", "", "[a](b)", TIMES),
+    ("[", "[a](b)", "]", 1),
+    ("[*a", "", "]", 0),
+];
+
 #[test]
-fn many_of_both(rt: HostRuntime) -> Result<(), Fail> {
-    let alloc = rt.alloc();
-    assert_eq!(rt; opened_in(alloc, "*![", "](a)*")?, 2 * TIMES);
-    assert_eq!(rt; opened_in(alloc, "*[", "](a)")?, TIMES / 2 + 1);
-    assert_eq!(rt; opened_in(alloc, "[*a ", "a*](b)")?, TIMES + 1);
-    Ok(())
+fn many_brackets(rt: HostRuntime) {
+    for (first, middle, second, count) in MANY_BRACKETS {
+        assert!(rt;
+            opens_so_often(rt.alloc(), first, middle, second, *count),
+            "{first}"
+        );
+    }
+}
+
+const MANY_MARKS: &[(&str, &str, &str, usize)] = &[
+    ("*a_ ", "", "", 0),
+    ("*a_ ", "", "a* ", TIMES),
+    ("*a **b ", "", "c** d* ", 2 * TIMES),
+    ("a**b", "", "", TIMES / 2),
+    ("c*_", "", "", 1),
+    ("*", "a", "*", TIMES / 2),
+    ("a*b**c***d_", "", "", 2 * TIMES),
+];
+
+#[test]
+fn many_marks(rt: HostRuntime) {
+    for (first, middle, second, count) in MANY_MARKS {
+        assert!(rt;
+            opens_so_often(rt.alloc(), first, middle, second, *count),
+            "{first}"
+        );
+    }
+}
+
+const MANY_OF_BOTH: &[(&str, &str, &str, usize)] = &[
+    ("*![", "", "](a)*", 2 * TIMES),
+    ("*[", "", "](a)", TIMES / 2 + 1),
+    ("[*a ", "", "a*](b)", TIMES + 1),
+];
+
+#[test]
+fn many_of_both(rt: HostRuntime) {
+    for (first, middle, second, count) in MANY_OF_BOTH {
+        assert!(rt;
+            opens_so_often(rt.alloc(), first, middle, second, *count),
+            "{first}"
+        );
+    }
 }

@@ -1,7 +1,7 @@
 -- A bare destination, byte by byte.
 use Rattle.std.proofs.lemmas.List.{drop_more}
 use Rattle.std.proofs.Common.{drop, get_or, length, ◌<◌, ap, sym, ◌∙◌, arith, ◌≡◌, ℕ, suc, ◌+◌, ◌-◌, Bool, true, false, cond, ◌&&◌, ◌||◌, List, ◌∷◌, Option, Some, None, refl, ◌==◌, nat_lt}
-use Rattle.markdown_grammar.specs.Bytes.{is_punct, is_control}
+use Rattle.site_text.specs.Bytes.{is_control, is_punct}
 use Rattle.markdown_grammar.specs.Readers.{plus}
 use Rattle.markdown_grammar.specs.Destinations.{bare_len}
 use Rattle.cm_links.specs.declared.destinations.Next.TheVariants.{Go, Stop, Refuse}

@@ -1,5 +1,3 @@
-pub mod Numbers
-mod Classing
 pub mod Squeezing
 pub mod Boundaries
 pub mod ResolvingLaws

@@ -1,8 +1,8 @@
 -- The characters of a label, counted and searched one after another.
 use Rattle.std.proofs.Common.{◌≡◌, ◌∙◌, ap, sym, ℕ, ◌+◌, ◌≤◌, Bool, true, false, not, nat_le, List, [], ◌∷◌, ◌++◌, length, IsUtf8, chars, encode_utf8, arith}
 use Rattle.std.proofs.lemmas.Str.{chars-nil, chars_past_char}
-use Rattle.markdown_grammar.specs.Bytes.{is_white}
-use Rattle.markdown_grammar.specs.Fronts.{has_one}
+use Rattle.site_text.specs.Bytes.{is_white}
+use Rattle.site_text.specs.Fronts.{has_one}
 
 abbrev other : ℕ → Bool
 other c = not (is_white c)

@@ -2,8 +2,8 @@
 use Rattle.std.proofs.Common.{◌≡◌, ◌∙◌, ap, sym, subst, refl, ℕ, zero, suc, ◌+◌, ◌-◌, ◌<◌, min, Bool, true, false, cond, not, ◌&&◌, ◌||◌, ◌==◌, List, [], ◌∷◌, ◌++◌, append_assoc, append-nil, length, take, drop, Option, Some, None, encode_utf8, IsUtf8, arith}
 use Rattle.std.specs.Str.{IsCharBoundary}
 use Rattle.std.proofs.lemmas.Str.{IsCharBoundary-after_ascii}
-use Rattle.markdown_grammar.specs.Bytes.{is_punct, backslash, ampersand}
-use Rattle.markdown_grammar.specs.Fronts.{first_byte, run_len}
+use Rattle.site_text.specs.Bytes.{ampersand, backslash, is_punct}
+use Rattle.site_text.specs.Fronts.{first_byte, run_len}
 use Rattle.markdown_grammar.specs.References.{CharRef, front_meaning, resolved}
 use Rattle.markdown_grammar.proofs.TextRecursions.{resolved_is}
 use Rattle.cm_links.specs.Resolving.{may_mean, StartsAscii, EndsAscii, Resolves}

@@ -1,7 +1,7 @@
 -- Squeezing white space, one character after another.
 use Rattle.std.proofs.Common.{length, arith, ◌≡◌, ◌∙◌, ap, sym, ℕ, Bool, true, false, cond, ◌&&◌, List, [], ◌∷◌, ◌++◌, append_assoc, append-nil, IsUtf8, chars, encode_utf8, encode_utf8_all}
 use Rattle.std.proofs.lemmas.Str.{chars-nil, chars_from_encodes, chars_past_char, encodes-append}
-use Rattle.markdown_grammar.specs.Bytes.{is_white}
+use Rattle.site_text.specs.Bytes.{is_white}
 use Rattle.markdown_grammar.specs.Labels.{squeezed}
 
 abbrev lead : Bool → ℕ → List ℕ

@@ -1,6 +1,6 @@
 -- One byte of a bare destination: what `bare_len` does with it.
 use Rattle.std.specs.Prelude.{◌≤◌, ℕ, suc, ◌-◌, Bool, false, ◌&&◌, ◌||◌, List, Option, Some, None, nat_lt, ◌==◌, if◌then◌else◌}
-use Rattle.markdown_grammar.specs.Bytes.{is_punct, is_control}
+use Rattle.site_text.specs.Bytes.{is_control, is_punct}
 use Rattle.markdown_grammar.specs.Readers.{plus}
 use Rattle.markdown_grammar.specs.Destinations.{bare_len}
 use Rattle.cm_links.specs.declared.destinations.Next.{Next}

@@ -1,7 +1,7 @@
 -- Escapes and references, one after another.
 use Rattle.std.specs.Prelude.{◌≡◌, ◌<◌, ◌≤◌, ◌+◌, ◌-◌, ◌++◌, ◌==◌, ◌||◌, ℕ, Bool, List, length, drop, slice_index}
 use Rattle.std.specs.Str.{IsCharBoundary}
-use Rattle.markdown_grammar.specs.Bytes.{backslash, ampersand, semicolon}
+use Rattle.site_text.specs.Bytes.{ampersand, backslash, semicolon}
 use Rattle.markdown_grammar.specs.References.{resolved}
 
 -- a byte at which an escape or a reference may begin

@@ -6,11 +6,12 @@ ghost use Rattle.cm_links.specs.Answers.{link_part, link_def};
 ghost use Rattle.cm_links.specs.Cuts.{IsEnd, IsFront, IsLabelled};
 
 use crate::destinations::destination;
-use crate::gaps::{begins, line_rest, white_gap};
+use crate::gaps::{line_rest, white_gap};
 use crate::label::link_label;
 use crate::parts::LinkPart;
 use crate::titles::link_title;
 use site_base::{Memory, Text};
+use site_text::starts_with_byte;
 use std::alloc::Global;
 
 /// A link reference definition: the text of its label, where it goes, its title if it has one, and
@@ -41,7 +42,7 @@ fn behind_label(alloc: Global, text: &str, n: usize) -> Result<Option<LinkDef>, 
     ensures cut { IfOk result (λ found. IfSome found (λ definition. IsFront text.now definition.end)) }
 {
     let rest = &text[n..];
-    if begins(rest, b':') {
+    if starts_with_byte(rest, b':') {
         let inside = &text[1..];
         pointing(alloc, &inside[..n - 2], n + 1, &rest[1..])
     } else {
@@ -152,52 +153,90 @@ fn ending_line(gap: usize, title: LinkPart, text: &str) -> Option<LinkPart>
 #[cfg(test)]
 mod tests {
     use super::*;
-    use std::test::Fail;
 
-    #[test]
-    fn definitions_are_read(rt: HostRuntime) -> Result<(), Fail> {
-        let rows = [
-            ("[a]: /u\n", ("a", "/u", None, 8)),
-            (
-                "[A  b]:\n <x y> 't&amp;'\nrest",
-                ("A  b", "x y", Some("t&"), 24),
-            ),
-            ("[a]: /u\\* (t\n\\))", ("a", "/u*", Some("t\n)"), 16)),
-            ("[a]: <> \nb", ("a", "", None, 9)),
-            ("[a]: /u\n't' x\n", ("a", "/u", None, 8)),
-            (
-                "[a\\]]:/\u{e9} \"\u{e9}\"",
-                ("a\\]", "/\u{e9}", Some("\u{e9}"), 14),
-            ),
-        ];
-        for (text, row) in rows {
-            let found = definition(rt.alloc(), text)?.ok_or("no definition")?;
-            let title = found.title.as_ref().map(|t| t.as_str());
-            assert_eq!(rt;
-                (found.label.as_str(), found.url.as_str(), title, found.end),
-                row
-            );
+    // Texts, with the label, the address, the title and the end of the definition at their front.
+    const DEFINITIONS: &[(&str, &str, &str, Option<&str>, usize)] = &[
+        ("[a]: /u\n", "a", "/u", None, 8),
+        (
+            "[A  b]:\n <x y> 't&amp;'\nrest",
+            "A  b",
+            "x y",
+            Some("t&"),
+            24,
+        ),
+        ("[a]: /u\\* (t\n\\))", "a", "/u*", Some("t\n)"), 16),
+        ("[a]: <> \nb", "a", "", None, 9),
+        ("[a]: /u\n't' x\n", "a", "/u", None, 8),
+        (
+            "[a\\]]:/\u{e9} \"\u{e9}\"",
+            "a\\]",
+            "/\u{e9}",
+            Some("\u{e9}"),
+            14,
+        ),
+    ];
+
+    fn is_title(title: &Option<Text>, wanted: Option<&str>) -> bool {
+        match (title, wanted) {
+            (Some(title), Some(wanted)) => title.as_str() == wanted,
+            (None, None) => true,
+            _ => false,
         }
-        Ok(())
+    }
+
+    fn defines(
+        alloc: Global,
+        text: &str,
+        label: &str,
+        url: &str,
+        title: Option<&str>,
+        end: usize,
+    ) -> bool {
+        match definition(alloc, text) {
+            Ok(Some(found)) => {
+                found.label.as_str() == label
+                    && found.url.as_str() == url
+                    && is_title(&found.title, title)
+                    && found.end == end
+            }
+            _ => false,
+        }
     }
 
     #[test]
-    fn other_texts_are_none(rt: HostRuntime) -> Result<(), Fail> {
-        let rows = [
-            "",
-            "a",
-            "[a] : /u",
-            "[a]:",
-            "[a]:\n\n/u",
-            "[ ]: /u",
-            "[a]: /u 't' x",
-            "[a]: <b>(c)",
-            "[a]: (b",
-            " [a]: /u",
-        ];
-        for text in rows {
-            assert!(rt; definition(rt.alloc(), text)?.is_none(), "{text}");
+    fn definitions_are_read(rt: HostRuntime) {
+        for (text, label, url, title, end) in DEFINITIONS {
+            assert!(rt;
+                defines(rt.alloc(), text, label, url, *title, *end),
+                "{text}"
+            );
         }
-        Ok(())
+    }
+
+    const OTHERS: &[&str] = &[
+        "",
+        "a",
+        "[a] : /u",
+        "[a]:",
+        "[a]:\n\n/u",
+        "[ ]: /u",
+        "[a]: /u 't' x",
+        "[a]: <b>(c)",
+        "[a]: (b",
+        " [a]: /u",
+    ];
+
+    fn defines_nothing(alloc: Global, text: &str) -> bool {
+        match definition(alloc, text) {
+            Ok(None) => true,
+            _ => false,
+        }
+    }
+
+    #[test]
+    fn other_texts_are_none(rt: HostRuntime) {
+        for text in OTHERS {
+            assert!(rt; defines_nothing(rt.alloc(), text), "{text}");
+        }
     }
 }

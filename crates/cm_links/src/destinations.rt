@@ -6,11 +6,10 @@ ghost use Rattle.cm_links.specs.Answers.{link_part};
 ghost use Rattle.cm_links.specs.Bare.{bare_next, IsSmall, IsStop};
 ghost use Rattle.cm_links.specs.Cuts.{HasByte};
 
-use crate::classes::is_punctuation;
-use crate::gaps::begins;
 use crate::parts::{LinkPart, enclosed};
 use crate::resolving::resolved;
 use site_base::Memory;
+use site_text::{is_punctuation, starts_with_byte};
 use std::alloc::Global;
 
 /// The link destination that a text begins with, or none.
@@ -18,7 +17,7 @@ pub fn destination(alloc: Global, text: &str) -> Result<Option<LinkPart>, Memory
     ensures value { IfOk result (λ found. found ≡ option_map link_part (grammar.destination text.now)) }
     ensures cut { IfOk result (λ found. IfSome found (λ part. IsCharBoundary text.now part.len)) }
 {
-    if begins(text, b'<') {
+    if starts_with_byte(text, b'<') {
         pointed(alloc, text)
     } else {
         bare(alloc, text)

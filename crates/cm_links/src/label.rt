@@ -1,16 +1,15 @@
 // Link labels.
 ghost use Rattle.std.specs.Prelude.{◌≡◌, ◌++◌, ◌&&◌, IfOk, OnOk, encode_utf8, encode_utf8_all, false, chars, string_bytes, if◌then◌else◌, [], ◌∷◌, IfSome, drop, length, nat_le, not};
 ghost use Rattle.std.specs.Str.{IsCharBoundary};
-ghost use Rattle.markdown_grammar.specs.Bytes as bytes;
-ghost use Rattle.markdown_grammar.specs.Fronts.{has_one};
+ghost use Rattle.site_text.specs.Bytes as bytes;
+ghost use Rattle.site_text.specs.Fronts.{has_one};
 ghost use Rattle.markdown_grammar.specs.Labels as grammar;
 ghost use Rattle.markdown_grammar.specs.Labels.{label_key, squeezed};
 ghost use Rattle.cm_links.specs.Cuts.{HasByte, IsLabelled};
 
-use crate::classes::is_white;
-use crate::gaps::begins;
 use caseless::default_case_fold_str;
 use site_base::{Memory, Text};
+use site_text::starts_with_byte;
 use std::alloc::{AllocError, Global};
 
 /// A label without white space at its ends, with one space for each run of white space inside, and
@@ -34,6 +33,12 @@ pub(crate) fn folded_label(alloc: Global, label: &str) -> Result<String, Memory>
         Ok(folded) => Ok(folded),
         Err(_) => Err(Memory),
     }
+}
+
+fn is_white(c: char) -> bool
+    ensures { result ≡ bytes.is_white c }
+{
+    c == ' ' || c == '\t' || c == '\n' || c == '\r'
 }
 
 fn squeeze(alloc: Global, label: &str) -> Result<String, AllocError>
@@ -69,7 +74,7 @@ pub fn link_label(text: &str) -> Option<usize>
     ensures value { result ≡ grammar.link_label text.now }
     ensures cuts { IfSome result (IsLabelled text.now) }
 {
-    if begins(text, b'[') {
+    if starts_with_byte(text, b'[') {
         label_behind(text)
     } else {
         None
@@ -153,50 +158,64 @@ mod tests {
     use super::*;
     use std::test::Fail;
 
-    #[test]
-    fn labels_are_folded(rt: HostRuntime) -> Result<(), Fail> {
-        let rows = [
-            (" A\n b ", "a b"),
-            ("", ""),
-            (" \t\r\n", ""),
-            ("\u{1e9e}x", "ssx"),
-            ("\u{391}\u{393}\u{3a9}", "\u{3b1}\u{3b3}\u{3c9}"),
-            ("a\u{a0} b", "a\u{a0} b"),
-        ];
-        for (label, folded) in rows {
-            assert_eq!(rt; fold_label(rt.alloc(), label)?.as_str(), folded);
+    const FOLDED: &[(&str, &str)] = &[
+        (" A\n b ", "a b"),
+        ("", ""),
+        (" \t\r\n", ""),
+        ("\u{1e9e}x", "ssx"),
+        ("\u{391}\u{393}\u{3a9}", "\u{3b1}\u{3b3}\u{3c9}"),
+        ("a\u{a0} b", "a\u{a0} b"),
+    ];
+
+    fn is_folded(alloc: Global, label: &str, wanted: &str) -> bool {
+        match fold_label(alloc, label) {
+            Ok(folded) => folded.as_str() == wanted,
+            Err(_) => false,
         }
-        Ok(())
     }
 
     #[test]
-    fn labels_end(rt: HostRuntime) -> Result<(), Fail> {
-        let rows = [
-            ("[a]", Some(3)),
-            ("[a\\]b] c", Some(6)),
-            ("[\u{e9}]", Some(4)),
-            ("[ \n]", None),
-            ("[]", None),
-            ("[a[b]", None),
-            ("[a", None),
-            ("a]", None),
-        ];
-        for (text, len) in rows {
-            assert_eq!(rt; link_label(text), len);
+    fn labels_are_folded(rt: HostRuntime) {
+        for (label, folded) in FOLDED {
+            assert!(rt; is_folded(rt.alloc(), label, folded), "{label}");
         }
-        Ok(())
+    }
+
+    const LENGTHS: &[(&str, Option<usize>)] = &[
+        ("[a]", Some(3)),
+        ("[a\\]b] c", Some(6)),
+        ("[\u{e9}]", Some(4)),
+        ("[ \n]", None),
+        ("[]", None),
+        ("[a[b]", None),
+        ("[a", None),
+        ("a]", None),
+    ];
+
+    fn has_label(text: &str, len: Option<usize>) -> bool {
+        link_label(text) == len
+    }
+
+    #[test]
+    fn labels_end(rt: HostRuntime) {
+        for (text, len) in LENGTHS {
+            assert!(rt; has_label(text, *len), "{text}");
+        }
+    }
+
+    fn of_characters(alloc: Global, count: usize) -> Result<String, AllocError> {
+        let mut text = String::from_str(alloc, "[")?;
+        for _ in 0..count {
+            text.push_str("\u{e9}")?;
+        }
+        text.push_str("]")?;
+        Ok(text)
     }
 
     #[test]
     fn long_labels(rt: HostRuntime) -> Result<(), Fail> {
-        for (count, is_label) in [(999, true), (1_000, false)] {
-            let mut text = String::from_str(rt.alloc(), "[\u{e9}")?;
-            for _ in 1..count {
-                text.push_str("\u{e9}")?;
-            }
-            text.push_str("]")?;
-            assert_eq!(rt; link_label(&text).is_some(), is_label);
-        }
+        assert!(rt; has_label(of_characters(rt.alloc(), 999)?.as_str(), Some(2_000)));
+        assert!(rt; has_label(of_characters(rt.alloc(), 1_000)?.as_str(), None));
         Ok(())
     }
 }

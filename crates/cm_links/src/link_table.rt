@@ -93,25 +93,38 @@ fn note_first(places: &mut HashMap<String, usize>, key: String, place: usize) ->
 mod tests {
     use super::*;
     use crate::definitions::definition;
-    use std::test::Fail;
 
-    fn url_of(rt: &HostRuntime, links: &Links, label: &str) -> Result<String, Fail> {
-        match links.find(rt.alloc(), label)? {
-            Some(found) => Ok(String::from_str(rt.alloc(), found.url.as_str())?),
-            None => Ok(String::new(rt.alloc())),
+    fn three(alloc: Global) -> Result<Links, Memory> {
+        let mut links = Links::new(alloc);
+        for text in ["[Foo]: /one", "[bar]: /two", "[FOO]: /three"] {
+            match definition(alloc, text)? {
+                Some(found) => links.add(alloc, found)?,
+                None => (),
+            }
+        }
+        Ok(links)
+    }
+
+    const FOUND: &[(&str, Option<&str>)] = &[
+        (" foo\n", Some("/one")),
+        ("BAR", Some("/two")),
+        ("baz", None),
+    ];
+
+    fn leads(alloc: Global, links: &Links, label: &str, url: Option<&str>) -> bool {
+        match links.find(alloc, label) {
+            Ok(Some(found)) => url == Some(found.url.as_str()),
+            Ok(None) => url.is_none(),
+            Err(_) => false,
         }
     }
 
     #[test]
-    fn first_definitions_win(rt: HostRuntime) -> Result<(), Fail> {
-        let mut links = Links::new(rt.alloc());
-        for text in ["[Foo]: /one", "[bar]: /two", "[FOO]: /three"] {
-            let found = definition(rt.alloc(), text)?.ok_or("no definition")?;
-            links.add(rt.alloc(), found)?;
+    fn first_definitions_win(rt: HostRuntime) -> Result<(), Memory> {
+        let links = three(rt.alloc())?;
+        for (label, url) in FOUND {
+            assert!(rt; leads(rt.alloc(), &links, label, *url), "{label}");
         }
-        assert_eq!(rt; url_of(&rt, &links, " foo\n")?.as_str(), "/one");
-        assert_eq!(rt; url_of(&rt, &links, "BAR")?.as_str(), "/two");
-        assert_eq!(rt; url_of(&rt, &links, "baz")?.as_str(), "");
         Ok(())
     }
 }

@@ -1,13 +1,13 @@
 // Backslash escapes and character references in a text.
 ghost use Rattle.std.specs.Prelude.{◌≡◌, ◌++◌, ◌≤◌, ◌<◌, IfOk, IfSome, IsOkAnd, length, drop, string_bytes, not};
 ghost use Rattle.std.specs.Str.{IsCharBoundary};
-ghost use Rattle.markdown_grammar.specs.Fronts.{run_len};
+ghost use Rattle.site_text.specs.Fronts.{run_len};
 ghost use Rattle.markdown_grammar.specs.References as grammar;
 ghost use Rattle.cm_links.specs.Resolving.{may_mean, StartsAscii, EndsAscii, Resolves};
 
-use crate::classes::is_punctuation;
 use crate::references::front_reference;
 use site_base::{Memory, Text};
+use site_text::{Class, class_len, is_punctuation};
 use std::alloc::{AllocError, Global};
 
 /// A text in which each backslash escape and character reference is taken for what it stands for.
@@ -41,12 +41,7 @@ fn plain_len(text: &str) -> usize
     ensures boundary { IsCharBoundary text.now result }
     ensures stop { StartsAscii (drop result text.now) }
 {
-    let bytes = text.as_bytes();
-    let mut i = 0;
-    while i < bytes.len() && !(bytes[i] == b'\\' || bytes[i] == b'&') {
-        i += 1;
-    }
-    i
+    class_len(Class::Literal, text)
 }
 
 // What a byte at the front stands for that may stand for something else: how many bytes that takes.

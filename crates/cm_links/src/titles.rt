@@ -5,9 +5,9 @@ ghost use Rattle.markdown_grammar.specs.Titles as grammar;
 ghost use Rattle.cm_links.specs.Answers.{link_part};
 ghost use Rattle.cm_links.specs.Cuts.{HasByte};
 
-use crate::classes::is_punctuation;
 use crate::parts::{LinkPart, enclosed};
 use site_base::Memory;
+use site_text::is_punctuation;
 use std::alloc::Global;
 
 /// The link title that a text begins with, or none.

@@ -1,10 +1,10 @@
 -- Text with references, one run of bytes that stand for themselves after another.
 use Rattle.std.proofs.Common.{◌≡◌, ◌∙◌, ap, sym, refl, ℕ, suc, ◌+◌, ◌-◌, ◌<◌, Bool, true, false, cond, not, ◌||◌, ◌==◌, List, [], ◌∷◌, ◌++◌, append_assoc, append-nil, length, take, drop, get_or, arith, length-append, add-one, drop-cons, drop_of_length-le}
 use Rattle.std.specs.Prelude.{if◌then◌else◌}
-use Rattle.markdown_grammar.specs.Bytes.{line_feed, space}
+use Rattle.site_text.specs.Bytes.{line_feed, space}
+use Rattle.site_text.specs.Fronts.{run_len}
 use Rattle.markdown_grammar.specs.CodeSpans.{spaced}
 use Rattle.markdown_grammar.specs.Escaping.{escaped, escaped_byte}
-use Rattle.markdown_grammar.specs.Fronts.{run_len}
 use Rattle.cm_print.specs.Escapes.{escape_byte, escaped_as, is_plain, turns}
 use Rattle.cm_print.specs.declared.escape.Escape.{Escape}
 use Rattle.cm_print.specs.declared.escape.Escape.TheVariants as escape

@@ -1,9 +1,10 @@
 -- What is printed only grows.
 use Rattle.std.proofs.Common.{ℕ, ◌+◌, ◌≤◌, Bool, true, false, List, [], ◌∷◌, ◌++◌, ◌==◌, length, arith, length-append}
 use Rattle.std.specs.Prelude.{codes, ◌||◌, if◌then◌else◌, reverse}
-use Rattle.markdown_grammar.specs.Bytes.{line_feed}
+use Rattle.site_text.specs.Bytes.{line_feed}
+use Rattle.site_text.specs.Fronts.{first_byte}
 use Rattle.markdown_grammar.specs.Definitions.{Definition}
-use Rattle.markdown_grammar.specs.Fronts.{first_byte, is_empty}
+use Rattle.markdown_grammar.specs.Fronts.{is_empty}
 use Rattle.markdown_grammar.specs.LeafHtml.{heading_name, paragraph_onto, tagged}
 use Rattle.markdown_grammar.specs.ListTags.{fresh_line, is_bullet, list_tag}
 use Rattle.cm_blocks.specs.DocumentHtml.{code_html}

@@ -2,7 +2,7 @@
 use Rattle.std.proofs.Common.{◌≡◌, ◌∙◌, ap, sym, refl, ℕ, suc, List, ◌∷◌, ◌++◌, append_assoc}
 use Rattle.std.specs.Prelude.{Option, codes}
 use Rattle.std.proofs.lemmas.Grind.{flat_map-append}
-use Rattle.markdown_grammar.specs.Bytes.{line_feed}
+use Rattle.site_text.specs.Bytes.{line_feed}
 use Rattle.markdown_grammar.specs.Escaping.{escaped, escaped_byte, title_text, url_text}
 use Rattle.markdown_grammar.specs.InlineHtml.{alt, inline_html}
 use Rattle.markdown_grammar.specs.Inlines.{Inlines, code_span, emphasis, hard_break, image, link, no_inlines, raw_html, soft_break, strong, textual}

@@ -3,8 +3,8 @@ use Rattle.std.proofs.Common.{append-nil, ◌⊎◌, inl, inr, Bor, Option, ◌�
 use Rattle.std.proofs.lemmas.Grind.{flat_map-append}
 use Rattle.std.proofs.lemmas.List.{length-drop, take-append-drop}
 use Rattle.markdown_grammar.specs.Escaping.{escaped, escaped_byte}
-use Rattle.markdown_grammar.specs.Fronts.{run_len}
-use Rattle.markdown_grammar.specs.Spans.{is_special}
+use Rattle.site_text.specs.Bytes.{is_special}
+use Rattle.site_text.specs.Fronts.{run_len}
 use Rattle.cm_inlines.specs.Cells.{plain_tokens, sealed}
 use Rattle.cm_inlines.specs.Tokens.{Token, text_token}
 use Rattle.cm_inlines.specs.Words.{front_len, word_tokens, words, words_by}

@@ -1,8 +1,8 @@
 -- Text that is written at the end of other text, within a limit.
 use Rattle.std.specs.Prelude.{◌≡◌, ◌<◌, ◌++◌, ℕ, ◌==◌, Bool, ◌||◌, List, length, codes, Result, MatchResult}
 use Rattle.std.specs.String.{string_bytes}
-use Rattle.markdown_grammar.specs.Bytes.{is_alnum}
-use Rattle.markdown_grammar.specs.Fronts.{has_one}
+use Rattle.site_text.specs.Bytes.{is_alnum}
+use Rattle.site_text.specs.Fronts.{has_one}
 use Rattle.cm_print.specs.declared.error.HtmlError.{HtmlError}
 use Rattle.cm_print.specs.declared.error.HtmlError.TheVariants as error
 use Rattle.cm_print.specs.declared.writer.Writer.{Writer}

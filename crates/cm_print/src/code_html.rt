@@ -1,9 +1,8 @@
 // Code blocks as HTML.
 ghost use Rattle.std.specs.Prelude.{◌≡◌, ◌++◌, IfOk, codes, not, take};
-ghost use Rattle.std.specs.Str.{IsCharBoundary};
-ghost use Rattle.markdown_grammar.specs.Bytes.{is_white};
+ghost use Rattle.site_text.specs.Bytes.{is_white};
+ghost use Rattle.site_text.specs.Fronts.{run_len};
 ghost use Rattle.markdown_grammar.specs.Escaping.{escaped};
-ghost use Rattle.markdown_grammar.specs.Fronts.{run_len};
 ghost use Rattle.markdown_grammar.specs.LeafHtml.{class_text, info_word};
 ghost use Rattle.cm_blocks.specs.DocumentHtml.{code_html};
 ghost use Rattle.cm_print.specs.DocumentHtml.{code_after};
@@ -12,6 +11,7 @@ ghost use Rattle.cm_print.specs.Writing.{Prints, Reaches, written};
 use crate::error::HtmlError;
 use crate::writer::Writer;
 use cm_links::resolved;
+use site_text::{Class, class_len};
 use std::alloc::Global;
 
 impl Writer {
@@ -41,9 +41,7 @@ impl Writer {
     fn push_language(&mut self, alloc: Global, info: &str) -> Result<(), HtmlError>
         ensures { Prints self.old self.new (class_text (info_word info.now)) result }
     {
-        let Ok(info) = resolved(alloc, info) else {
-            return Err(HtmlError::Memory);
-        };
+        let info = resolved(alloc, info)?;
         self.push_class(first_word(info.as_str()))
     }
 
@@ -69,23 +67,5 @@ impl Writer {
 fn first_word(text: &str) -> &str
     ensures { result.now ≡ take (run_len (λ c. not (is_white c)) text.now) text.now }
 {
-    &text[..word_len(text)]
-}
-
-fn word_len(text: &str) -> usize
-    ensures value { result ≡ run_len (λ c. not (is_white c)) text.now }
-    ensures boundary { IsCharBoundary text.now result }
-{
-    let bytes = text.as_bytes();
-    let mut i = 0;
-    while i < bytes.len() && !is_white(bytes[i]) {
-        i += 1;
-    }
-    i
-}
-
-fn is_white(byte: u8) -> bool
-    ensures { result ≡ is_white byte }
-{
-    matches!(byte, b' ' | b'\t' | b'\n' | b'\r')
+    &text[..class_len(Class::NoWhite, text)]
 }

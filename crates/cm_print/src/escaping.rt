@@ -3,7 +3,7 @@ ghost use Rattle.std.specs.Prelude.{◌≡◌, ◌<◌, false, length, slice_ind
 ghost use Rattle.std.specs.Str.{IsCharBoundary};
 ghost use Rattle.markdown_grammar.specs.CodeSpans.{spaced};
 ghost use Rattle.markdown_grammar.specs.Escaping.{escaped};
-ghost use Rattle.markdown_grammar.specs.Fronts.{run_len};
+ghost use Rattle.site_text.specs.Fronts.{run_len};
 ghost use Rattle.cm_print.specs.Escapes.{escaped_as, is_plain};
 ghost use Rattle.cm_print.specs.Writing.{Prints};
 

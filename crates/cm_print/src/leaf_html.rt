@@ -37,10 +37,8 @@ impl Writer {
         if text.is_empty() {
             return Ok(());
         }
-        match read_inlines(alloc, text, links) {
-            Ok(body) => self.push_paragraph_of(is_tight, &body),
-            Err(_) => Err(HtmlError::Memory),
-        }
+        let body = read_inlines(alloc, text, links)?;
+        self.push_paragraph_of(is_tight, &body)
     }
 
     fn push_paragraph_of(&mut self, is_tight: bool, body: &Inlines<'_>) -> Result<(), HtmlError>
@@ -71,10 +69,8 @@ impl Writer {
     ) -> Result<(), HtmlError>
         ensures { Reaches self.old self.new (heading_after level (prose links.now text.now) (written self.old)) result }
     {
-        match read_inlines(alloc, text, links) {
-            Ok(body) => self.push_heading_of(level, &body),
-            Err(_) => Err(HtmlError::Memory),
-        }
+        let body = read_inlines(alloc, text, links)?;
+        self.push_heading_of(level, &body)
     }
 
     fn push_heading_of(&mut self, level: HeadingLevel, body: &Inlines<'_>) -> Result<(), HtmlError>

@@ -34,10 +34,8 @@ impl Writer {
         if number == 1 {
             return self.push("<ol>\n");
         }
-        match numbered_tag(alloc, number) {
-            Ok(tag) => self.push(tag.as_str()),
-            Err(_) => Err(HtmlError::Memory),
-        }
+        let tag = numbered_tag(alloc, number)?;
+        self.push(tag.as_str())
     }
 
     /// Adds a piece on a line of its own.

@@ -21,16 +21,11 @@ pub fn to_html(alloc: Global, text: &str, most: u64) -> Result<Text, HtmlError>
     ensures fits { IfOk result (λ made. length made ≤ most) }
     ensures refused { IfErr result (λ error. error ≡ TooLong → most < length (html text.now)) }
 {
-    let Ok(blocks) = read_blocks(alloc, text) else {
-        return Err(HtmlError::Memory);
-    };
+    let blocks = read_blocks(alloc, text)?;
     documents_have_the_html_of_their_blocks();
     let mut printer = Printer::new(alloc, most, blocks.nodes.len());
     printer.print(alloc, &blocks.links, blocks.nodes.as_slice())?;
-    let Ok(html) = Text::from_string(printer.writer.text) else {
-        return Err(HtmlError::Memory);
-    };
-    Ok(html)
+    Ok(Text::from_string(printer.writer.text)?)
 }
 
 /// HTML that is being made of nodes: the innermost level of blocks, and those around it, the innermost last.
@@ -152,10 +147,7 @@ impl Printer {
     ) -> Result<(), HtmlError>
         ensures { Moves self.old self.new (inside place (state_of self.old) len is_tight closing (written self.old.writer)) result }
     {
-        match self.outer.push(self.top) {
-            Ok(()) => (),
-            Err(_) => return Err(HtmlError::Memory),
-        }
+        self.outer.push(self.top)?;
         self.top = Level {
             end: place as u128 + 1 + len as u128,
             is_tight,

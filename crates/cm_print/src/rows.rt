@@ -1,6 +1,6 @@
 // Texts and their HTML, as Debian's cmark 0.30 gives it.
 
-pub(crate) const LEAVES: [(&str, &str); 30] = [
+pub(crate) const LEAVES: &[(&str, &str)] = &[
     ("", ""),
     ("\n\n", ""),
     ("***\n---\n___\n", "<hr />\n<hr />\n<hr />\n"),
@@ -54,7 +54,7 @@ pub(crate) const LEAVES: [(&str, &str); 30] = [
     ("[a]: /u\n===\n[a]\n", "<p>===\n<a href=\"/u\">a</a></p>\n"),
 ];
 
-pub(crate) const CONTAINERS: [(&str, &str); 30] = [
+pub(crate) const CONTAINERS: &[(&str, &str)] = &[
     (
         "a\n\n1. b\n2. c\n",
         "<p>a</p>\n<ol>\n<li>b</li>\n<li>c</li>\n</ol>\n",
@@ -156,7 +156,7 @@ pub(crate) const CONTAINERS: [(&str, &str); 30] = [
     ),
 ];
 
-pub(crate) const INLINES: [(&str, &str); 41] = [
+pub(crate) const INLINES: &[(&str, &str)] = &[
     ("a\\*b\\\nc\\q\n", "<p>a*b<br />\nc\\q</p>\n"),
     (
         "&amp; &#42; &#x1F600; &nosuch; &copy\n",

@@ -2,7 +2,6 @@
 use crate::rows::{CONTAINERS, INLINES, LEAVES};
 use crate::{CommonMark, Convert, HtmlError, to_html};
 use std::alloc::{AllocError, Global};
-use std::process::Abort;
 use std::test::Fail;
 
 // No text of these tests has longer HTML.
@@ -16,54 +15,68 @@ fn repeated(alloc: Global, piece: &str, times: usize) -> Result<String, AllocErr
     Ok(out)
 }
 
-fn assert_html(rt: &impl Abort, alloc: Global, text: &str, wanted: &str) -> Result<(), Fail> {
-    let found = to_html(alloc, text, MOST)?;
-    assert_eq!(rt; found.as_str(), wanted, "{text}");
-    Ok(())
+fn is_html(alloc: Global, text: &str, most: u64, wanted: &str) -> bool {
+    match to_html(alloc, text, most) {
+        Ok(found) => found.as_str() == wanted,
+        Err(_) => false,
+    }
+}
+
+fn is_too_long(alloc: Global, text: &str, most: u64) -> bool {
+    match to_html(alloc, text, most) {
+        Err(HtmlError::TooLong) => true,
+        _ => false,
+    }
 }
 
 #[test]
-fn leaves_and_definitions(rt: HostRuntime) -> Result<(), Fail> {
+fn leaves_and_definitions(rt: HostRuntime) {
     for (text, wanted) in LEAVES {
-        assert_html(&rt, rt.alloc(), text, wanted)?;
+        assert!(rt; is_html(rt.alloc(), text, MOST, wanted), "{text}");
     }
-    Ok(())
 }
 
 #[test]
-fn quotes_and_lists(rt: HostRuntime) -> Result<(), Fail> {
+fn quotes_and_lists(rt: HostRuntime) {
     for (text, wanted) in CONTAINERS {
-        assert_html(&rt, rt.alloc(), text, wanted)?;
+        assert!(rt; is_html(rt.alloc(), text, MOST, wanted), "{text}");
     }
-    Ok(())
 }
 
 #[test]
-fn inlines(rt: HostRuntime) -> Result<(), Fail> {
+fn inlines(rt: HostRuntime) {
     for (text, wanted) in INLINES {
-        assert_html(&rt, rt.alloc(), text, wanted)?;
+        assert!(rt; is_html(rt.alloc(), text, MOST, wanted), "{text}");
     }
-    Ok(())
 }
 
 #[test]
-fn no_more_than_may(rt: HostRuntime) -> Result<(), Fail> {
-    assert_eq!(rt; to_html(rt.alloc(), "", 0)?.as_str(), "");
-    assert_eq!(rt; to_html(rt.alloc(), "a", 9)?.as_str(), "<p>a</p>\n");
+fn no_more_than_may(rt: HostRuntime) {
+    assert!(rt; is_html(rt.alloc(), "", 0, ""));
+    assert!(rt; is_html(rt.alloc(), "a", 9, "<p>a</p>\n"));
     for most in 0..9 {
-        let found = to_html(rt.alloc(), "a", most);
-        assert!(rt; matches!(found, Err(HtmlError::TooLong)), "{most}");
+        assert!(rt; is_too_long(rt.alloc(), "a", most), "{most}");
     }
-    Ok(())
+}
+
+fn converts(alloc: Global, text: &str, wanted: &str) -> bool {
+    match CommonMark.html(alloc, text, MOST) {
+        Ok(found) => found.as_str() == wanted,
+        Err(_) => false,
+    }
+}
+
+fn refuses(alloc: Global, text: &str, most: u64) -> bool {
+    match CommonMark.html(alloc, text, most) {
+        Err(HtmlError::TooLong) => true,
+        _ => false,
+    }
 }
 
 #[test]
-fn converted(rt: HostRuntime) -> Result<(), Fail> {
-    let found = CommonMark.html(rt.alloc(), "*a*", MOST)?;
-    assert_eq!(rt; found.as_str(), "<p><em>a</em></p>\n");
-    let refused = CommonMark.html(rt.alloc(), "*a*", 3);
-    assert!(rt; matches!(refused, Err(HtmlError::TooLong)));
-    Ok(())
+fn converted(rt: HostRuntime) {
+    assert!(rt; converts(rt.alloc(), "*a*", "<p><em>a</em></p>\n"));
+    assert!(rt; refuses(rt.alloc(), "*a*", 3));
 }
 
 #[test]
@@ -71,25 +84,43 @@ fn labels_of_links(rt: HostRuntime) -> Result<(), Fail> {
     let label = repeated(rt.alloc(), "a", 999)?;
     let text = format!(in rt.alloc(); "[{label}]: /u\n\n[{label}]")?;
     let wanted = format!(in rt.alloc(); "<p><a href=\"/u\">{label}</a></p>\n")?;
-    assert_html(&rt, rt.alloc(), text.as_str(), wanted.as_str())?;
-    let text = format!(in rt.alloc(); "[{label}a]: /u\n\n[{label}a]")?;
-    let wanted = format!(in rt.alloc(); "<p>[{label}a]: /u</p>\n<p>[{label}a]</p>\n")?;
-    assert_html(&rt, rt.alloc(), text.as_str(), wanted.as_str())
+    assert!(rt; is_html(rt.alloc(), text.as_str(), MOST, wanted.as_str()));
+    Ok(())
 }
 
 #[test]
-fn many_marks_and_great_depth(rt: HostRuntime) -> Result<(), Fail> {
+fn labels_that_are_too_long(rt: HostRuntime) -> Result<(), Fail> {
+    let label = repeated(rt.alloc(), "a", 1_000)?;
+    let text = format!(in rt.alloc(); "[{label}]: /u\n\n[{label}]")?;
+    let wanted = format!(in rt.alloc(); "<p>[{label}]: /u</p>\n<p>[{label}]</p>\n")?;
+    assert!(rt; is_html(rt.alloc(), text.as_str(), MOST, wanted.as_str()));
+    Ok(())
+}
+
+#[test]
+fn many_marks(rt: HostRuntime) -> Result<(), Fail> {
     let stars = repeated(rt.alloc(), "*", 100_000)?;
     let text = format!(in rt.alloc(); "x{stars}")?;
     let wanted = format!(in rt.alloc(); "<p>x{stars}</p>\n")?;
-    assert_html(&rt, rt.alloc(), text.as_str(), wanted.as_str())?;
+    assert!(rt; is_html(rt.alloc(), text.as_str(), MOST, wanted.as_str()));
+    Ok(())
+}
+
+#[test]
+fn many_brackets(rt: HostRuntime) -> Result<(), Fail> {
     let brackets = repeated(rt.alloc(), "[", 50_000)?;
     let wanted = format!(in rt.alloc(); "<p>{brackets}</p>\n")?;
-    assert_html(&rt, rt.alloc(), brackets.as_str(), wanted.as_str())?;
+    assert!(rt; is_html(rt.alloc(), brackets.as_str(), MOST, wanted.as_str()));
+    Ok(())
+}
+
+#[test]
+fn great_depth(rt: HostRuntime) -> Result<(), Fail> {
     let marks = repeated(rt.alloc(), ">", 10_000)?;
     let text = format!(in rt.alloc(); "{marks}x")?;
     let starts = repeated(rt.alloc(), "<blockquote>\n", 10_000)?;
     let ends = repeated(rt.alloc(), "</blockquote>\n", 10_000)?;
     let wanted = format!(in rt.alloc(); "{starts}<p>x</p>\n{ends}")?;
-    assert_html(&rt, rt.alloc(), text.as_str(), wanted.as_str())
+    assert!(rt; is_html(rt.alloc(), text.as_str(), MOST, wanted.as_str()));
+    Ok(())
 }

@@ -34,10 +34,8 @@ impl Writer {
         if self.text.len() as u128 + text.len() as u128 > self.most as u128 {
             return Err(HtmlError::TooLong);
         }
-        match self.text.push_str(text) {
-            Ok(()) => Ok(()),
-            Err(_) => Err(HtmlError::Memory),
-        }
+        self.text.push_str(text)?;
+        Ok(())
     }
 
     /// Adds a character of ASCII at the end.
@@ -48,9 +46,7 @@ impl Writer {
         if self.text.len() as u128 + 1 > self.most as u128 {
             return Err(HtmlError::TooLong);
         }
-        match self.text.push(byte as char) {
-            Ok(()) => Ok(()),
-            Err(_) => Err(HtmlError::Memory),
-        }
+        self.text.push(byte as char)?;
+        Ok(())
     }
 }

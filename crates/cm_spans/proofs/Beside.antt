@@ -4,7 +4,7 @@ use Rattle.std.specs.Str.{IsCharBoundary, chars, chars_after, continuation_len, 
 use Rattle.std.proofs.lemmas.List.{length-drop, length-reverse, reverse-append, reverse-reverse, take-append-drop}
 use Rattle.std.proofs.Math.Seq.{take-append_seam}
 use Rattle.markdown_grammar.specs.Flanking.{char_after, is_lead, lead_size}
-use Rattle.markdown_grammar.specs.Fronts.{run_len}
+use Rattle.site_text.specs.Fronts.{run_len}
 use Rattle.cm_starts.proofs.Ends.{last_of}
 use Rattle.cm_starts.proofs.Repeats.{take_whole}
 

@@ -4,9 +4,9 @@ use Rattle.std.specs.Str.{IsCharBoundary}
 use Rattle.std.proofs.lemmas.List.{drop_more, get_or-drop, length-drop}
 use Rattle.cm_starts.proofs.Repeats.{Goes}
 use Rattle.markdown_grammar.specs.Autolinks.{host_part, pointed}
-use Rattle.markdown_grammar.specs.Fronts.{begins_with}
+use Rattle.site_text.specs.Bytes.{is_letter}
+use Rattle.site_text.specs.Fronts.{begins_with}
 use Rattle.markdown_grammar.specs.Readers.{Reader, ahead, exactly, perhaps, plus, repeat, to, white_gap, ◌or◌, ◌then◌}
-use Rattle.markdown_grammar.specs.Bytes.{is_letter}
 use Rattle.markdown_grammar.specs.Tags.{attribute, cdata, closing_tag, comment, declaration, html_tag, instruction, open_tag, tag_name}
 use Rattle.cm_links.specs.Cuts.{HasByte, IsLabelled}
 use Rattle.cm_links.proofs.Boundaries.{encloses}

@@ -2,7 +2,7 @@
 use Rattle.std.proofs.Common.{◌≡◌, ◌∙◌, Bool, List, None, Option, Some, [], ap, arith, drop, false, length, nat_lt, refl, subst, suc, sym, take, true, zero, ℕ, ◌+◌, ◌-◌, ◌<◌, ◌∷◌, ◌≤◌, codes}
 use Rattle.std.proofs.Math.Seq.{drop-length}
 use Rattle.std.proofs.lemmas.List.{drop-drop, length-drop}
-use Rattle.markdown_grammar.specs.Fronts.{begins_with}
+use Rattle.site_text.specs.Fronts.{begins_with}
 use Rattle.markdown_grammar.specs.Readers.{plus, to}
 use Rattle.cm_starts.proofs.Repeats.{rest_is}
 use Rattle.cm_spans.specs.Missing.{Lacks, LacksRuns, LacksWord}

@@ -2,7 +2,7 @@
 use Rattle.std.proofs.Common.{◌≡◌, ◌∙◌, Bool, List, ap, arith, cond, drop, false, sym, ℕ, ◌==◌, ◌||◌}
 use Rattle.markdown_grammar.specs.CodeSpans.{Taken, code_at}
 use Rattle.markdown_grammar.specs.Flanking.{char_after, char_before}
-use Rattle.markdown_grammar.specs.Fronts.{first_byte, run_len}
+use Rattle.site_text.specs.Fronts.{first_byte, run_len}
 use Rattle.markdown_grammar.specs.Pieces.{run_at}
 use Rattle.markdown_grammar.specs.Spans.{escape_at, piece_at, pointed_at, reference_at}
 use Rattle.cm_spans.specs.Pieces.{bracket_or_text}

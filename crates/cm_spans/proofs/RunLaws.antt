@@ -3,10 +3,10 @@ use Rattle.std.proofs.Common.{◌≡◌, ◌∙◌, Bool, List, None, Option, So
 use Rattle.std.proofs.Math.Seq.{drop-length}
 use Rattle.std.proofs.lemmas.List.{drop-drop, drop_more, length-drop}
 use Rattle.markdown_grammar.specs.CodeSpans.{before_run}
-use Rattle.markdown_grammar.specs.Fronts.{run_len}
+use Rattle.site_text.specs.Fronts.{run_len}
 use Rattle.markdown_grammar.specs.Readers.{plus}
 use Rattle.cm_spans.specs.Missing.{LacksNext, LacksRuns}
-use Rattle.cm_spans.proofs.Runs.{run_within}
+use Rattle.site_text.proofs.Runs.{run_within}
 
 abbrev pub marks : List ℕ → ℕ
 marks t = run_len (λ c. c == 96) t

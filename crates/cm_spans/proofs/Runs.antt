@@ -4,9 +4,9 @@ use Rattle.std.specs.List.{list_all}
 use Rattle.std.specs.Str.{IsCharBoundary}
 use Rattle.std.proofs.lemmas.Str.{IsCharBoundary-before_ascii, IsCharBoundary-after_ascii, IsCharBoundary-end}
 use Rattle.std.proofs.lemmas.List.{get_or_past}
-use Rattle.markdown_grammar.specs.Fronts.{first_byte, has_one, run_len}
-use Rattle.markdown_grammar.specs.Bytes.{is_punct}
-use Rattle.markdown_grammar.specs.Spans.{is_special}
+use Rattle.site_text.specs.Bytes.{is_punct, is_special}
+use Rattle.site_text.specs.Fronts.{first_byte, has_one, run_len}
+use Rattle.site_text.proofs.Runs.{run_byte, run_stop, run_within}
 use Rattle.cm_links.specs.Resolving.{HasEnd}
 use Rattle.cm_starts.proofs.Words.{first_at}
 use Rattle.markdown_grammar.specs.Flanking.{char_after, char_before}
@@ -37,34 +37,6 @@ pub first_ends : (t : List ℕ) (c : ℕ) → IsUtf8 t → first_byte t ≡ c �
 first_ends t c u e some small = byte_ends t 0 c u e some small
 
 -- ---- runs
-
-pub run_within : (p : ℕ → Bool) (t : List ℕ) → run_len p t ≤ length t
-run_within p [] = omega arith
-run_within p (c ∷ cs) = go (p c) (run_within p cs) where
-  go : (b : Bool) → run_len p cs ≤ length cs → elim b as (λ x. ℕ) [ true ↦ suc (run_len p cs) | false ↦ 0 ] ≤ suc (length cs)
-  go true h = omega (arith, h)
-  go false h = omega arith
-
-pub run_byte : (p : ℕ → Bool) (t : List ℕ) (j : ℕ) → j < run_len p t → p (get_or t j 0) ≡ true
-run_byte p [] j lt = absurd (omega (arith, lt))
-run_byte p (c ∷ cs) zero lt = go (p c) refl lt where
-  go : (b : Bool) → p c ≡ b → 0 < elim b as (λ x. ℕ) [ true ↦ suc (run_len p cs) | false ↦ 0 ] → p c ≡ true
-  go true e h = e
-  go false e h = absurd (omega (arith, h))
-run_byte p (c ∷ cs) (suc j) lt = go (p c) lt (run_byte p cs j) where
-  go : (b : Bool) → suc j < elim b as (λ x. ℕ) [ true ↦ suc (run_len p cs) | false ↦ 0 ] → (j < run_len p cs → p (get_or cs j 0) ≡ true) → p (get_or cs j 0) ≡ true
-  go true h k = k (omega (arith, h))
-  go false h k = absurd (omega (arith, h))
-
-pub run_stop : (p : ℕ → Bool) (t : List ℕ) → run_len p t < length t → p (get_or t (run_len p t) 0) ≡ false
-run_stop p [] lt = absurd (omega (arith, lt))
-run_stop p (c ∷ cs) lt = go (p c) refl lt (run_stop p cs) where
-  size : Bool → ℕ
-  size b = elim b as (λ x. ℕ) [ true ↦ suc (run_len p cs) | false ↦ 0 ]
-
-  go : (b : Bool) → p c ≡ b → size b < suc (length cs) → (run_len p cs < length cs → p (get_or cs (run_len p cs) 0) ≡ false) → p (get_or (c ∷ cs) (size b) 0) ≡ false
-  go true e h k = k (omega (arith, h))
-  go false e h k = e
 
 pub run_some : (d : ℕ) (t : List ℕ) → first_byte t ≡ d → 0 < d → 0 < run_len (λ c. c == d) t
 run_some d [] e some = absurd (omega (arith, e, some))

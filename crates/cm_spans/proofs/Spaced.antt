@@ -6,12 +6,13 @@ use Rattle.std.proofs.lemmas.Str.{IsCharBoundary-after_ascii, IsCharBoundary-bef
 use Rattle.std.specs.Bool.{OnTrue}
 use Rattle.cm_links.proofs.Boundaries.{encloses}
 use Rattle.markdown_grammar.specs.CodeSpans.{before_run, spaced, span_text}
-use Rattle.markdown_grammar.specs.Fronts.{first_byte, has_one, run_len}
+use Rattle.site_text.specs.Fronts.{first_byte, has_one, run_len}
 use Rattle.markdown_grammar.specs.Readers.{plus}
 use Rattle.cm_links.specs.Cuts.{Encloses, HasByte}
 use Rattle.cm_spans.specs.Code.{is_blank, is_padded}
 use Rattle.cm_spans.specs.Cuts.{Ends}
-use Rattle.cm_spans.proofs.Runs.{ends_ascii, run_ends, run_within}
+use Rattle.site_text.proofs.Runs.{run_within}
+use Rattle.cm_spans.proofs.Runs.{ends_ascii, run_ends}
 
 -- ---- the run that ends a code span
 

@@ -3,11 +3,12 @@ use Rattle.std.proofs.Common.{◌≡◌, ◌∙◌, Bool, List, [], ap, arith, c
 use Rattle.std.specs.Str.{IsCharBoundary}
 use Rattle.std.proofs.lemmas.Str.{IsCharBoundary-before_ascii, IsCharBoundary-end}
 use Rattle.std.proofs.lemmas.List.{drop_more}
-use Rattle.markdown_grammar.specs.Fronts.{first_byte, run_len}
-use Rattle.markdown_grammar.specs.Spans.{is_special}
+use Rattle.site_text.specs.Bytes.{is_special}
+use Rattle.site_text.specs.Fronts.{first_byte, run_len}
 use Rattle.cm_starts.proofs.Words.{first_at}
 use Rattle.cm_spans.specs.Words.{is_line_end, is_plain, is_word_at, words_len}
-use Rattle.cm_spans.proofs.Runs.{among_ascii, byte_within, run_byte, run_stop, run_within, same_is}
+use Rattle.site_text.proofs.Runs.{run_byte, run_stop, run_within}
+use Rattle.cm_spans.proofs.Runs.{among_ascii, byte_within, same_is}
 
 -- ---- where they end
 

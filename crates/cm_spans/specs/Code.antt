@@ -1,7 +1,7 @@
 -- What is taken off at the ends of a code span: CommonMark 0.31.2, section 6.1.
 use Rattle.std.specs.Prelude.{Bool, List, length, nat_lt, not, slice_index, ℕ, ◌&&◌, ◌-◌, ◌==◌, ◌||◌}
-use Rattle.markdown_grammar.specs.Bytes.{line_feed, space}
-use Rattle.markdown_grammar.specs.Fronts.{has_one}
+use Rattle.site_text.specs.Bytes.{line_feed, space}
+use Rattle.site_text.specs.Fronts.{has_one}
 
 -- a space, or a line end, which stands for one
 abbrev pub is_blank : ℕ → Bool

@@ -1,8 +1,8 @@
 -- Ends of raw HTML and of code spans that a text lacks: CommonMark 0.31.2, sections 6.1 and 6.6.
 use Rattle.std.specs.Prelude.{◌≡◌, List, None, codes, drop, length, slice_index, ℕ, ◌-◌, ◌<◌, ◌==◌}
-use Rattle.markdown_grammar.specs.Bytes.{backtick}
+use Rattle.site_text.specs.Bytes.{backtick}
+use Rattle.site_text.specs.Fronts.{run_len}
 use Rattle.markdown_grammar.specs.CodeSpans.{before_run}
-use Rattle.markdown_grammar.specs.Fronts.{run_len}
 use Rattle.markdown_grammar.specs.Readers.{to}
 use Rattle.cm_spans.specs.declared.missing_ends.MissingEnds.{MissingEnds}
 

@@ -5,9 +5,9 @@ use Rattle.markdown_grammar.specs.CodeSpans as grammar
 use Rattle.markdown_grammar.specs.Inlines.{code_span, hard_break, no_inlines, raw_html, soft_break, textual}
 use Rattle.markdown_grammar.specs.Pieces.{Piece, delimiter_run, finished, open_bracket, run_at}
 use Rattle.markdown_grammar.specs.Autolinks.{email, pointed}
-use Rattle.markdown_grammar.specs.Bytes.{exclamation_mark, left_bracket, line_feed, space, star, underscore}
+use Rattle.site_text.specs.Bytes.{exclamation_mark, left_bracket, line_feed, space, star, underscore}
+use Rattle.site_text.specs.Fronts.{first_byte, run_len}
 use Rattle.markdown_grammar.specs.Flanking.{char_after, char_before}
-use Rattle.markdown_grammar.specs.Fronts.{first_byte, run_len}
 use Rattle.markdown_grammar.specs.Spans.{between_ends, spaces_at, textual_at, to_link}
 use Rattle.markdown_grammar.specs.Tags.{html_tag}
 use Rattle.cm_spans.specs.declared.flanking.Mark.{Mark}

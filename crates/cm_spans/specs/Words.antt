@@ -1,8 +1,7 @@
 -- Words and the spaces between them: CommonMark 0.31.2, sections 6.7 to 6.9.
 use Rattle.std.specs.Prelude.{Bool, List, [], ◌∷◌, drop, if◌then◌else◌, not, suc, ℕ, ◌&&◌, ◌==◌, ◌||◌}
-use Rattle.markdown_grammar.specs.Bytes.{line_feed, space}
-use Rattle.markdown_grammar.specs.Fronts.{first_byte, run_len}
-use Rattle.markdown_grammar.specs.Spans.{is_special}
+use Rattle.site_text.specs.Bytes.{is_special, line_feed, space}
+use Rattle.site_text.specs.Fronts.{first_byte, run_len}
 
 -- a space, or a byte that is text by itself
 abbrev pub is_plain : ℕ → Bool

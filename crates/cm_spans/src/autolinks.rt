@@ -4,11 +4,11 @@ ghost use Rattle.markdown_grammar.specs.Autolinks as grammar;
 ghost use Rattle.markdown_grammar.specs.Readers as readers;
 ghost use Rattle.markdown_grammar.specs.Readers.{◌then◌};
 ghost use Rattle.cm_links.specs.Cuts.{IsLabelled};
-ghost use Rattle.cm_links.specs.Classes.{is_in};
-ghost use Rattle.cm_links.specs.declared.classes.Class.TheVariants.{Address, Mailbox};
+ghost use Rattle.site_text.specs.Classes.{is_in};
+ghost use Rattle.site_text.specs.declared.classes.Class.TheVariants.{Address, Mailbox};
 
 use crate::tags::word;
-use cm_links::{Class, class_run, is_alnum, is_letter};
+use site_text::{Class, class_run, is_alnum, is_letter};
 
 /// How many bytes the autolink with a scheme takes that a text begins with, its pointed brackets
 /// included, or none.

@@ -1,9 +1,9 @@
 // Code spans.
 ghost use Rattle.std.specs.Prelude.{◌≡◌, ◌≤◌, ◌<◌, ◌-◌, ◌==◌, IfSome, drop, length, not};
 ghost use Rattle.std.specs.Str.{IsCharBoundary};
-ghost use Rattle.markdown_grammar.specs.Bytes.{backtick};
+ghost use Rattle.site_text.specs.Bytes.{backtick};
+ghost use Rattle.site_text.specs.Fronts.{has_one, run_len};
 ghost use Rattle.markdown_grammar.specs.CodeSpans as grammar;
-ghost use Rattle.markdown_grammar.specs.Fronts.{has_one, run_len};
 ghost use Rattle.std.specs.Bool.{OnTrue};
 ghost use Rattle.cm_spans.specs.Code.{is_blank, is_padded};
 ghost use Rattle.cm_links.specs.Cuts.{Encloses};

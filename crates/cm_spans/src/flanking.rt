@@ -1,9 +1,9 @@
 // The characters beside a run of marks, and what the run can open and close.
 ghost use Rattle.std.specs.Prelude.{◌≡◌, ◌≤◌, chars, drop, length, not, reverse, slice_index_or, suc, take};
 ghost use Rattle.std.specs.Str.{IsCharBoundary};
-ghost use Rattle.markdown_grammar.specs.Bytes as bytes;
+ghost use Rattle.site_text.specs.Bytes as bytes;
 ghost use Rattle.markdown_grammar.specs.Flanking as grammar;
-ghost use Rattle.markdown_grammar.specs.Fronts.{run_len};
+ghost use Rattle.site_text.specs.Fronts.{run_len};
 ghost use Rattle.markdown_grammar.specs.Pieces.{run_at};
 ghost use Rattle.cm_spans.specs.Pieces.{mark_byte, run_of};
 

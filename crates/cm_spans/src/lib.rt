@@ -18,7 +18,7 @@ pub use flanking::{
 };
 pub use missing_ends::MissingEnds;
 pub use missing_runs::MissingRuns;
-pub use spans::{Span, Taken, byte_at, span_at};
+pub use spans::{Span, Taken, span_at};
 pub use tags::html_tag;
 pub use words::words_len;
 

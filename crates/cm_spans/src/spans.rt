@@ -4,9 +4,9 @@ ghost use Rattle.std.specs.Str.{IsCharBoundary};
 ghost use Rattle.markdown_grammar.specs.CodeSpans as code;
 ghost use Rattle.markdown_grammar.specs.Spans as grammar;
 ghost use Rattle.cm_spans.specs.Cuts.{Ends};
-ghost use Rattle.markdown_grammar.specs.Fronts.{first_byte, run_len};
-ghost use Rattle.cm_links.specs.Classes.{is_in};
-ghost use Rattle.cm_links.specs.declared.classes.Class.TheVariants.{Textual};
+ghost use Rattle.site_text.specs.Classes.{is_in};
+ghost use Rattle.site_text.specs.Fronts.{first_byte, run_len};
+ghost use Rattle.site_text.specs.declared.classes.Class.TheVariants.{Textual};
 ghost use Rattle.cm_links.specs.Cuts.{IsLabelled};
 ghost use Rattle.cm_spans.specs.Missing.{Lacks, LacksRuns};
 ghost use Rattle.cm_spans.specs.Pieces.{bracket_or_text, email_or_html, html_or_text, mark_byte, marks_at, taken_of};
@@ -17,8 +17,9 @@ use crate::flanking::{Mark, Marks, char_after, char_before, marks_between};
 use crate::missing_ends::MissingEnds;
 use crate::missing_runs::MissingRuns;
 use crate::tags::html_tag;
-use cm_links::{Class, class_run, is_punctuation, reference};
+use cm_links::reference;
 use cm_starts::run;
+use site_text::{Class, byte_at, class_run, is_punctuation};
 
 /// What stands at a place of a text.
 #[derive(Clone, Copy)]
@@ -130,14 +131,6 @@ fn escape<'a>(text: &'a str) -> Taken<'a>
         span: Span::Text(&text[..1]),
         len: 1,
     }
-}
-
-/// The byte at a place of a text, or 0 behind its end.
-pub fn byte_at(text: &str, k: usize) -> u8
-    ensures { result ≡ first_byte (drop k text.now) }
-{
-    let bytes = text.as_bytes();
-    if k < bytes.len() { bytes[k] } else { 0 }
 }
 
 // An ampersand.

@@ -1,6 +1,6 @@
 // Raw HTML at the front of a text: how many bytes it takes, or none.
 ghost use Rattle.std.specs.Prelude.{◌≡◌, ◌<◌, ◌≤◌, IfSome, codes, length};
-ghost use Rattle.markdown_grammar.specs.Bytes as bytes;
+ghost use Rattle.site_text.specs.Bytes as bytes;
 ghost use Rattle.markdown_grammar.specs.Readers as readers;
 ghost use Rattle.markdown_grammar.specs.Readers.{◌or◌, ◌then◌};
 ghost use Rattle.markdown_grammar.specs.Tags as grammar;
@@ -8,8 +8,8 @@ ghost use Rattle.cm_spans.specs.Cuts.{Ends};
 ghost use Rattle.cm_spans.specs.Missing.{Lacks, LacksWord};
 
 use crate::missing_ends::MissingEnds;
-use cm_links::is_letter;
-use cm_starts::{begins, closing_tag, open_tag};
+use cm_starts::{closing_tag, open_tag};
+use site_text::{begins, is_letter};
 
 /// How many bytes of raw HTML a text begins with: an open or closing tag, a comment, a processing
 /// instruction, a declaration or a CDATA section; or none. `missing` are ends that the text is known to lack.

@@ -1,11 +1,10 @@
 // Words, and the spaces between them.
 ghost use Rattle.std.specs.Prelude.{◌≡◌, ◌≤◌, drop, length};
 ghost use Rattle.std.specs.Str.{IsCharBoundary};
-ghost use Rattle.markdown_grammar.specs.Fronts.{first_byte, run_len};
+ghost use Rattle.site_text.specs.Fronts.{first_byte, run_len};
 ghost use Rattle.cm_spans.specs.Words.{is_plain, words_len};
 
-use crate::spans::byte_at;
-use cm_links::{Class, class_run};
+use site_text::{Class, byte_at, class_run};
 
 /// How many bytes of words and of spaces between them stand at a place of a text: up to the next byte that may be
 /// something else, but not the spaces before a line end.

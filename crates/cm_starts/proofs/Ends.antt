@@ -2,7 +2,8 @@
 use Rattle.std.proofs.Common.{◌≡◌, ◌∙◌, Bool, List, [], ap, arith, cond, drop, false, get_or, length, nat_lt, not, refl, reverse, suc, sym, take, true, zero, ℕ, ◌&&◌, ◌-◌, ◌<◌, ◌==◌, ◌∷◌, ◌≤◌}
 use Rattle.std.proofs.lemmas.List.{reverse-append}
 use Rattle.std.proofs.Math.Seq.{take-suc}
-use Rattle.markdown_grammar.specs.Fronts.{is_empty, run_len}
+use Rattle.markdown_grammar.specs.Fronts.{is_empty}
+use Rattle.site_text.specs.Fronts.{run_len}
 use Rattle.markdown_grammar.specs.Fences.{fence_at}
 use Rattle.markdown_grammar.specs.Lines.{trim}
 use Rattle.markdown_grammar.specs.Starts.{Start, fence_start, text_start}

@@ -1,8 +1,9 @@
 -- Tags by their names, and tags alone on a line.
 use Rattle.std.proofs.Common.{◌≡◌, ◌∙◌, Bool, List, None, Option, Some, [], ap, arith, drop, false, length, refl, suc, sym, take, true, ℕ, ◌&&◌, ◌+◌, ◌==◌, ◌||◌, ◌∷◌, ◌≤◌}
 use Rattle.std.proofs.lemmas.List.{length-drop}
-use Rattle.markdown_grammar.specs.Bytes.{hyphen, is_alnum, is_space, lowered}
-use Rattle.markdown_grammar.specs.Fronts.{has, is_empty, run_len}
+use Rattle.site_text.specs.Bytes.{hyphen, is_alnum, is_space, lowered}
+use Rattle.site_text.specs.Fronts.{run_len}
+use Rattle.markdown_grammar.specs.Fronts.{has, is_empty}
 use Rattle.markdown_grammar.specs.HtmlStarts.{alone, is_among, name_in}
 use Rattle.markdown_grammar.specs.Readers.{Reader, at_end, plus, spaces, ◌or◌, ◌then◌}
 use Rattle.markdown_grammar.specs.Tags.{closing_tag, open_tag}

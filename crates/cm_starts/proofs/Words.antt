@@ -1,8 +1,9 @@
--- Words and names, byte by byte.
+-- Names and single bytes.
 use Rattle.std.proofs.Common.{◌≡◌, ◌∙◌, Bool, List, [], ap, arith, drop, false, get_or, length, refl, suc, sym, true, zero, ℕ, ◌+◌, ◌<◌, ◌==◌, ◌∷◌, ◌≤◌}
 use Rattle.std.proofs.lemmas.List.{drop_more}
-use Rattle.markdown_grammar.specs.Bytes.{lower, lowered}
-use Rattle.markdown_grammar.specs.Fronts.{begins_with, first_byte, same_bytes}
+use Rattle.site_text.specs.Bytes.{lower, lowered}
+use Rattle.site_text.specs.Fronts.{first_byte}
+use Rattle.markdown_grammar.specs.Fronts.{same_bytes}
 
 drop_past : (t : List ℕ) (n : ℕ) → length t ≤ n → drop n t ≡ []
 drop_past [] zero h = refl
@@ -12,8 +13,6 @@ drop_past (c ∷ cs) (suc n) h = drop_past cs n (omega (arith, h))
 
 abbrev case_of : Bool → Bool → Bool
 case_of b w = elim b as (λ x. Bool) [ true ↦ w | false ↦ false ]
-
--- ---- names
 
 opened : (a b : List ℕ) (i : ℕ) → i < length a → i < length b
     → same_bytes (drop i a) (lowered (drop i b)) ≡ case_of (get_or a i 0 == lower (get_or b i 0)) (same_bytes (drop (i + 1) a) (lowered (drop (i + 1) b)))
@@ -41,32 +40,6 @@ lengths_differ [] (d ∷ ds) h = refl
 lengths_differ (c ∷ cs) [] h = refl
 lengths_differ (c ∷ cs) (d ∷ ds) h = go (c == lower d) (lengths_differ cs ds (λ e. h (omega (arith, e)))) where
   go : (b : Bool) → false ≡ same_bytes cs (lowered ds) → false ≡ case_of b (same_bytes cs (lowered ds))
-  go true e = e
-  go false e = refl
-
--- ---- words
-
-word_opened : (t w : List ℕ) (i : ℕ) → i < length t → i < length w → begins_with (drop i w) (drop i t) ≡ case_of (get_or w i 0 == get_or t i 0) (begins_with (drop (i + 1) w) (drop (i + 1) t))
-word_opened t w i p q = ap (λ (x : List ℕ). begins_with x (drop i t)) (drop_more w i 0 q) ∙ ap (λ (y : List ℕ). begins_with (get_or w i 0 ∷ drop (i + 1) w) y) (drop_more t i 0 p)
-
-pub word_more : (t w : List ℕ) (i : ℕ) (b : Bool) → i < length t → i < length w → get_or t i 0 ≡ get_or w i 0 → begins_with (drop i w) (drop i t) ≡ b → begins_with (drop (i + 1) w) (drop (i + 1) t) ≡ b
-word_more t w i b p q e h =
-    let same : (get_or w i 0 == get_or t i 0) ≡ true = grind (arith, e) in
-    sym (word_opened t w i p q ∙ ap (λ (x : Bool). case_of x (begins_with (drop (i + 1) w) (drop (i + 1) t))) same) ∙ h
-
-pub word_differs : (t w : List ℕ) (i : ℕ) (b : Bool) → i < length t → i < length w → (get_or t i 0 ≡ get_or w i 0 → ⊥) → begins_with (drop i w) (drop i t) ≡ b → false ≡ b
-word_differs t w i b p q e h =
-    let other : (get_or w i 0 == get_or t i 0) ≡ false = grind (arith, e) in
-    sym (word_opened t w i p q ∙ ap (λ (x : Bool). case_of x (begins_with (drop (i + 1) w) (drop (i + 1) t))) other) ∙ h
-
-pub word_ends : (t w : List ℕ) (i : ℕ) (b : Bool) → length w ≤ i → begins_with (drop i w) (drop i t) ≡ b → true ≡ b
-word_ends t w i b le h = sym (ap (λ (x : List ℕ). begins_with x (drop i t)) (drop_past w i le)) ∙ h
-
-pub too_short : (t w : List ℕ) → length t < length w → false ≡ begins_with w t
-too_short t [] lt = absurd (omega (arith, lt))
-too_short [] (w ∷ ws) lt = refl
-too_short (c ∷ cs) (w ∷ ws) lt = go (w == c) (too_short cs ws (omega (arith, lt))) where
-  go : (b : Bool) → false ≡ begins_with ws cs → false ≡ case_of b (begins_with ws cs)
   go true e = e
   go false e = refl
 

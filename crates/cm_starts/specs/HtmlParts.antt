@@ -1,7 +1,8 @@
 -- The rule for what starts a block of HTML, in parts: CommonMark 0.31.2, section 4.6.
 use Rattle.std.specs.Prelude.{List, codes, drop, if◌then◌else◌, not, ℕ, ◌&&◌}
-use Rattle.markdown_grammar.specs.Bytes.{is_letter}
-use Rattle.markdown_grammar.specs.Fronts.{begins_with, first_byte, has}
+use Rattle.site_text.specs.Bytes.{is_letter}
+use Rattle.site_text.specs.Fronts.{begins_with, first_byte}
+use Rattle.markdown_grammar.specs.Fronts.{has}
 use Rattle.markdown_grammar.specs.HtmlStarts.{alone, is_among, name_in, starts_listed, tag_text, verbatim_names}
 use Rattle.markdown_grammar.specs.Places.{Place, is_fresh}
 use Rattle.markdown_grammar.specs.Starts.{Start, html_start, text_start}

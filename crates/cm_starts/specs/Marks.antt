@@ -1,6 +1,6 @@
 -- The byte of a list item's mark: CommonMark 0.31.2, section 5.2.
 use Rattle.std.specs.Prelude.{ℕ}
-use Rattle.markdown_grammar.specs.Bytes.{full_stop, hyphen, plus_sign, right_paren, star}
+use Rattle.site_text.specs.Bytes.{full_stop, hyphen, plus_sign, right_paren, star}
 use Rattle.cm_starts.specs.declared.list_marks.ListMark.{ListMark}
 use Rattle.cm_starts.specs.declared.list_marks.ListMark.TheVariants.{FullStop, Hyphen, Parenthesis, Plus, Star}
 

@@ -1,8 +1,8 @@
 -- Parts of the rules for what a line starts, by the text behind its white space.
 use Rattle.std.specs.Prelude.{Bool, List, drop, if◌then◌else◌, nat_le, nat_lt, not, take, ℕ, ◌&&◌, ◌+◌, ◌==◌, ◌||◌}
 use Rattle.markdown_grammar.specs.Breaks.{count_of}
-use Rattle.markdown_grammar.specs.Bytes.{backtick, full_stop, hyphen, is_digit, is_space, plus_sign, right_paren, star, tilde, underscore}
-use Rattle.markdown_grammar.specs.Fronts.{first_byte, has_one, run_len}
+use Rattle.site_text.specs.Bytes.{backtick, full_stop, hyphen, is_digit, is_space, plus_sign, right_paren, star, tilde, underscore}
+use Rattle.site_text.specs.Fronts.{first_byte, has_one, run_len}
 use Rattle.markdown_grammar.specs.Lines.{is_blank}
 use Rattle.markdown_grammar.specs.ListMarks.{item_if}
 use Rattle.markdown_grammar.specs.Places.{Place}

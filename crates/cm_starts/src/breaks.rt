@@ -4,7 +4,7 @@ ghost use Rattle.markdown_grammar.specs.Breaks as grammar;
 ghost use Rattle.markdown_grammar.specs.Starts as starts;
 ghost use Rattle.cm_starts.specs.Runs.{is_break_mark, marks_in};
 
-use cm_links::is_space;
+use site_text::is_space;
 
 /// Whether a line is a thematic break, by its text behind the white space in front: three or more of
 /// `*`, `-` or `_`, with nothing but white space beside them. CommonMark 0.31.2, section 4.1.

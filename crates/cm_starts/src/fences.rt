@@ -2,7 +2,7 @@
 ghost use Rattle.std.specs.Prelude.{◌≡◌, ◌==◌, ◌≤◌, List, length, ℕ};
 ghost use Rattle.markdown_grammar.specs.Columns as columns;
 ghost use Rattle.markdown_grammar.specs.Fences as grammar;
-ghost use Rattle.markdown_grammar.specs.Fronts.{run_len};
+ghost use Rattle.site_text.specs.Fronts.{run_len};
 ghost use Rattle.markdown_grammar.specs.Lines.{trim_front};
 ghost use Rattle.cm_starts.specs.Answers.{as_start};
 ghost use Rattle.cm_starts.specs.Runs.{closes_at, is_fence_mark, is_spoilt};

@@ -1,7 +1,8 @@
 // Headings.
 ghost use Rattle.std.specs.Prelude.{◌≡◌, ◌<◌, ◌||◌, if◌then◌else◌, reverse, true};
-ghost use Rattle.markdown_grammar.specs.Bytes.{is_space};
-ghost use Rattle.markdown_grammar.specs.Fronts.{first_byte, is_empty};
+ghost use Rattle.site_text.specs.Bytes.{is_space};
+ghost use Rattle.site_text.specs.Fronts.{first_byte};
+ghost use Rattle.markdown_grammar.specs.Fronts.{is_empty};
 ghost use Rattle.markdown_grammar.specs.Lines.{trim};
 ghost use Rattle.markdown_grammar.specs.Places.{in_paragraph};
 ghost use Rattle.markdown_grammar.specs.Starts.{atx_start, text_start};
@@ -52,7 +53,7 @@ fn ends_apart(text: &str) -> bool
     ensures { result ≡ (is_empty (reverse text.now) || is_space (first_byte (reverse text.now))) }
 {
     let bytes = text.as_bytes();
-    bytes.len() == 0 || cm_links::is_space(bytes[bytes.len() - 1])
+    bytes.len() == 0 || site_text::is_space(bytes[bytes.len() - 1])
 }
 
 /// The underline of a heading, by the text of the line behind its white space, or `Text` where the line

@@ -1,7 +1,8 @@
 // What starts a block of HTML.
 ghost use Rattle.std.specs.Prelude.{◌≡◌, ◌<◌, ◌≤◌, ◌==◌, ◌&&◌, ◌||◌, codes, length, take, drop};
-ghost use Rattle.markdown_grammar.specs.Fronts.{begins_with, first_byte, has, run_len};
-ghost use Rattle.markdown_grammar.specs.Bytes as bytes;
+ghost use Rattle.markdown_grammar.specs.Fronts.{has};
+ghost use Rattle.site_text.specs.Fronts.{begins_with, first_byte, run_len};
+ghost use Rattle.site_text.specs.Bytes as bytes;
 ghost use Rattle.markdown_grammar.specs.HtmlStarts as grammar;
 ghost use Rattle.markdown_grammar.specs.Places as places;
 ghost use Rattle.markdown_grammar.specs.Readers.{◌or◌};
@@ -12,8 +13,8 @@ ghost use Rattle.cm_starts.specs.HtmlParts.{marked_at, tagged_at};
 use crate::kinds::{Place, Start};
 use crate::names::{is_block, is_verbatim};
 use crate::tags::is_alone;
-use cm_links::{Class, class_run, is_letter, is_space};
 use markdown_grammar::HtmlKind;
+use site_text::{Class, begins, class_run, is_letter, is_space};
 
 /// The block of HTML that a line starts, by its text behind the white space in front, or `Text` where
 /// it starts none. Kind 7, any other tag alone on its line, starts only where no paragraph is open.
@@ -48,7 +49,7 @@ fn marked<'a>(place: Place, text: &'a [u8]) -> Start<'a>
             kind: HtmlKind::Instruction,
         };
     }
-    if begins(text, b"<!") && is_letter(byte_at(text, 2)) {
+    if is_declaration(text) {
         return Start::Html {
             kind: HtmlKind::Declaration,
         };
@@ -89,11 +90,10 @@ fn is_fresh(place: Place) -> bool
     }
 }
 
-// A byte, or 0 behind the end.
-fn byte_at(text: &[u8], k: usize) -> u8
-    ensures { result ≡ first_byte (drop k text.now) }
+fn is_declaration(text: &[u8]) -> bool
+    ensures { result ≡ (begins_with (codes "<!") text.now && bytes.is_letter (first_byte (drop 2 text.now))) }
 {
-    if k < text.len() { text[k] } else { 0 }
+    begins(text, b"<!") && text.len() > 2 && is_letter(text[2])
 }
 
 // What stands behind `<` or `</`.
@@ -138,21 +138,4 @@ fn ends_listed(text: &[u8]) -> bool
     ensures { result ≡ has ((grammar.tag_end or readers.exactly (codes "/>")) text.now) }
 {
     ends_name(text) || begins(text, b"/>")
-}
-
-/// Whether a text begins with a word.
-pub fn begins(text: &[u8], word: &[u8]) -> bool
-    ensures { result ≡ begins_with word.now text.now }
-{
-    if text.len() < word.len() {
-        return false;
-    }
-    let mut i = 0;
-    while i < word.len() {
-        if text[i] != word[i] {
-            return false;
-        }
-        i += 1;
-    }
-    true
 }

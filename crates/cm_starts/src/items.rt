@@ -1,7 +1,7 @@
 // The marks of list items.
 ghost use Rattle.std.specs.Prelude.{◌≡◌, IfSome, is_some};
-ghost use Rattle.markdown_grammar.specs.Bytes as bytes;
-ghost use Rattle.markdown_grammar.specs.Fronts.{run_len};
+ghost use Rattle.site_text.specs.Bytes as bytes;
+ghost use Rattle.site_text.specs.Fronts.{run_len};
 ghost use Rattle.markdown_grammar.specs.Lines as lines;
 ghost use Rattle.markdown_grammar.specs.ListMarks as grammar;
 ghost use Rattle.cm_starts.specs.Answers.{as_place, as_start};
@@ -11,7 +11,7 @@ ghost use Rattle.cm_starts.specs.Runs.{is_bullet_mark, is_delimiter_mark, ordere
 use crate::kinds::{Place, Start};
 use crate::list_marks::ListMark;
 use crate::texts::{is_apart, is_blank};
-use cm_links::{Class, class_run};
+use site_text::{Class, class_run};
 
 /// The list item that a line starts, by its text behind the white space in front, or `Text` where it
 /// starts none: `+`, `-` or `*`, or one to nine digits with `.` or `)`, before white space or the end. In

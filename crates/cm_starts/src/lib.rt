@@ -19,7 +19,7 @@ pub use breaks::is_thematic_break;
 pub use fences::{closes_fence, fence};
 pub use heading_level::HeadingLevel;
 pub use headings::{heading, underline};
-pub use html::{begins, html_block};
+pub use html::html_block;
 pub use items::list_mark;
 pub use kinds::{Place, Start};
 pub use list_marks::ListMark;

@@ -1,8 +1,10 @@
 // Names that HTML gives to tags.
 ghost use Rattle.std.specs.Prelude.{◌≡◌, map};
-ghost use Rattle.markdown_grammar.specs.Bytes as bytes;
+ghost use Rattle.site_text.specs.Bytes as bytes;
 ghost use Rattle.markdown_grammar.specs.Fronts.{same_bytes};
 ghost use Rattle.markdown_grammar.specs.HtmlStarts as grammar;
+
+use site_text::lower;
 
 /// Tags whose text is no Markdown.
 const VERBATIM_NAMES: [&[u8]; 4] = [b"script", b"pre", b"style", b"textarea"];
@@ -112,10 +114,4 @@ fn is_name(known: &[u8], name: &[u8]) -> bool
         i += 1;
     }
     true
-}
-
-fn lower(c: u8) -> u8
-    ensures { result ≡ bytes.lower c }
-{
-    if 65 <= c && c <= 90 { c + 32 } else { c }
 }

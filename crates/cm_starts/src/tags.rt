@@ -5,10 +5,10 @@ ghost use Rattle.markdown_grammar.specs.Readers.{◌or◌, ◌then◌};
 ghost use Rattle.markdown_grammar.specs.Fronts.{has};
 ghost use Rattle.markdown_grammar.specs.HtmlStarts as starts;
 ghost use Rattle.markdown_grammar.specs.Tags as grammar;
-ghost use Rattle.cm_links.specs.Classes.{is_in};
-ghost use Rattle.cm_links.specs.declared.classes.Class.TheVariants.{NoDoubleQuote, NoSingleQuote};
+ghost use Rattle.site_text.specs.Classes.{is_in};
+ghost use Rattle.site_text.specs.declared.classes.Class.TheVariants.{NoDoubleQuote, NoSingleQuote};
 
-use cm_links::{Class, class_run, is_letter, is_one_of};
+use site_text::{Class, class_run, is_letter, is_one_of};
 
 /// One byte.
 fn byte(text: &[u8], c: u8) -> Option<usize>

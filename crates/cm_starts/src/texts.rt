@@ -1,12 +1,13 @@
 // Runs of bytes, and white space at the ends of a text.
 ghost use Rattle.std.specs.Prelude.{◌≡◌, ◌<◌, ◌||◌, ◌==◌, reverse, take};
 ghost use Rattle.std.specs.Str.{IsCharBoundary};
-ghost use Rattle.markdown_grammar.specs.Bytes as bytes;
-ghost use Rattle.markdown_grammar.specs.Fronts.{first_byte, has_one, is_empty, run_len};
+ghost use Rattle.site_text.specs.Bytes as bytes;
+ghost use Rattle.markdown_grammar.specs.Fronts.{is_empty};
+ghost use Rattle.site_text.specs.Fronts.{first_byte, has_one, run_len};
 ghost use Rattle.markdown_grammar.specs.Lines as lines;
 ghost use Rattle.cm_starts.specs.Runs.{behind_run};
 
-use cm_links::{is_space, spaces};
+use site_text::{Class, class_len, is_space};
 
 /// How many of a byte a text begins with.
 pub fn run(text: &str, c: u8) -> usize
@@ -58,7 +59,7 @@ pub(crate) fn is_apart(text: &str) -> bool
 pub fn trim(text: &str) -> &str
     ensures { result.now ≡ lines.trim text.now }
 {
-    let front = spaces(text);
+    let front = class_len(Class::Space, text);
     trim_end(&text[front..])
 }
 

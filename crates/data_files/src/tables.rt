@@ -1,16 +1,16 @@
 // Texts of records.
-ghost use Rattle.std.specs.Prelude.{◌≡◌, IfOk, OnOk, MatchResult, Some, length};
+ghost use Rattle.std.specs.Prelude.{◌≡◌, [], IfOk, OnOk, MatchResult, Some, length, slice_get};
 ghost use Rattle.std.specs.Option.{option_copied};
 ghost use Rattle.csv.specs.Records.{fields_of};
-ghost use Rattle.site_base.specs.Plain.{no_pairs};
 ghost use Rattle.site_base.specs.View.{plain};
 ghost use Rattle.data_files.specs.Readings.{with_last};
 ghost use Rattle.data_files.specs.Tables.{FoundNone, IsNoTable, IsTable, table_of};
-ghost use Rattle.data_files.specs.Columns.{placed, picked, picked_field, row_of, text_or_nil, place_set, GoesOn};
+ghost use Rattle.data_files.specs.Columns.{seen, placed, place_set, picked, with_field, row_of, text_or_nil, GoesOn};
 
 use crate::refusal::Refusal;
 use csv::{ReaderBuilder, StringRecord};
-use site_base::{GrowingHash, Hash, List, Memory, Text, Value};
+use indexmap::IndexMap;
+use site_base::{Hash, List, Memory, Text, Value};
 use std::alloc::Global;
 
 /// The value of a text of comma-separated records, as RFC 4180 has them: a list with a hash for each record behind
@@ -86,7 +86,7 @@ struct Columns {
     /// How many fields the first record has.
     count: usize,
     /// The place of the field that counts, by the column's name.
-    places: Hash,
+    places: IndexMap<String, usize>,
 }
 
 // The table with one more record.
@@ -104,32 +104,31 @@ fn with_record(alloc: Global, table: Table, row: &StringRecord) -> Result<Table,
 
 fn columns_of(alloc: Global, names: &StringRecord) -> Result<Columns, Memory>
     ensures count { IfOk result (λ columns. columns.count ≡ length (fields_of names.now)) }
-    ensures places { IfOk result (λ columns. columns.places ≡ placed (fields_of names.now) 0 no_pairs) }
+    ensures places { IfOk result (λ columns. seen columns.places.entries ≡ placed (fields_of names.now) 0 []) }
 {
-    let mut places = GrowingHash::new(alloc);
+    let mut places = IndexMap::new(alloc);
     for place in 0..names.len() {
         set_place(alloc, &mut places, names.get(place), place)?;
     }
     Ok(Columns {
         count: names.len(),
-        places: places.finish(),
+        places,
     })
 }
 
+// Gives a name this place in place of one that it has.
 fn set_place(
     alloc: Global,
-    places: &mut GrowingHash,
+    places: &mut IndexMap<String, usize>,
     name: Option<&str>,
     place: usize,
 ) -> Result<(), Memory>
-    ensures { OnOk result (places.new ≡ place_set (option_copied name.entry) place places.old) }
+    ensures { OnOk result (seen places.new.entries ≡ place_set (option_copied name.entry) place (seen places.old.entries)) }
 {
-    match (name, i64::try_from(place)) {
-        (Some(name), Ok(place)) => places.set(Text::copy(alloc, name)?, Value::Int(place)),
-        (None, _) => Ok(()),
-        // No record has so many fields.
-        (_, Err(_)) => Err(Memory),
+    if let Some(name) = name {
+        places.insert(String::from_str(alloc, name)?, place)?;
     }
+    Ok(())
 }
 
 // The rows with one more, where each has as many fields as there are columns.
@@ -139,7 +138,7 @@ fn with_row(
     list: Option<List>,
     row: &StringRecord,
 ) -> Result<Option<List>, Memory>
-    ensures { IfOk result (λ made. made ≡ with_last list (row_of columns.now.count columns.now.places (fields_of row.now))) }
+    ensures { IfOk result (λ made. made ≡ with_last list (row_of columns.now.count (seen columns.now.places.entries) (fields_of row.now))) }
 {
     match list {
         Some(mut list) if row.len() == columns.count => {
@@ -151,30 +150,35 @@ fn with_row(
 }
 
 // The hash from the names to the fields of a row.
-fn hash_of(alloc: Global, places: &Hash, row: &StringRecord) -> Result<Hash, Memory>
-    ensures { IfOk result (λ hash. hash ≡ picked (fields_of row.now) places.now) }
+fn hash_of(
+    alloc: Global,
+    places: &IndexMap<String, usize>,
+    row: &StringRecord,
+) -> Result<Hash, Memory>
+    ensures { IfOk result (λ hash. hash ≡ picked (fields_of row.now) (seen places.now.entries)) }
 {
-    let places = places.as_slice();
     let mut hash = Hash::with_capacity(alloc, places.len())?;
-    for column in places {
-        hash.push(
-            Text::copy(alloc, column.key.as_str())?,
-            field_at(alloc, row, &column.value)?,
-        )?;
+    for column in 0..places.len() {
+        push_field(alloc, &mut hash, places, column, row)?;
     }
     Ok(hash)
 }
 
-fn field_at(alloc: Global, row: &StringRecord, place: &Value) -> Result<Value, Memory>
-    ensures { IfOk result (λ field. plain field ≡ picked_field (fields_of row.now) (plain place.now)) }
+// Adds the field of a column to a hash.
+fn push_field(
+    alloc: Global,
+    hash: &mut Hash,
+    places: &IndexMap<String, usize>,
+    column: usize,
+    row: &StringRecord,
+) -> Result<(), Memory>
+    ensures { OnOk result (hash.new ≡ with_field (fields_of row.now) (slice_get (seen places.now.entries) column) hash.old) }
 {
-    match place {
-        Value::Int(place) => match usize::try_from(*place) {
-            Ok(place) => text_of(alloc, row.get(place)),
-            Err(_) => Ok(Value::Nil),
-        },
-        _ => Ok(Value::Nil),
+    if let Some((name, place)) = places.get_index(column) {
+        let field = text_of(alloc, row.get(*place))?;
+        hash.push(Text::copy(alloc, name.as_str())?, field)?;
     }
+    Ok(())
 }
 
 fn text_of(alloc: Global, field: Option<&str>) -> Result<Value, Memory>

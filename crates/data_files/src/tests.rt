@@ -87,14 +87,24 @@ fn reads_tables(rt: HostRuntime) {
     for (text, written) in TABLES {
         assert!(rt; has_code(read_csv(rt.alloc(), text), written), "at {text}");
     }
-    let tabs = "aaa\tbbb\tccc\nzzz\tyyy\txxx\n1\t\ta b\n";
-    assert!(rt; has_code(read_tsv(rt.alloc(), tabs), TWO_RECORDS));
 }
+
+const TABS: &[(&str, &str)] = &[("aaa\tbbb\tccc\nzzz\tyyy\txxx\n1\t\ta b\n", TWO_RECORDS)];
+
+#[test]
+fn reads_tables_with_tabs(rt: HostRuntime) {
+    for (text, written) in TABS {
+        assert!(rt; has_code(read_tsv(rt.alloc(), text), written), "at {text}");
+    }
+}
+
+const REFUSED_TABLES: &[&str] = &["a,b\n1,2\n3\n", "a,b\n1,2,3\n1,2\n"];
 
 #[test]
 fn refuses_tables(rt: HostRuntime) {
-    assert!(rt; is_refused(read_csv(rt.alloc(), "a,b\n1,2\n3\n")));
-    assert!(rt; is_refused(read_csv(rt.alloc(), "a,b\n1,2,3\n1,2\n")));
+    for text in REFUSED_TABLES {
+        assert!(rt; is_refused(read_csv(rt.alloc(), text)), "at {text}");
+    }
 }
 
 fn data_at(alloc: Global, path: &str, text: &str) -> Result<Option<Value>, DataError> {
@@ -127,25 +137,40 @@ fn reads_by_the_end_of_a_path(rt: HostRuntime) {
     }
 }
 
-fn yaml_fault(alloc: Global, path: &str, text: &str) -> Option<YamlFault> {
-    match data_at(alloc, path, text) {
-        Err(DataError::Yaml(fault)) => Some(fault),
-        _ => None,
+/// What a file that has no data is refused for.
+#[derive(Clone, Copy)]
+enum Other {
+    NoData,
+    Refused,
+    Yaml(YamlFault),
+}
+
+// Whether the file has no data for this reason.
+fn is_other(alloc: Global, path: &str, text: &str, want: Other) -> bool {
+    match (data_at(alloc, path, text), want) {
+        (Ok(None), Other::NoData) => true,
+        (Err(DataError::Refused), Other::Refused) => true,
+        (Err(DataError::Yaml(fault)), Other::Yaml(wanted)) => fault == wanted,
+        _ => false,
     }
 }
 
+const OTHERS: &[(&str, &str, Other)] = &[
+    ("_data/a.json", "1.5", Other::Refused),
+    ("_data/a.txt", "1", Other::NoData),
+    (
+        "_data/a.yml",
+        "a: 1\nb: 'x\n",
+        Other::Yaml(YamlFault {
+            line: 2,
+            kind: YamlKind::Quote,
+        }),
+    ),
+];
+
 #[test]
 fn refuses_by_the_end_of_a_path(rt: HostRuntime) {
-    let alloc = rt.alloc();
-    assert!(rt;
-        matches!(
-            data_at(alloc, "_data/a.json", "1.5"),
-            Err(DataError::Refused)
-        )
-    );
-    assert!(rt; matches!(data_at(alloc, "_data/a.txt", "1"), Ok(None)));
-    match yaml_fault(alloc, "_data/a.yml", "a: 1\nb: 'x\n") {
-        Some(fault) => assert!(rt; fault.line == 2 && fault.kind == YamlKind::Quote),
-        None => assert!(rt; false, "no fault"),
+    for (path, text, want) in OTHERS {
+        assert!(rt; is_other(rt.alloc(), path, text, *want), "at {path}");
     }
 }

@@ -1,11 +1,14 @@
 -- The cases of a block.
 use Rattle.std.proofs.Common.{◌≡◌, ℕ, zero, suc, ◌-◌, ◌<◌, Bool, true, false, List, ◌∷◌, ◌≤◌, length, get_or, take, drop, Ok, Err, refl, ap, sym, ◌∙◌, drop_of_length-le, arith}
 use Rattle.std.proofs.lemmas.List.{at_drop_more}
+use Rattle.std.specs.List.{prefix_len}
+use Rattle.site_base.specs.Chains.{◌>>=◌}
 use Rattle.site_base.specs.Plain.{Plain}
 use Rattle.site_base.specs.declared.faults.YamlKind.TheVariants as kind
-use Rattle.front_yaml.specs.Reading.{Reading, ◌>>=◌}
-use Rattle.front_yaml.specs.TextLines.{Line, inside, indent, run}
-use Rattle.front_yaml.specs.Blocks.{block, below, entries_of, leaf_lines, sequence_value, mapping_value}
+use Rattle.front_yaml.specs.Reading.{Reading}
+use Rattle.front_yaml.specs.TextLines.{Line, inside, indent}
+use Rattle.front_yaml.specs.LineLeaves.{leaf_lines}
+use Rattle.front_yaml.specs.Blocks.{block, below, entries_of, sequence_value, mapping_value}
 use Rattle.front_yaml.specs.Keys.{starts_block, is_dash}
 use Rattle.front_yaml.specs.Yaml.{goes_on, no_marker, lines_value}
 use Rattle.front_yaml.specs.Given.{FailsLines}
@@ -55,16 +58,16 @@ fails-on r g (errors.Fault f) all e h = e ∙ ap (λ t. t >>= g) h
 abbrev file_value : ℕ → List Line → Reading Plain
 file_value n ls = below (block 64) 0 (take n ls) >>= λ v. no_marker (drop n ls) (Ok v)
 
-file-is : (ls : List Line) (n : ℕ) → n ≡ run goes_on ls → lines_value ls ≡ file_value n ls
+file-is : (ls : List Line) (n : ℕ) → n ≡ prefix_len goes_on ls → lines_value ls ≡ file_value n ls
 unfolding lines_value
 file-is ls n e = ap (λ k. file_value k ls) (sym e)
 
-pub value_fails : (ls : List Line) (n : ℕ) (x : YamlError) → n ≡ run goes_on ls → FailsLines x (below (block 64) 0 (take n ls)) → FailsLines x (lines_value ls)
+pub value_fails : (ls : List Line) (n : ℕ) (x : YamlError) → n ≡ prefix_len goes_on ls → FailsLines x (below (block 64) 0 (take n ls)) → FailsLines x (lines_value ls)
 value_fails ls n x e h = fails-on (below (block 64) 0 (take n ls)) (λ v. no_marker (drop n ls) (Ok v)) x (lines_value ls) (file-is ls n e) h
 
-pub value_whole : (ls : List Line) (n : ℕ) (v : Plain) → n ≡ run goes_on ls → length ls ≤ n → below (block 64) 0 (take n ls) ≡ Ok v → lines_value ls ≡ Ok v
+pub value_whole : (ls : List Line) (n : ℕ) (v : Plain) → n ≡ prefix_len goes_on ls → length ls ≤ n → below (block 64) 0 (take n ls) ≡ Ok v → lines_value ls ≡ Ok v
 value_whole ls n v e le h = file-is ls n e ∙ ap (λ r. r >>= λ w. no_marker (drop n ls) (Ok w)) h ∙ ap (λ xs. no_marker xs (Ok v)) (drop_of_length-le ls le)
 
-pub value_cut : (ls : List Line) (n : ℕ) (l : Line) (v : Plain) → n ≡ run goes_on ls → n < length ls → l ≡ get_or ls n l → below (block 64) 0 (take n ls) ≡ Ok v → lines_value ls ≡ Err (l.number, kind.Outside)
+pub value_cut : (ls : List Line) (n : ℕ) (l : Line) (v : Plain) → n ≡ prefix_len goes_on ls → n < length ls → l ≡ get_or ls n l → below (block 64) 0 (take n ls) ≡ Ok v → lines_value ls ≡ Err (l.number, kind.Outside)
 value_cut ls n l v e lt at h =
     file-is ls n e ∙ ap (λ r. r >>= λ w. no_marker (drop n ls) (Ok w)) h ∙ ap (λ xs. no_marker xs (Ok v)) (at_drop_more (λ xs. xs) ls n l lt) ∙ ap (λ m. Err (m.number, kind.Outside)) (sym at)

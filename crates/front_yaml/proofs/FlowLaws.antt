@@ -1,13 +1,16 @@
 -- The items and pairs of flow values, one part after another.
 use Rattle.std.proofs.Common.{◌≡◌, ℕ, zero, suc, ◌+◌, ◌-◌, ◌<◌, ◌≤◌, Bool, true, false, List, [], ◌∷◌, length, drop, Ok, Err, refl, ap, sym, ◌∙◌, length-drop, drop-drop, drop_of_length-le, arith}
+use Rattle.site_base.specs.Chains.{◌>>=◌}
 use mathlib.Core.Path.{fun_ext}
 use Rattle.site_base.specs.Plain.{Plain, Items, no_items, item, onto, Pairs, no_pairs, pair, set}
 use Rattle.site_base.specs.Recursion.{Falls}
 use Rattle.site_base.specs.Recursion.{down_is}
 use Rattle.site_base.specs.declared.faults.YamlKind.TheVariants as kind
-use Rattle.front_yaml.specs.Reading.{Fault, Reading, ◌>>=◌, further}
+use Rattle.front_yaml.specs.Reading.{Fault, Reading, further}
 use Rattle.front_yaml.specs.Bytes.{starts}
-use Rattle.front_yaml.specs.Flow.{Node, node, Part, shut, last, more, part, items_after, items_step, items, entry, pairs_after, pairs_step, pairs, hash_pairs, settled, list_value, hash_value, collection}
+use Rattle.front_yaml.specs.declared.flow_parts.Part.{Part}
+use Rattle.front_yaml.specs.declared.flow_parts.Part.TheVariants.{Shut, Last, More}
+use Rattle.front_yaml.specs.Flow.{Node, node, part, items_after, items_step, items, entry, pairs_after, pairs_step, pairs, hash_pairs, settled, list_value, hash_value, collection}
 
 shorter : (k c : ℕ) (cs : List ℕ) → length (drop k cs) < length (c ∷ cs)
 shorter k c cs = omega (arith, length-drop k cs)
@@ -57,16 +60,16 @@ module _ (child : Node) where
       ap (λ q. with_items n done (items_from (drop n s) q)) (sym e) ∙ ap (with_items n done) (sym (first-item (drop n s) (omega (arith, length-drop n s)))) ∙ told
 
   pub items_shut : (n k : ℕ) (done : Items) (s : List ℕ) (all : Reading (Items × ℕ)) → n < length s
-      → with_items n done (items child (drop n s)) ≡ all → part 93 child (drop n s) ≡ Ok (shut k) → all ≡ Ok (done, n + k + 1)
+      → with_items n done (items child (drop n s)) ≡ all → part 93 child (drop n s) ≡ Ok (Shut k) → all ≡ Ok (done, n + k + 1)
   items_shut n k done s all lt told e =
       let m : n + (k + 1) ≡ n + k + 1 = omega arith in
-      sym (told-item n done s (Ok (shut k)) all lt told e) ∙ ap (λ is. Ok (is, n + (k + 1))) (onto-end done) ∙ ap (λ i. Ok (done, i)) m
+      sym (told-item n done s (Ok (Shut k)) all lt told e) ∙ ap (λ is. Ok (is, n + (k + 1))) (onto-end done) ∙ ap (λ i. Ok (done, i)) m
 
   pub items_last : (n k : ℕ) (v : Plain) (done : Items) (s : List ℕ) (all : Reading (Items × ℕ)) → n < length s
-      → with_items n done (items child (drop n s)) ≡ all → part 93 child (drop n s) ≡ Ok (last v k) → all ≡ Ok (onto done (item v no_items), n + k + 1)
+      → with_items n done (items child (drop n s)) ≡ all → part 93 child (drop n s) ≡ Ok (Last v k) → all ≡ Ok (onto done (item v no_items), n + k + 1)
   items_last n k v done s all lt told e =
       let m : n + (k + 1) ≡ n + k + 1 = omega arith in
-      sym (told-item n done s (Ok (last v k)) all lt told e) ∙ ap (λ i. Ok (onto done (item v no_items), i)) m
+      sym (told-item n done s (Ok (Last v k)) all lt told e) ∙ ap (λ i. Ok (onto done (item v no_items), i)) m
 
   items-step : (n k m : ℕ) (v : Plain) (done : Items) (r : Reading (Items × ℕ)) → m ≡ n + k + 1
       → with_items n done (further (k + 1) r >>= λ x. Ok (item v x.0, k + 1 + x.1)) ≡ with_items m (onto done (item v no_items)) r
@@ -76,11 +79,11 @@ module _ (child : Node) where
   items-step n k m v done (Err f) e = let i : n + (k + 1 + f.0) ≡ m + f.0 = omega arith in ap (λ j. Err (j, f.1)) i
 
   pub items_more : (n k m : ℕ) (v : Plain) (done : Items) (s : List ℕ) (all : Reading (Items × ℕ)) → m ≡ n + k + 1 → n < length s
-      → with_items n done (items child (drop n s)) ≡ all → part 93 child (drop n s) ≡ Ok (more v k) → with_items m (onto done (item v no_items)) (items child (drop m s)) ≡ all
+      → with_items n done (items child (drop n s)) ≡ all → part 93 child (drop n s) ≡ Ok (More v k) → with_items m (onto done (item v no_items)) (items child (drop m s)) ≡ all
   items_more n k m v done s all q lt told e =
       let i : n + (k + 1) ≡ m = omega arith in
       ap (λ j. with_items m (onto done (item v no_items)) (items child (drop j s))) (sym i) ∙ ap (λ xs. with_items m (onto done (item v no_items)) (items child xs)) (sym (drop-drop (k + 1) n s))
-      ∙ sym (items-step n k m v done (items child (drop (k + 1) (drop n s))) q) ∙ told-item n done s (Ok (more v k)) all lt told e
+      ∙ sym (items-step n k m v done (items child (drop (k + 1) (drop n s))) q) ∙ told-item n done s (Ok (More v k)) all lt told e
 
   pub items_fault : (n : ℕ) (f : Fault) (done : Items) (s : List ℕ) (all : Reading (Items × ℕ)) → n < length s
       → with_items n done (items child (drop n s)) ≡ all → part 93 child (drop n s) ≡ Err f → all ≡ Err (n + f.0, f.1)
@@ -124,16 +127,16 @@ module _ (child : Node) where
       ap (λ q. with_pairs n done (pairs_from (drop n s) q)) (sym e) ∙ ap (with_pairs n done) (sym (first-pair (drop n s) (omega (arith, length-drop n s)))) ∙ told
 
   pub pairs_shut : (n k : ℕ) (done : Pairs) (s : List ℕ) (all : Reading (Pairs × ℕ)) → n < length s
-      → with_pairs n done (pairs child (drop n s)) ≡ all → part 125 (entry child) (drop n s) ≡ Ok (shut k) → all ≡ Ok (done, n + k + 1)
+      → with_pairs n done (pairs child (drop n s)) ≡ all → part 125 (entry child) (drop n s) ≡ Ok (Shut k) → all ≡ Ok (done, n + k + 1)
   pairs_shut n k done s all lt told e =
       let m : n + (k + 1) ≡ n + k + 1 = omega arith in
-      sym (told-pair n done s (Ok (shut k)) all lt told e) ∙ ap (λ i. Ok (done, i)) m
+      sym (told-pair n done s (Ok (Shut k)) all lt told e) ∙ ap (λ i. Ok (done, i)) m
 
   pub pairs_last : (n k : ℕ) (name : List ℕ) (v : Plain) (done : Pairs) (s : List ℕ) (all : Reading (Pairs × ℕ)) → n < length s
-      → with_pairs n done (pairs child (drop n s)) ≡ all → part 125 (entry child) (drop n s) ≡ Ok (last (name, v) k) → all ≡ Ok (set name v done, n + k + 1)
+      → with_pairs n done (pairs child (drop n s)) ≡ all → part 125 (entry child) (drop n s) ≡ Ok (Last (name, v) k) → all ≡ Ok (set name v done, n + k + 1)
   pairs_last n k name v done s all lt told e =
       let m : n + (k + 1) ≡ n + k + 1 = omega arith in
-      sym (told-pair n done s (Ok (last (name, v) k)) all lt told e) ∙ ap (λ i. Ok (set name v done, i)) m
+      sym (told-pair n done s (Ok (Last (name, v) k)) all lt told e) ∙ ap (λ i. Ok (set name v done, i)) m
 
   pairs-step : (n k m : ℕ) (name : List ℕ) (v : Plain) (done : Pairs) (r : Reading (Pairs × ℕ)) → m ≡ n + k + 1
       → with_pairs n done (further (k + 1) r >>= λ x. Ok (pair name v x.0, k + 1 + x.1)) ≡ with_pairs m (set name v done) r
@@ -141,11 +144,11 @@ module _ (child : Node) where
   pairs-step n k m name v done (Err f) e = let i : n + (k + 1 + f.0) ≡ m + f.0 = omega arith in ap (λ j. Err (j, f.1)) i
 
   pub pairs_more : (n k m : ℕ) (name : List ℕ) (v : Plain) (done : Pairs) (s : List ℕ) (all : Reading (Pairs × ℕ)) → m ≡ n + k + 1 → n < length s
-      → with_pairs n done (pairs child (drop n s)) ≡ all → part 125 (entry child) (drop n s) ≡ Ok (more (name, v) k) → with_pairs m (set name v done) (pairs child (drop m s)) ≡ all
+      → with_pairs n done (pairs child (drop n s)) ≡ all → part 125 (entry child) (drop n s) ≡ Ok (More (name, v) k) → with_pairs m (set name v done) (pairs child (drop m s)) ≡ all
   pairs_more n k m name v done s all q lt told e =
       let i : n + (k + 1) ≡ m = omega arith in
       ap (λ j. with_pairs m (set name v done) (pairs child (drop j s))) (sym i) ∙ ap (λ xs. with_pairs m (set name v done) (pairs child xs)) (sym (drop-drop (k + 1) n s))
-      ∙ sym (pairs-step n k m name v done (pairs child (drop (k + 1) (drop n s))) q) ∙ told-pair n done s (Ok (more (name, v) k)) all lt told e
+      ∙ sym (pairs-step n k m name v done (pairs child (drop (k + 1) (drop n s))) q) ∙ told-pair n done s (Ok (More (name, v) k)) all lt told e
 
   pub pairs_fault : (n : ℕ) (f : Fault) (done : Pairs) (s : List ℕ) (all : Reading (Pairs × ℕ)) → n < length s
       → with_pairs n done (pairs child (drop n s)) ≡ all → part 125 (entry child) (drop n s) ≡ Err f → all ≡ Err (n + f.0, f.1)

@@ -2,13 +2,15 @@
 use Rattle.std.proofs.Common.{◌≡◌, ℕ, zero, suc, ◌+◌, ◌<◌, ◌≤◌, Bool, true, false, ◌&&◌, ◌||◌, not, cond, List, [], ◌∷◌, ◌++◌, length, take, drop, refl, ap, sym, ◌∙◌, arith, append_assoc, append-nil, get_or}
 use Rattle.std.specs.Prelude.{◌==◌, Option, Some, None, encode_utf8}
 use Rattle.std.proofs.lemmas.Bool.Decides.{nat_tests}
-use Rattle.site_base.specs.Fronts.{front_len}
+use Rattle.std.specs.List.{prefix_len}
+use Rattle.std.proofs.lemmas.List.Sums.{prefix_len-le-length}
 use Rattle.front_yaml.specs.Bytes.{later, added, starts, is_white, is_gap, white_len, repeated}
 use Rattle.front_yaml.specs.TextLines.{line_ends}
 use Rattle.front_yaml.specs.Escapes.{escape}
 use Rattle.front_yaml.specs.Folding.{Where, within, between, joined, next_line, joint, is_between, ends_line, folded}
 use Rattle.front_yaml.specs.Quotes.{escape_len, bad_escape}
 use Rattle.front_yaml.proofs.Added.{added_zero, added_more}
+use Rattle.front_yaml.proofs.Prefixes.{prefix_more, prefix_none, prefix_some}
 use Rattle.front_yaml.specs.Given.{is_solid, kept_white, Folds}
 
 white-inside : (c : ℕ) → is_white c ≡ true → (c == 10) ≡ false
@@ -20,8 +22,12 @@ plain_end false = refl
 
 -- white space before a line end
 ends-step : (w : Bool) (c : ℕ) (cs : List ℕ) → is_white c ≡ w → ends_line cs ≡ starts 10 (drop (white_len cs) cs) → ends_line (c ∷ cs) ≡ starts 10 (drop (white_len (c ∷ cs)) (c ∷ cs))
-ends-step true c cs e h = rw (white-inside c e, e) h
-ends-step false c cs e h = rw e (plain_end (c == 10))
+ends-step true c cs e h =
+    let on : ends_line (c ∷ cs) ≡ ends_line cs = rw (white-inside c e, e) refl in
+    on ∙ h ∙ ap (λ n. starts 10 (drop n (c ∷ cs))) (sym (prefix_more is_white c cs e))
+ends-step false c cs e h =
+    let here : ends_line (c ∷ cs) ≡ (c == 10) = rw e (plain_end (c == 10)) in
+    here ∙ ap (λ n. starts 10 (drop n (c ∷ cs))) (sym (prefix_none is_white c cs e))
 
 pub ends_line_is : (s : List ℕ) → ends_line s ≡ starts 10 (drop (white_len s) s)
 ends_line_is [] = refl
@@ -34,7 +40,7 @@ past_skip e w (suc k) (c ∷ cs) = past_skip e w k cs
 
 -- a run of white space and line ends behind a line end
 abbrev gap_len : List ℕ → ℕ
-gap_len = front_len is_gap
+gap_len = prefix_len is_gap
 
 abbrev ends_in_gap : List ℕ → ℕ
 ends_in_gap s = line_ends (take (gap_len s) s)
@@ -71,10 +77,10 @@ white-and : (a b x y : Bool) → a ≡ x → b ≡ y → a && b ≡ x && y
 white-and a b x y p q = rw (p, q) refl
 
 gap-more : (t w : Bool) (c : ℕ) (cs : List ℕ) → (c == 10) ≡ t → is_white c ≡ w → w || t ≡ true → gap_len (c ∷ cs) ≡ suc (gap_len cs)
-gap-more t w c cs p q r = rw (p, q, r) refl
+gap-more t w c cs p q r = let gap : is_gap c ≡ true = rw (p, q) r in prefix_more is_gap c cs gap
 
 gap-none : (c : ℕ) (cs : List ℕ) → (c == 10) ≡ false → is_white c ≡ false → gap_len (c ∷ cs) ≡ 0
-gap-none c cs p q = rw (p, q) refl
+gap-none c cs p q = let none : is_gap c ≡ false = rw (p, q) refl in prefix_none is_gap c cs none
 
 or-true : (w : Bool) → w || true ≡ true
 or-true true = refl
@@ -139,10 +145,10 @@ abbrev kept_len : Bool → ℕ → ℕ
 kept_len t n = cond t 0 n
 
 white-more : (c : ℕ) (cs : List ℕ) → is_white c ≡ true → white_len (c ∷ cs) ≡ suc (white_len cs)
-white-more c cs q = rw q refl
+white-more c cs q = prefix_more is_white c cs q
 
 white-none : (c : ℕ) (cs : List ℕ) → is_white c ≡ false → white_len (c ∷ cs) ≡ 0
-white-none c cs q = rw q refl
+white-none c cs q = prefix_none is_white c cs q
 
 ends-on : (c : ℕ) (cs : List ℕ) (t : Bool) → is_white c ≡ true → ends_line cs ≡ t → ends_line (c ∷ cs) ≡ t
 ends-on c cs t q u = rw (white-inside c q, q) u
@@ -176,29 +182,17 @@ parts false false true e = cc
 parts false false false e = (refl, refl, refl)
 
 solid-step : (e t : Bool) (c : ℕ) (cs : List ℕ) → is_solid e c ≡ t
-    → take (front_len (is_solid e) cs) cs ++ folded e within 0 (drop (front_len (is_solid e) cs) cs) ≡ folded e within 0 cs
-    → take (front_len (is_solid e) (c ∷ cs)) (c ∷ cs) ++ folded e within 0 (drop (front_len (is_solid e) (c ∷ cs)) (c ∷ cs)) ≡ folded e within 0 (c ∷ cs)
+    → take (prefix_len (is_solid e) cs) cs ++ folded e within 0 (drop (prefix_len (is_solid e) cs) cs) ≡ folded e within 0 cs
+    → take (prefix_len (is_solid e) (c ∷ cs)) (c ∷ cs) ++ folded e within 0 (drop (prefix_len (is_solid e) (c ∷ cs)) (c ∷ cs)) ≡ folded e within 0 (c ∷ cs)
 solid-step e true c cs q h =
     let o = parts (is_white c) (c == 10) (e && (c == 92)) q in
-    let more : front_len (is_solid e) (c ∷ cs) ≡ suc (front_len (is_solid e) cs) = rw q refl in
-    ap (λ n. after_white e n n (c ∷ cs)) more ∙ ap (λ xs. c ∷ xs) h ∙ sym (at-solid e c cs o.1 (white-and (is_white c) (ends_line cs) false (ends_line cs) o.0 refl) o.2)
-solid-step e false c cs q h = rw q refl
+    ap (λ n. after_white e n n (c ∷ cs)) (prefix_more (is_solid e) c cs q) ∙ ap (λ xs. c ∷ xs) h ∙ sym (at-solid e c cs o.1 (white-and (is_white c) (ends_line cs) false (ends_line cs) o.0 refl) o.2)
+solid-step e false c cs q h = ap (λ n. after_white e n n (c ∷ cs)) (prefix_none (is_solid e) c cs q)
 
 -- bytes that stand for themselves
-pub past_solid : (e : Bool) (s : List ℕ) → take (front_len (is_solid e) s) s ++ folded e within 0 (drop (front_len (is_solid e) s) s) ≡ folded e within 0 s
+pub past_solid : (e : Bool) (s : List ℕ) → take (prefix_len (is_solid e) s) s ++ folded e within 0 (drop (prefix_len (is_solid e) s) s) ≡ folded e within 0 s
 past_solid e [] = refl
 past_solid e (c ∷ cs) = solid-step e (is_solid e c) c cs refl (past_solid e cs)
-
-front-step : (p : ℕ → Bool) (t : Bool) (c : ℕ) (cs : List ℕ) → p c ≡ t → front_len p cs ≤ length cs → front_len p (c ∷ cs) ≤ length (c ∷ cs)
-front-step p true c cs e h = rw e (let k : suc (front_len p cs) ≤ suc (length cs) = omega arith in k)
-front-step p false c cs e h = rw e (let k : 0 ≤ suc (length cs) = omega arith in k)
-
-pub front_fits : (p : ℕ → Bool) (s : List ℕ) → front_len p s ≤ length s
-front_fits p [] = omega arith
-front_fits p (c ∷ cs) = front-step p (p c) c cs refl (front_fits p cs)
-
-first-one : (p : ℕ → Bool) (c : ℕ) (cs : List ℕ) → p c ≡ true → 0 < front_len p (c ∷ cs)
-first-one p c cs e = rw e (let k : 0 < suc (front_len p cs) = omega arith in k)
 
 -- ---- the parts that the code takes
 
@@ -208,15 +202,15 @@ break_taken e (c ∷ cs) old new n lt p q r =
     let k : n ≡ suc (gap_len cs) = omega arith in
     record {
       some = omega arith;
-      inside = omega (arith, front_fits is_gap cs);
+      inside = omega (arith, prefix_len-le-length is_gap cs);
       same = rw (k, r, append_assoc, p) (ap (λ xs. old ++ xs) (sym (past_between e cs)));
     }
 
 pub white_taken : (e : Bool) (s old new : List ℕ) (n : ℕ) → 0 < length s → is_white (get_or s 0 0) ≡ true → n ≡ white_len s → new ≡ old ++ kept_white s → Folds e old new s n
 white_taken e [] old new n lt p q r = absurd (omega arith)
 white_taken e (c ∷ cs) old new n lt p q r = record {
-  some = omega (arith, first-one is_white c cs p);
-  inside = omega (arith, front_fits is_white (c ∷ cs));
+  some = omega (arith, prefix_some is_white c cs p);
+  inside = omega (arith, prefix_len-le-length is_white (c ∷ cs));
   same = rw (q, r, append_assoc) (ap (λ xs. old ++ xs) (past_white e (c ∷ cs)));
 }
 
@@ -227,11 +221,11 @@ is-solid : (w t z : Bool) → w ≡ false → t ≡ false → z ≡ false → no
 is-solid w t z p q r = rw (p, q, r) refl
 
 pub solid_taken : (e : Bool) (s old new : List ℕ) (n : ℕ) → 0 < length s → is_white (get_or s 0 0) ≡ false → (get_or s 0 0 ≡ 10 → ⊥) → e && (get_or s 0 0 == 92) ≡ false
-    → n ≡ front_len (is_solid e) s → new ≡ old ++ take (front_len (is_solid e) s) s → Folds e old new s n
+    → n ≡ prefix_len (is_solid e) s → new ≡ old ++ take (prefix_len (is_solid e) s) s → Folds e old new s n
 solid_taken e [] old new n lt p q o h r = absurd (omega arith)
 solid_taken e (c ∷ cs) old new n lt p q o h r = record {
-  some = omega (arith, first-one (is_solid e) c cs (is-solid (is_white c) (c == 10) (e && (c == 92)) p (other c 10 q) o));
-  inside = omega (arith, front_fits (is_solid e) (c ∷ cs));
+  some = omega (arith, prefix_some (is_solid e) c cs (is-solid (is_white c) (c == 10) (e && (c == 92)) p (other c 10 q) o));
+  inside = omega (arith, prefix_len-le-length (is_solid e) (c ∷ cs));
   same = rw (h, r, append_assoc) (ap (λ xs. old ++ xs) (past_solid e (c ∷ cs)));
 }
 
@@ -250,7 +244,7 @@ line_end_taken (c ∷ cs) old new n p lt q r =
     let k : n ≡ suc (suc (gap_len cs)) = omega arith in
     record {
       some = omega arith;
-      inside = omega (arith, front_fits is_gap cs);
+      inside = omega (arith, prefix_len-le-length is_gap cs);
       same = rw (k, r, append_assoc, p) (ap (λ xs. old ++ xs) (sym (past_joined true cs)));
     }
 

@@ -1,36 +1,50 @@
 -- Front matter, one line after another, as a loop finds it.
-use Rattle.std.proofs.Common.{◌≡◌, ℕ, zero, suc, ◌+◌, true, false, List, [], ◌∷◌, length, take, refl, ap, ◌∙◌, arith}
-use Rattle.std.specs.List.{concat}
+use Rattle.std.proofs.Common.{◌≡◌, ℕ, zero, suc, ◌+◌, Bool, true, false, not, List, [], ◌∷◌, length, take, drop, refl, ap, ◌∙◌, arith}
+use Rattle.std.specs.Prelude.{take_while}
+use Rattle.std.specs.List.{concat, prefix_len}
 use Rattle.std.proofs.lemmas.List.{length-append}
 use Rattle.front_yaml.specs.declared.front_matter.Front.{Front}
 use Rattle.front_yaml.specs.declared.front_matter.Front.TheVariants.{Page, Plain}
 use Rattle.site_base.specs.Lines.{lines}
 use Rattle.site_base.proofs.LinesLaws.{first_line, line_len}
-use Rattle.front_yaml.specs.Front.{begins_fence, closes, stays_open, closed, front_at, lines_while, lines_from, total, is_blank}
+use Rattle.front_yaml.specs.Front.{begins_fence, closes, stays_open, closed, front_at, total, is_blank}
+use Rattle.front_yaml.proofs.Prefixes.{prefix_more, prefix_none}
 
 -- front matter from `start`, of which the lines from `at` on are to be read
 abbrev pub open_at : ℕ → ℕ → List (List ℕ) → Front
-open_at start at ls = closed start (at + total (lines_while stays_open ls)) (lines_from stays_open ls)
+open_at start at ls = closed start (at + total (take_while stays_open ls)) (drop (prefix_len stays_open ls) ls)
 
 total_more : (line : List ℕ) (ls : List (List ℕ)) → total (line ∷ ls) ≡ length line + total ls
 total_more line ls = length-append line (concat ls)
 
+-- one line more that passes a test, and one that does not
+while_more : (p : List ℕ → Bool) (line : List ℕ) (ls : List (List ℕ)) → p line ≡ true → total (take_while p (line ∷ ls)) ≡ length line + total (take_while p ls)
+while_more p line ls e = ap (λ n. total (take n (line ∷ ls))) (prefix_more p line ls e) ∙ total_more line (take_while p ls)
+
+while_none : (p : List ℕ → Bool) (line : List ℕ) (ls : List (List ℕ)) → p line ≡ false → total (take_while p (line ∷ ls)) ≡ 0
+while_none p line ls e = ap (λ n. total (take n (line ∷ ls))) (prefix_none p line ls e)
+
 -- a line that does not close it
 pub goes_on : (start at : ℕ) (line : List ℕ) (ls : List (List ℕ)) → closes line ≡ false → open_at start at (line ∷ ls) ≡ open_at start (at + length line) ls
 goes_on start at line ls stays =
-    let e : at + total (line ∷ lines_while stays_open ls) ≡ (at + length line) + total (lines_while stays_open ls) = omega (arith, total_more line (lines_while stays_open ls)) in
-    rw (stays, e) refl
+    let open_line : stays_open line ≡ true = ap not stays in
+    let e : at + total (take_while stays_open (line ∷ ls)) ≡ (at + length line) + total (take_while stays_open ls) = omega (arith, while_more stays_open line ls open_line) in
+    ap (λ n. closed start n (drop (prefix_len stays_open (line ∷ ls)) (line ∷ ls))) e
+    ∙ ap (λ k. closed start ((at + length line) + total (take_while stays_open ls)) (drop k (line ∷ ls))) (prefix_more stays_open line ls open_line)
 
 -- the line that does
-pub ends_here : (start at : ℕ) (line : List ℕ) (ls : List (List ℕ)) → closes line ≡ true → open_at start at (line ∷ ls) ≡ Page start at (at + length line + total (lines_while is_blank ls))
-ends_here start at line ls shut = let e : at + 0 ≡ at = omega arith in rw (shut, e) refl
+pub ends_here : (start at : ℕ) (line : List ℕ) (ls : List (List ℕ)) → closes line ≡ true → open_at start at (line ∷ ls) ≡ Page start at (at + length line + total (take_while is_blank ls))
+ends_here start at line ls shut =
+    let stops : stays_open line ≡ false = ap not shut in
+    let e : at + total (take_while stays_open (line ∷ ls)) ≡ at = omega (arith, while_none stays_open line ls stops) in
+    ap (λ n. closed start n (drop (prefix_len stays_open (line ∷ ls)) (line ∷ ls))) e ∙ ap (λ k. closed start at (drop k (line ∷ ls))) (prefix_none stays_open line ls stops)
 
 -- a blank line more
-pub blank_more : (line : List ℕ) (ls : List (List ℕ)) → is_blank line ≡ true → total (lines_while is_blank (line ∷ ls)) ≡ length line + total (lines_while is_blank ls)
-blank_more line ls blank = rw blank (total_more line (lines_while is_blank ls))
+pub blank_more : (line : List ℕ) (ls : List (List ℕ)) → is_blank line ≡ true → total (take_while is_blank (line ∷ ls)) ≡ length line + total (take_while is_blank ls)
+blank_more line ls blank = while_more is_blank line ls blank
 
-pub blank_none : (line : List ℕ) (ls : List (List ℕ)) → is_blank line ≡ false → total (lines_while is_blank (line ∷ ls)) ≡ 0
-blank_none line ls blank = rw blank refl
+pub blank_none : (line : List ℕ) (ls : List (List ℕ)) → is_blank line ≡ false → total (take_while is_blank (line ∷ ls)) ≡ 0
+blank_none line ls blank = while_none is_blank line ls blank
 
 -- where no fence stands at the front of a text, none stands at that of its first line
 begins_not : (b : ℕ) (xs : List ℕ) (n : ℕ) → begins_fence b xs ≡ false → begins_fence b (take n xs) ≡ false

@@ -9,8 +9,8 @@ pub mod Halving
 pub mod HexBounds
 pub mod LineLaws
 pub mod Numbers
+pub mod Prefixes
 pub mod Added
-pub mod Trimming
 pub mod FrontLemmas
 mod Rows
 mod BlockScalarRows

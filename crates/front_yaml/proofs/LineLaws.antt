@@ -7,11 +7,16 @@ use Rattle.front_yaml.specs.Bytes.{starts, repeated, is_white, white_len}
 use Rattle.front_yaml.specs.TextLines.{Line, spaces, numbered}
 use Rattle.front_yaml.specs.BlockScalars.{starts_white}
 use Rattle.front_yaml.specs.Yaml.{is_three, is_start_text}
+use Rattle.front_yaml.proofs.Prefixes.{prefix_more, prefix_none}
+
+space-count : (t : Bool) (c : ℕ) (cs : List ℕ) → (c == 32) ≡ t → spaces (c ∷ cs) ≡ cond t (suc (spaces cs)) 0
+space-count true c cs e = prefix_more (λ b. b == 32) c cs e
+space-count false c cs e = prefix_none (λ b. b == 32) c cs e
 
 pub spaces-repeated : (n : ℕ) (r : List ℕ) → starts 32 r ≡ false → spaces (repeated n 32 ++ r) ≡ n
 spaces-repeated zero [] e = refl
-spaces-repeated zero (c ∷ cs) e = rw e refl
-spaces-repeated (suc n) r e = ap suc (spaces-repeated n r e)
+spaces-repeated zero (c ∷ cs) e = space-count false c cs e
+spaces-repeated (suc n) r e = space-count true 32 (repeated n 32 ++ r) refl ∙ ap (λ k. suc k) (spaces-repeated n r e)
 
 pub drop-repeated : (n : ℕ) (r : List ℕ) → drop n (repeated n 32 ++ r) ≡ r
 drop-repeated zero r = refl
@@ -24,22 +29,14 @@ or-left : (x y : Bool) → x || y ≡ false → x ≡ false
 or-left false y e = refl
 or-left true y e = e
 
-after_step : (b : Bool) (c : ℕ) (cs : List ℕ) → is_white c ≡ b → starts 32 (drop (white_len cs) cs) ≡ false → starts 32 (drop (cond b (suc (white_len cs)) 0) (c ∷ cs)) ≡ false
-after_step true c cs e h = h
-after_step false c cs e h = or-left _ _ e
+after_step : (b : Bool) (c : ℕ) (cs : List ℕ) → is_white c ≡ b → starts 32 (drop (white_len cs) cs) ≡ false → starts 32 (drop (white_len (c ∷ cs)) (c ∷ cs)) ≡ false
+after_step true c cs e h = ap (λ n. starts 32 (drop n (c ∷ cs))) (prefix_more is_white c cs e) ∙ h
+after_step false c cs e h = ap (λ n. starts 32 (drop n (c ∷ cs))) (prefix_none is_white c cs e) ∙ or-left _ _ e
 
 -- no space follows the longest front of white space
 pub after_white : (s : List ℕ) → starts 32 (drop (white_len s) s) ≡ false
 after_white [] = refl
 after_white (c ∷ cs) = after_step (is_white c) c cs refl (after_white cs)
-
-white_len-step : (b : Bool) (n m : ℕ) → n ≤ m → cond b (suc n) 0 ≤ suc m
-white_len-step true n m h = omega arith
-white_len-step false n m h = omega arith
-
-pub white_len-le : (s : List ℕ) → white_len s ≤ length s
-white_len-le [] = omega arith
-white_len-le (c ∷ cs) = white_len-step (is_white c) (white_len cs) (length cs) (white_len-le cs)
 
 pub after_dash : (s : List ℕ) (n : ℕ) → 0 < length s → n ≡ white_len (drop 1 s) → starts 32 (drop (1 + n) s) ≡ false
 after_dash [] n le e = absurd (omega arith)
@@ -50,8 +47,8 @@ after_dash (c ∷ cs) n le e =
 -- ---- a line's text
 
 space-step : (t : Bool) (c : ℕ) (cs : List ℕ) → (c == 32) ≡ t → starts 32 (drop (spaces cs) cs) ≡ false → starts 32 (drop (spaces (c ∷ cs)) (c ∷ cs)) ≡ false
-space-step true c cs e h = rw e h
-space-step false c cs e h = let z : spaces (c ∷ cs) ≡ 0 = rw e refl in ap (λ n. starts 32 (drop n (c ∷ cs))) z ∙ e
+space-step true c cs e h = ap (λ n. starts 32 (drop n (c ∷ cs))) (space-count true c cs e) ∙ h
+space-step false c cs e h = ap (λ n. starts 32 (drop n (c ∷ cs))) (space-count false c cs e) ∙ e
 
 -- no space follows the leading spaces
 pub after_spaces : (s : List ℕ) → starts 32 (drop (spaces s) s) ≡ false
@@ -63,9 +60,8 @@ is-space c e = grind (arith, nat_tests)
 
 again-step : (t : Bool) (c : ℕ) (cs : List ℕ) → (c == 32) ≡ t → repeated (spaces cs) 32 ++ drop (spaces cs) cs ≡ cs → repeated (spaces (c ∷ cs)) 32 ++ drop (spaces (c ∷ cs)) (c ∷ cs) ≡ c ∷ cs
 again-step true c cs e h =
-    let z : spaces (c ∷ cs) ≡ suc (spaces cs) = rw e refl in
-    ap (λ n. repeated n 32 ++ drop n (c ∷ cs)) z ∙ ap (λ xs. 32 ∷ xs) h ∙ ap (λ x. x ∷ cs) (is-space c e)
-again-step false c cs e h = let z : spaces (c ∷ cs) ≡ 0 = rw e refl in ap (λ n. repeated n 32 ++ drop n (c ∷ cs)) z
+    ap (λ n. repeated n 32 ++ drop n (c ∷ cs)) (space-count true c cs e) ∙ ap (λ xs. 32 ∷ xs) h ∙ ap (λ x. x ∷ cs) (is-space c e)
+again-step false c cs e h = ap (λ n. repeated n 32 ++ drop n (c ∷ cs)) (space-count false c cs e)
 
 pub spaces_again : (s : List ℕ) → repeated (spaces s) 32 ++ drop (spaces s) s ≡ s
 spaces_again [] = refl
@@ -86,9 +82,6 @@ unfolding lines
 lines_done done all n at s le e = sym (append-nil done) ∙ ap (λ xs. done ++ numbered n (lines xs)) (sym (drop_of_length-le s le)) ∙ e
 
 -- ---- a line from a column on
-
-space-count : (t : Bool) (c : ℕ) (cs : List ℕ) → (c == 32) ≡ t → spaces (c ∷ cs) ≡ cond t (suc (spaces cs)) 0
-space-count t c cs e = rw e refl
 
 white-step : (t : Bool) (c : ℕ) (cs : List ℕ) (k : ℕ) → (c == 32) ≡ t → k < spaces (c ∷ cs) → ((j : ℕ) → j < spaces cs → starts_white (drop j cs) ≡ true) → starts_white (drop k (c ∷ cs)) ≡ true
 white-step true c cs zero e lt h = rw e refl

@@ -1,61 +1,21 @@
 -- Sequences and mappings over lines: YAML 1.2.2, sections 6.1 and 8.2.
-use Rattle.std.specs.Prelude.{ℕ, zero, suc, ◌+◌, ◌==◌, Bool, true, false, ◌&&◌, ◌||◌, not, List, [], ◌∷◌, ◌++◌, drop, nat_lt, nat_le, if◌then◌else◌, Option, Some, None, Ok, Err}
-use Rattle.site_base.specs.declared.faults.YamlKind.{YamlKind}
+use Rattle.std.specs.Prelude.{ℕ, zero, suc, ◌+◌, Bool, true, false, ◌||◌, List, [], ◌∷◌, drop, nat_le, if◌then◌else◌, Some, None, Ok, Err}
+use Rattle.site_base.specs.Chains.{◌>>=◌}
 use Rattle.site_base.specs.declared.faults.YamlKind.TheVariants as kind
-use Rattle.site_base.specs.Plain.{Plain, nil, text, list, hash, Items, no_items, item, Pairs, no_pairs, pair}
-use Rattle.front_yaml.specs.Reading.{Fault, Reading, ◌>>=◌}
-use Rattle.front_yaml.specs.Bytes.{starts, is_empty, white_len, repeated}
-use Rattle.front_yaml.specs.TextLines.{Line, stream, indent, inside, is_blank, carries, has_tab, span, by_lines}
-use Rattle.front_yaml.specs.Quotes.{is_quote, quote_len}
-use Rattle.front_yaml.specs.PlainScalars.{starts_plain}
-use Rattle.front_yaml.specs.Extents.{opens, is_closed}
+use Rattle.site_base.specs.Plain.{Plain, nil, list, hash, Items, no_items, item, Pairs, no_pairs, pair}
+use Rattle.front_yaml.specs.Reading.{Reading, unless}
+use Rattle.front_yaml.specs.Bytes.{starts, is_empty, white_len}
+use Rattle.front_yaml.specs.TextLines.{Line, indent, inside, has_tab, span, from_place}
 use Rattle.front_yaml.specs.Flow.{settled}
-use Rattle.front_yaml.specs.BlockScalars.{block_scalar}
-use Rattle.front_yaml.specs.Keys.{is_dash, key, starts_block}
-use Rattle.front_yaml.specs.Leaves.{leaf}
-
--- lines of indent f at least, and blank ones
-abbrev pub reaches : ℕ → Line → Bool
-reaches f l = is_blank l || nat_le f (indent l)
-
--- besides, comments
-abbrev pub belongs : ℕ → Line → Bool
-belongs f l = not (carries l) || nat_le f (indent l)
-
-abbrev pub left_kind : ℕ → Line → YamlKind
-left_kind f l = if has_tab l then kind.Tab else if nat_le f (indent l) then kind.Indent else kind.NoKey
-
--- the first line that carries something is left over
-abbrev pub left_fault : ℕ → List Line → Option Fault
-left_fault f [] = None
-left_fault f (l ∷ ls) = if carries l then Some (l.number, left_kind f l) else left_fault f ls
-
-abbrev pub none_left : ℕ → List Line → Reading Plain → Reading Plain
-none_left f ls r = elim (left_fault f ls) [ Some x ↦ Err x | None ↦ r ]
-
-abbrev pub taken_by : ℕ → List ℕ → (Line → Bool)
-taken_by f s = if starts 39 s || starts 34 s then reaches f else belongs f
-
--- the scalar or flow value s at the end of the line l, whose other lines have indent f
-abbrev pub leaf_lines : ℕ → ℕ → Line → List ℕ → List Line → Reading Plain
-leaf_lines d f l s ls =
-    let part = span (taken_by f s) ls in
-    let all = s ++ (10 ∷ stream part.0) in
-    by_lines l all (leaf d all) >>= λ v. none_left f part.1 (Ok v)
-
-abbrev pub scalar_lines : ℕ → Line → List ℕ → List Line → Reading Plain
-scalar_lines f l s ls =
-    let part = span (reaches f) ls in
-    block_scalar l.number s part.0 >>= λ t. none_left f part.1 (Ok (text t))
-
--- ---- blocks
+use Rattle.front_yaml.specs.Keys.{is_dash, starts_block}
+use Rattle.front_yaml.specs.LineRuns.{is_idle, belongs, is_item, is_pair}
+use Rattle.front_yaml.specs.LineFaults.{indent_fault, none_left}
+use Rattle.front_yaml.specs.LineLeaves.{leaf_lines, scalar_lines}
+use Rattle.front_yaml.specs.LineKeys.{line_key, no_key_fault}
 
 -- the value of lines whose first carries something; the lines have indent f
 abbrev pub Block : Type 0
 Block = ℕ → List Line → Reading Plain
-
-abbrev pub is_idle : Line → Bool
-is_idle l = not (carries l)
 
 -- the block in the lines after `key:` or `-`, of which the first carries something
 abbrev pub below_first : Block → ℕ → Line → List Line → Reading Plain
@@ -95,29 +55,13 @@ abbrev pub entries : (Line → Bool) → List Line → List Line × List Entry
 entries heads [] = ([], [])
 entries heads (l ∷ ls) = let s = entries heads ls in if heads l then ([], record { head = l; more = s.0 } ∷ s.1) else (l ∷ s.0, s.1)
 
--- how many lines stand before the first entry
-abbrev pub idle_len : (Line → Bool) → List Line → ℕ
-idle_len heads [] = 0
-idle_len heads (l ∷ ls) = if heads l then 0 else suc (idle_len heads ls)
-
 -- the entries of lines of which the first is one
 abbrev pub all_entries : (Line → Bool) → Line → List Line → List Entry
 all_entries heads l ls = let s = entries heads ls in record { head = l; more = s.0 } ∷ s.1
 
-abbrev pub is_item : ℕ → Line → Bool
-is_item n l = carries l && nat_le (indent l) n
-
--- in a mapping, items of a sequence at its own indent belong to the entry before
-abbrev pub is_pair : ℕ → Line → Bool
-is_pair n l = carries l && nat_le (indent l) n && not ((indent l == n) && is_dash (inside l))
-
--- a line from a place inside it on, with spaces before
-abbrev pub from_place : ℕ → Line → Line
-from_place k l = record { number = l.number; text = repeated (indent l + k) 32 ++ drop k (inside l) }
-
 -- no entry stands at an indent below the block's
 abbrev pub at_indent : {A : Type 0} → ℕ → Line → Reading A → Reading A
-at_indent n l r = if has_tab l then Err (l.number, kind.Tab) else if nat_lt (indent l) n then Err (l.number, kind.Indent) else r
+at_indent n l r = unless (indent_fault n l) r
 
 -- an item whose value starts k bytes after the `-`'s column
 abbrev pub item_at : ℕ → Block → ℕ → Line → ℕ → List Line → Reading Plain
@@ -132,35 +76,12 @@ abbrev pub sequence : ℕ → Block → ℕ → List Entry → Reading Items
 sequence d inner n [] = Ok no_items
 sequence d inner n (e ∷ es) = at_indent n e.head (item_value d inner n e) >>= λ v. sequence d inner n es >>= λ vs. Ok (item v vs)
 
-abbrev pub no_quoted_key : ℕ → List ℕ → YamlKind
-no_quoted_key q all = elim (quote_len q (drop 1 all)) [ None ↦ kind.Quote | Some k ↦ kind.NoKey ]
-
--- why a line of a mapping has no key
-abbrev pub no_key : List ℕ → List ℕ → YamlKind
-no_key [] all = kind.NoKey
-no_key (c ∷ cs) all =
-    elim (is_quote c) [
-      | true ↦ no_quoted_key c all
-      | false ↦ elim (opens c) [
-        | true ↦ elim (is_closed all) [ false ↦ kind.Flow | true ↦ kind.NoKey ]
-        | false ↦ if starts_plain false (c ∷ cs) then kind.NoKey else kind.Outside
-      ]
-    ]
-
-abbrev pub no_key_fault : ℕ → Line → List Line → Fault
-no_key_fault f l ls = (l.number, no_key (inside l) (inside l ++ (10 ∷ stream (span (taken_by f (inside l)) ls).0)))
-
 abbrev pub pair_value : ℕ → Block → ℕ → Entry → ℕ → Reading Plain
 pair_value d inner n e k = let k' = k + white_len (drop k (inside e.head)) in entry_value d inner (n + 1) e.head (drop k' (inside e.head)) e.more
 
--- faults of a line are told by its number
-abbrev pub on_line : {A : Type 0} → ℕ → Reading A → Reading A
-on_line n (Ok x) = Ok x
-on_line n (Err f) = Err (n, f.1)
-
 abbrev pub pair_at : ℕ → Block → ℕ → Entry → Reading (List ℕ × Plain)
 pair_at d inner n e =
-    on_line e.head.number (key (inside e.head)) >>= λ k. elim k [ None ↦ Err (no_key_fault (n + 1) e.head e.more) | Some x ↦ pair_value d inner n e x.1 >>= λ v. Ok (x.0, v) ]
+    line_key e.head >>= λ k. elim k [ None ↦ Err (no_key_fault (n + 1) e.head e.more) | Some x ↦ pair_value d inner n e x.1 >>= λ v. Ok (x.0, v) ]
 
 abbrev pub mapping : ℕ → Block → ℕ → List Entry → Reading Pairs
 mapping d inner n [] = Ok no_pairs

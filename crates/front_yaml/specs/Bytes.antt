@@ -1,6 +1,6 @@
 -- Words on the bytes of a text.
-use Rattle.std.specs.Prelude.{ℕ, zero, suc, ◌+◌, ◌==◌, Bool, true, false, ◌&&◌, ◌||◌, List, [], ◌∷◌, if◌then◌else◌, Option, Some, None}
-use Rattle.site_base.specs.Fronts.{front_len}
+use Rattle.std.specs.Prelude.{ℕ, zero, suc, ◌+◌, ◌-◌, ◌==◌, Bool, true, false, ◌||◌, List, [], ◌∷◌, length, take, Option, Some, None}
+use Rattle.std.specs.List.{prefix_len, suffix_len}
 
 abbrev pub later : Option ℕ → Option ℕ
 later None = None
@@ -26,7 +26,7 @@ abbrev pub is_gap : ℕ → Bool
 is_gap c = is_white c || (c == 10)
 
 abbrev pub white_len : List ℕ → ℕ
-white_len = front_len is_white
+white_len = prefix_len is_white
 
 abbrev pub repeated : ℕ → ℕ → List ℕ
 repeated zero c = []
@@ -34,5 +34,4 @@ repeated (suc n) c = c ∷ repeated n c
 
 -- without the white space and line ends at its end
 abbrev pub trim : List ℕ → List ℕ
-trim [] = []
-trim (c ∷ cs) = let t = trim cs in if is_gap c && is_empty t then [] else c ∷ t
+trim s = take (length s - suffix_len is_gap s) s

@@ -1,5 +1,6 @@
 -- The escapes of double-quoted scalars: YAML 1.2.2, section 5.7, without those for white space and for blank characters.
-use Rattle.std.specs.Prelude.{ℕ, ◌+◌, ◌-◌, ◌*◌, ◌==◌, Bool, ◌&&◌, ◌||◌, List, [], ◌∷◌, length, take, nat_le, if◌then◌else◌, Option, Some, None}
+use Rattle.std.specs.Prelude.{ℕ, ◌+◌, ◌-◌, ◌*◌, ◌==◌, ◌&&◌, ◌||◌, List, [], ◌∷◌, length, take, nat_le, if◌then◌else◌, Option, Some, None}
+use Rattle.std.specs.Char.{is_ascii_hexdigit}
 use Rattle.std.specs.List.{list_all}
 use Rattle.std.proofs.Math.Utf8.{scalar}
 
@@ -18,9 +19,6 @@ named_char e =
     else if e == 101 then Some 27
     else None
 
-abbrev pub is_hex : ℕ → Bool
-is_hex c = (nat_le 48 c && nat_le c 57) || (nat_le 65 c && nat_le c 70) || (nat_le 97 c && nat_le c 102)
-
 abbrev pub hex_digit : ℕ → ℕ
 hex_digit c = if nat_le c 57 then c - 48 else if nat_le c 70 then c - 55 else c - 87
 
@@ -31,7 +29,7 @@ hex_from n (c ∷ cs) = hex_from (n * 16 + hex_digit c) cs
 -- the character whose number, a scalar value of Unicode, stands in n hexadecimal digits
 abbrev pub hex_char : ℕ → List ℕ → Option ℕ
 hex_char n s = let ds = take n s in
-    if (length ds == n) && list_all is_hex ds && scalar (hex_from 0 ds) then Some (hex_from 0 ds) else None
+    if (length ds == n) && list_all is_ascii_hexdigit ds && scalar (hex_from 0 ds) then Some (hex_from 0 ds) else None
 
 abbrev pub of_length : ℕ → Option ℕ → Option (ℕ × ℕ)
 of_length n None = None

@@ -1,10 +1,13 @@
 -- Flow lists and hashes: YAML 1.2.2, section 7.4.
 use Rattle.std.specs.Prelude.{ℕ, zero, suc, ◌+◌, ◌==◌, Bool, true, false, ◌||◌, List, [], ◌∷◌, length, drop, if◌then◌else◌, Ok, Err, codes}
 use Rattle.std.specs.Str.{bytes_eq}
+use Rattle.site_base.specs.Chains.{◌>>=◌}
 use Rattle.site_base.specs.declared.faults.YamlKind.TheVariants as kind
 use Rattle.site_base.specs.Plain.{Plain, nil, text, list, hash, Items, no_items, item, Pairs, no_pairs, pair, set}
 use Rattle.site_base.specs.Recursion.{down}
-use Rattle.front_yaml.specs.Reading.{Fault, Reading, ◌>>=◌, further}
+use Rattle.front_yaml.specs.declared.flow_parts.Part.{Part}
+use Rattle.front_yaml.specs.declared.flow_parts.Part.TheVariants.{Shut, Last, More}
+use Rattle.front_yaml.specs.Reading.{Fault, Reading, further}
 use Rattle.front_yaml.specs.Bytes.{starts, is_empty}
 use Rattle.front_yaml.specs.Folding.{fold}
 use Rattle.front_yaml.specs.Quotes.{is_quote, quoted}
@@ -52,21 +55,14 @@ key_text s = elim (starts 39 s || starts 34 s) [
 abbrev pub key : List ℕ → Reading (List ℕ × ℕ)
 key s = key_text s >>= λ k. further k.1 (skip false (drop k.1 s)) >>= λ n. elim (starts 58 (drop (k.1 + n) s)) [ true ↦ Ok (k.0, k.1 + n + 1) | false ↦ Err (k.1 + n, kind.Flow) ]
 
--- what stands up to the next separator: nothing before the closing bracket, an entry before it, or an entry before a comma,
--- with the bytes before the bracket or comma
-pub data Part (A : Type 0) : Type 0 where
-  shut : ℕ → Part A
-  last : A → ℕ → Part A
-  more : A → ℕ → Part A
-
 abbrev pub part_of : {A : Type 0} → A → ℕ → Bool × ℕ → Part A
-part_of x n (true, k) = last x (n + k)
-part_of x n (false, k) = more x (n + k)
+part_of x n (true, k) = Last x (n + k)
+part_of x n (false, k) = More x (n + k)
 
 -- a part whose entries are read by `entry`
 abbrev pub part : {A : Type 0} → (close : ℕ) → (entry : List ℕ → Reading (A × ℕ)) → List ℕ → Reading (Part A)
 part close entry s = skip true s >>= λ n. elim (starts close (drop n s)) [
-  | true ↦ Ok (shut n)
+  | true ↦ Ok (Shut n)
   | false ↦ further n (entry (drop n s)) >>= λ x. further (n + x.1) (separator close (drop (n + x.1) s)) >>= λ e. Ok (part_of x.0 (n + x.1) e)
 ]
 
@@ -77,9 +73,9 @@ settled done (pair k v ps) = settled (set k v done) ps
 
 module _ (child : Node) where
   abbrev pub items_after : (ℕ → Reading (Items × ℕ)) → Part Plain → Reading (Items × ℕ)
-  items_after next (shut n) = Ok (no_items, n + 1)
-  items_after next (last v n) = Ok (item v no_items, n + 1)
-  items_after next (more v n) = further (n + 1) (next n) >>= λ r. Ok (item v r.0, n + 1 + r.1)
+  items_after next (Shut n) = Ok (no_items, n + 1)
+  items_after next (Last v n) = Ok (item v no_items, n + 1)
+  items_after next (More v n) = further (n + 1) (next n) >>= λ r. Ok (item v r.0, n + 1 + r.1)
 
   abbrev pub items_step : (List ℕ → Reading (Items × ℕ)) → List ℕ → Reading (Items × ℕ)
   items_step rest [] = Err (0, kind.Flow)
@@ -97,9 +93,9 @@ module _ (child : Node) where
   entry s = key s >>= λ k. further k.1 (pair_value (drop k.1 s)) >>= λ v. Ok ((k.0, v.0), k.1 + v.1)
 
   abbrev pub pairs_after : (ℕ → Reading (Pairs × ℕ)) → Part (List ℕ × Plain) → Reading (Pairs × ℕ)
-  pairs_after next (shut n) = Ok (no_pairs, n + 1)
-  pairs_after next (last p n) = Ok (pair p.0 p.1 no_pairs, n + 1)
-  pairs_after next (more p n) = further (n + 1) (next n) >>= λ r. Ok (pair p.0 p.1 r.0, n + 1 + r.1)
+  pairs_after next (Shut n) = Ok (no_pairs, n + 1)
+  pairs_after next (Last p n) = Ok (pair p.0 p.1 no_pairs, n + 1)
+  pairs_after next (More p n) = further (n + 1) (next n) >>= λ r. Ok (pair p.0 p.1 r.0, n + 1 + r.1)
 
   abbrev pub pairs_step : (List ℕ → Reading (Pairs × ℕ)) → List ℕ → Reading (Pairs × ℕ)
   pairs_step rest [] = Err (0, kind.Flow)

@@ -1,6 +1,6 @@
 -- The front matter of a file: the YAML text between a first line `---` and a line that closes it, as in Jekyll 4.
-use Rattle.std.specs.Prelude.{◌≤◌, ℕ, ◌+◌, ◌-◌, Bool, false, ◌&&◌, ◌||◌, not, List, [], ◌∷◌, length, drop, if◌then◌else◌, ◌==◌, slice_index}
-use Rattle.std.specs.List.{list_all, concat}
+use Rattle.std.specs.Prelude.{◌≤◌, ℕ, ◌+◌, ◌-◌, Bool, false, ◌&&◌, ◌||◌, not, List, [], ◌∷◌, length, drop, take_while, if◌then◌else◌, ◌==◌, slice_index}
+use Rattle.std.specs.List.{list_all, concat, prefix_len}
 use Rattle.std.specs.Str.{IsUtf8, IsCharBoundary}
 use Rattle.site_base.specs.Lines.{lines}
 use Rattle.front_yaml.specs.declared.front_matter.Front.{Front}
@@ -35,16 +35,7 @@ opens line = is_fence 45 line && is_ended line
 abbrev pub closes : List ℕ → Bool
 closes line = is_fence 45 line || is_fence 46 line
 
--- the lines before the first that fails the test, and the lines from it on
-abbrev pub lines_while : (List ℕ → Bool) → List (List ℕ) → List (List ℕ)
-lines_while p [] = []
-lines_while p (l ∷ ls) = if p l then l ∷ lines_while p ls else []
-
-abbrev pub lines_from : (List ℕ → Bool) → List (List ℕ) → List (List ℕ)
-lines_from p [] = []
-lines_from p (l ∷ ls) = if p l then lines_from p ls else l ∷ ls
-
--- how many bytes they have
+-- how many bytes lines have
 abbrev pub total : List (List ℕ) → ℕ
 total ls = length (concat ls)
 
@@ -54,11 +45,11 @@ stays_open line = not (closes line)
 -- the YAML text from `start` to `end`, then these lines: the closing one, and after it and the blank ones the body
 abbrev pub closed : ℕ → ℕ → List (List ℕ) → Front
 closed start end [] = Open
-closed start end (line ∷ after) = Page start end (end + length line + total (lines_while is_blank after))
+closed start end (line ∷ after) = Page start end (end + length line + total (take_while is_blank after))
 
 -- front matter whose lines begin at `start`
 abbrev pub opened : ℕ → List (List ℕ) → Front
-opened start ls = closed start (start + total (lines_while stays_open ls)) (lines_from stays_open ls)
+opened start ls = closed start (start + total (take_while stays_open ls)) (drop (prefix_len stays_open ls) ls)
 
 -- a file whose lines begin at this place
 abbrev pub front_at : ℕ → List (List ℕ) → Front

@@ -5,11 +5,8 @@ use Rattle.site_base.specs.View.{plain}
 use Rattle.site_base.specs.declared.value.Value.{Value}
 use Rattle.front_yaml.specs.Reading.{Reading}
 use Rattle.front_yaml.specs.Bytes.{is_gap, white_len}
-use Rattle.front_yaml.specs.Flow.{Part, shut, last, more}
-use Rattle.front_yaml.specs.declared.flow_values.ItemPart.{ItemPart}
-use Rattle.front_yaml.specs.declared.flow_values.ItemPart.TheVariants as item_part
-use Rattle.front_yaml.specs.declared.flow_values.PairPart.{PairPart}
-use Rattle.front_yaml.specs.declared.flow_values.PairPart.TheVariants as pair_part
+use Rattle.front_yaml.specs.declared.flow_parts.Part.{Part}
+use Rattle.front_yaml.specs.declared.flow_parts.Part.TheVariants.{Shut, Last, More}
 use Rattle.front_yaml.specs.Folding.{within, folded, ends_line}
 use Rattle.site_base.specs.declared.faults.YamlKind.{YamlKind}
 use Rattle.front_yaml.specs.declared.faults.PlaceFault.{PlaceFault}
@@ -24,90 +21,77 @@ abbrev pub FailsAt : {A : Type 0} → PlaceError → Reading A → Type 0
 FailsAt place_error.Memory r = Unit {0}
 FailsAt (place_error.Fault f) r = r ≡ Err (f.place, f.kind)
 
--- the definition's value or first fault, unless memory ran out
+-- the definition's value, which `seen` makes of the answer's, or its first fault, unless memory ran out
+abbrev pub ReadsAs : {A B : Type 0} → (A → B) → Result A PlaceError → Reading B → Type 0
+ReadsAs seen (Ok x) r = r ≡ Ok (seen x)
+ReadsAs seen (Err e) r = FailsAt e r
+
 abbrev pub ReadsAt : {A : Type 0} → Result A PlaceError → Reading A → Type 0
-ReadsAt (Ok x) r = r ≡ Ok x
-ReadsAt (Err e) r = FailsAt e r
+ReadsAt = ReadsAs (λ x. x)
 
 -- a fault as the definition has it
 abbrev pub as_pair : PlaceFault → ℕ × YamlKind
 as_pair f = (f.place, f.kind)
 
--- the same of a value, for which a plain tree stands
+-- a value, for which a plain tree stands
 abbrev pub ReadsValue : Result Value PlaceError → Reading Plain → Type 0
-ReadsValue (Ok v) r = r ≡ Ok (plain v)
-ReadsValue (Err e) r = FailsAt e r
+ReadsValue = ReadsAs plain
 
--- the same of a value with its bytes
+-- a value with its bytes
 abbrev pub ReadsSized : Result (Value × ℕ) PlaceError → Reading (Plain × ℕ) → Type 0
-ReadsSized (Ok x) r = r ≡ Ok (plain x.0, x.1)
-ReadsSized (Err e) r = FailsAt e r
+ReadsSized = ReadsAs (λ x. (plain x.0, x.1))
 
--- the same of a leaf with its bytes and the kind of what may not follow it
+-- a leaf with its bytes and the kind of what may not follow it
 abbrev pub ReadsLeaf : Result (Value × ℕ × YamlKind) PlaceError → Reading (Plain × (ℕ × YamlKind)) → Type 0
-ReadsLeaf (Ok x) r = r ≡ Ok (plain x.0, (x.1, x.2))
-ReadsLeaf (Err e) r = FailsAt e r
+ReadsLeaf = ReadsAs (λ x. (plain x.0, (x.1, x.2)))
+
+-- an entry of a flow hash, with its bytes
+abbrev pub ReadsEntry : Result (List ℕ × Value × ℕ) PlaceError → Reading ((List ℕ × Plain) × ℕ) → Type 0
+ReadsEntry = ReadsAs (λ x. ((x.0, plain x.1), x.2))
+
+-- a part of a flow list or hash
+abbrev pub part_as : {A B : Type 0} → (A → B) → Part A → Part B
+part_as seen (Shut n) = Shut n
+part_as seen (Last x n) = Last (seen x) n
+part_as seen (More x n) = More (seen x) n
+
+abbrev pub ReadsItem : Result (Part Value) PlaceError → Reading (Part Plain) → Type 0
+ReadsItem = ReadsAs (part_as plain)
+
+abbrev pub ReadsPair : Result (Part (List ℕ × Value)) PlaceError → Reading (Part (List ℕ × Plain)) → Type 0
+ReadsPair = ReadsAs (part_as (λ x. (x.0, plain x.1)))
+
+-- the bytes of a part, with the separator behind it
+abbrev pub part_len : {A : Type 0} → Part A → ℕ
+part_len (Shut n) = n + 1
+part_len (Last x n) = n + 1
+part_len (More x n) = n + 1
+
+-- what was read, which has `len` bytes, or the place of a fault, is within n bytes
+abbrev pub FitsBy : {A : Type 0} → (A → ℕ) → ℕ → Result A PlaceError → Type 0
+FitsBy len n (Ok x) = len x ≤ n
+FitsBy len n (Err place_error.Memory) = Unit {0}
+FitsBy len n (Err (place_error.Fault f)) = f.place ≤ n
+
+abbrev pub Fits : {A : Type 0} → ℕ → Result (A × ℕ) PlaceError → Type 0
+Fits = FitsBy (λ x. x.1)
 
 abbrev pub LeafFits : ℕ → Result (Value × ℕ × YamlKind) PlaceError → Type 0
-LeafFits n (Ok x) = x.1 ≤ n
-LeafFits n (Err place_error.Memory) = Unit {0}
-LeafFits n (Err (place_error.Fault f)) = f.place ≤ n
-
--- the same of an entry of a flow hash, with its bytes
-abbrev pub ReadsEntry : Result (List ℕ × Value × ℕ) PlaceError → Reading ((List ℕ × Plain) × ℕ) → Type 0
-ReadsEntry (Ok x) r = r ≡ Ok ((x.0, plain x.1), x.2)
-ReadsEntry (Err e) r = FailsAt e r
+LeafFits = FitsBy (λ x. x.1)
 
 abbrev pub EntryFits : ℕ → Result (List ℕ × Value × ℕ) PlaceError → Type 0
-EntryFits n (Ok x) = x.2 ≤ n
-EntryFits n (Err place_error.Memory) = Unit {0}
-EntryFits n (Err (place_error.Fault f)) = f.place ≤ n
+EntryFits = FitsBy (λ x. x.2)
 
--- the same of a part of a flow list
-abbrev pub ReadsItem : Result ItemPart PlaceError → Reading (Part Plain) → Type 0
-ReadsItem (Ok (item_part.Shut n)) r = r ≡ Ok (shut n)
-ReadsItem (Ok (item_part.Last v n)) r = r ≡ Ok (last (plain v) n)
-ReadsItem (Ok (item_part.More v n)) r = r ≡ Ok (more (plain v) n)
-ReadsItem (Err e) r = FailsAt e r
-
-abbrev pub ItemFits : ℕ → Result ItemPart PlaceError → Type 0
-ItemFits n (Ok (item_part.Shut k)) = k < n
-ItemFits n (Ok (item_part.Last v k)) = k < n
-ItemFits n (Ok (item_part.More v k)) = k < n
-ItemFits n (Err place_error.Memory) = Unit {0}
-ItemFits n (Err (place_error.Fault f)) = f.place ≤ n
-
--- the same of a part of a flow hash
-abbrev pub ReadsPair : Result PairPart PlaceError → Reading (Part (List ℕ × Plain)) → Type 0
-ReadsPair (Ok (pair_part.Shut n)) r = r ≡ Ok (shut n)
-ReadsPair (Ok (pair_part.Last k v n)) r = r ≡ Ok (last (k, plain v) n)
-ReadsPair (Ok (pair_part.More k v n)) r = r ≡ Ok (more (k, plain v) n)
-ReadsPair (Err e) r = FailsAt e r
-
-abbrev pub PairFits : ℕ → Result PairPart PlaceError → Type 0
-PairFits n (Ok (pair_part.Shut k)) = k < n
-PairFits n (Ok (pair_part.Last name v k)) = k < n
-PairFits n (Ok (pair_part.More name v k)) = k < n
-PairFits n (Err place_error.Memory) = Unit {0}
-PairFits n (Err (place_error.Fault f)) = f.place ≤ n
-
--- a fault stands within n bytes
-abbrev pub FaultFits : {A : Type 0} → ℕ → Result A PlaceError → Type 0
-FaultFits n (Ok x) = Unit {0}
-FaultFits n (Err place_error.Memory) = Unit {0}
-FaultFits n (Err (place_error.Fault f)) = f.place ≤ n
+abbrev pub PartFits : {A : Type 0} → ℕ → Result (Part A) PlaceError → Type 0
+PartFits = FitsBy part_len
 
 -- a separator stands within n bytes, some bytes behind a place
 abbrev pub SeparatorFits : ℕ → ℕ → Result (Bool × ℕ) PlaceError → Type 0
-SeparatorFits at n (Ok x) = at + x.1 < n
-SeparatorFits at n (Err place_error.Memory) = Unit {0}
-SeparatorFits at n (Err (place_error.Fault f)) = f.place ≤ n
+SeparatorFits at = FitsBy (λ x. at + x.1 + 1)
 
--- what was read, or the place of a fault, is within n bytes
-abbrev pub Fits : {A : Type 0} → ℕ → Result (A × ℕ) PlaceError → Type 0
-Fits n (Ok x) = x.1 ≤ n
-Fits n (Err place_error.Memory) = Unit {0}
-Fits n (Err (place_error.Fault f)) = f.place ≤ n
+-- a fault stands within n bytes
+abbrev pub FaultFits : {A : Type 0} → ℕ → Result A PlaceError → Type 0
+FaultFits = FitsBy (λ _. 0)
 
 -- the same of a reading by lines
 abbrev pub FailsLines : {A : Type 0} → YamlError → Reading A → Type 0

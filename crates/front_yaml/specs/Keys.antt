@@ -1,8 +1,9 @@
 -- What starts a line of a block: a `-`, or a key. YAML 1.2.2, sections 8.2.1 and 8.2.2.
 use Rattle.std.specs.Prelude.{ℕ, ◌+◌, ◌==◌, Bool, true, false, ◌&&◌, ◌||◌, List, [], ◌∷◌, take, drop, Option, Some, None, Ok, Err, codes}
 use Rattle.std.specs.Str.{bytes_eq}
+use Rattle.site_base.specs.Chains.{◌>>=◌}
 use Rattle.site_base.specs.declared.faults.YamlKind.TheVariants as kind
-use Rattle.front_yaml.specs.Reading.{Reading, ◌>>=◌}
+use Rattle.front_yaml.specs.Reading.{Reading}
 use Rattle.front_yaml.specs.Bytes.{starts, is_empty, white_len, trim}
 use Rattle.front_yaml.specs.Quotes.{is_quote, quote_len, quoted}
 use Rattle.front_yaml.specs.PlainScalars.{separates, starts_plain, plain_raw, first_colon}

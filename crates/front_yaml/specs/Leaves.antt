@@ -1,9 +1,10 @@
 -- A value that is no block: one scalar, or one flow value, and nothing after it.
 use Rattle.std.specs.Prelude.{ℕ, ◌==◌, true, false, List, [], ◌∷◌, take, drop, if◌then◌else◌, Ok, Err}
+use Rattle.site_base.specs.Chains.{◌>>=◌}
 use Rattle.site_base.specs.declared.faults.YamlKind.{YamlKind}
 use Rattle.site_base.specs.declared.faults.YamlKind.TheVariants as kind
 use Rattle.site_base.specs.Plain.{Plain, text}
-use Rattle.front_yaml.specs.Reading.{Reading, ◌>>=◌, further}
+use Rattle.front_yaml.specs.Reading.{Reading, further}
 use Rattle.front_yaml.specs.Bytes.{is_empty}
 use Rattle.front_yaml.specs.TextLines.{line_ends}
 use Rattle.front_yaml.specs.Quotes.{is_quote, quoted}

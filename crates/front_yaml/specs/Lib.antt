@@ -10,6 +10,10 @@ pub mod Gaps
 pub mod Given
 pub mod Keys
 pub mod Leaves
+pub mod LineFaults
+pub mod LineKeys
+pub mod LineLeaves
+pub mod LineRuns
 pub mod PlainScalars
 pub mod Quotes
 pub mod Reading

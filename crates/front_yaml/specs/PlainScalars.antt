@@ -1,8 +1,9 @@
 -- Plain scalars: YAML 1.2.2, section 7.3.3. `flow` says that one stands inside brackets.
 use Rattle.std.specs.Prelude.{ℕ, suc, ◌==◌, Bool, true, false, ◌&&◌, ◌||◌, not, List, [], ◌∷◌, length, take, if◌then◌else◌, Option, Some, None, Ok, Err, codes}
+use Rattle.site_base.specs.Chains.{◌>>=◌}
 use Rattle.site_base.specs.declared.faults.YamlKind.TheVariants as kind
 use Rattle.site_base.specs.Plain.{Plain}
-use Rattle.front_yaml.specs.Reading.{Fault, Reading, ◌>>=◌}
+use Rattle.front_yaml.specs.Reading.{Fault, Reading}
 use Rattle.front_yaml.specs.Bytes.{later, is_gap, trim}
 use Rattle.front_yaml.specs.Scalars.{resolve}
 use Rattle.front_yaml.specs.Folding.{fold, first_tab, earlier, as_fault}

@@ -1,5 +1,5 @@
 -- What the reading of a text gives: a value, or the first fault in the order of the text.
-use Rattle.std.specs.Prelude.{ℕ, ◌+◌, Result, Ok, Err}
+use Rattle.std.specs.Prelude.{ℕ, ◌+◌, Option, Some, None, Result, Ok, Err}
 use Rattle.site_base.specs.declared.faults.YamlKind.{YamlKind}
 
 -- where (the place of a byte in a text, or the number of a line), and what is wrong there
@@ -10,11 +10,10 @@ Fault = ℕ × YamlKind
 abbrev pub Reading : Type 0 → Type 0
 Reading A = Result A Fault
 
--- a reading, and if it has a value another one of what follows
-infixl 10 ◌>>=◌
-abbrev pub ◌>>=◌ : {A B : Type 0} → Reading A → (A → Reading B) → Reading B
-(Ok x) >>= f = f x
-(Err e) >>= f = Err e
+-- the fault that there is, or else a reading
+abbrev pub unless : {A : Type 0} → Option Fault → Reading A → Reading A
+unless (Some f) r = Err f
+unless None r = r
 
 -- the same reading of a text in which k bytes stand before
 abbrev pub further : {A : Type 0} → ℕ → Reading A → Reading A

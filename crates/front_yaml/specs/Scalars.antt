@@ -1,5 +1,6 @@
 -- What a plain scalar stands for: nothing, a truth value, an integer or a text.
 use Rattle.std.specs.Prelude.{ℕ, zero, suc, ◌+◌, ◌-◌, ◌*◌, ◌^◌, ◌==◌, Bool, true, false, ◌&&◌, ◌||◌, not, List, [], ◌∷◌, nat_lt, nat_le, if◌then◌else◌, Ok, Err, ℤ, pos, negsuc, codes}
+use Rattle.std.specs.Char.{is_ascii_digit}
 use Rattle.std.specs.List.{list_all}
 use Rattle.std.specs.Str.{bytes_eq}
 use Rattle.site_base.specs.declared.faults.YamlKind.TheVariants as kind
@@ -11,16 +12,13 @@ abbrev pub is_among : List ℕ → List (List ℕ) → Bool
 is_among s [] = false
 is_among s (w ∷ ws) = bytes_eq s w || is_among s ws
 
-abbrev pub is_digit : ℕ → Bool
-is_digit c = nat_le 48 c && nat_le c 57
-
 abbrev pub number_from : ℕ → List ℕ → ℕ
 number_from n [] = n
 number_from n (c ∷ cs) = number_from (n * 10 + (c - 48)) cs
 
 -- decimal digits without a leading zero, or `0`
 abbrev pub is_number : List ℕ → Bool
-is_number s = not (is_empty s) && list_all is_digit s && (not (starts 48 s) || bytes_eq s (48 ∷ []))
+is_number s = not (is_empty s) && list_all is_ascii_digit s && (not (starts 48 s) || bytes_eq s (48 ∷ []))
 
 abbrev pub unsigned : List ℕ → List ℕ
 unsigned [] = []

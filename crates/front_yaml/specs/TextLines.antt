@@ -1,9 +1,9 @@
 -- The lines of a text, and what a line carries: YAML 1.2.2, sections 5.4, 6.1 and 6.6.
-use Rattle.std.specs.Prelude.{ℕ, suc, ◌+◌, ◌==◌, Bool, ◌||◌, not, List, [], ◌∷◌, ◌++◌, take, drop, if◌then◌else◌, Ok, Err}
-use Rattle.site_base.specs.Fronts.{front_len}
+use Rattle.std.specs.Prelude.{ℕ, suc, ◌+◌, ◌==◌, Bool, ◌||◌, not, List, [], ◌∷◌, ◌++◌, take, take_while, drop, if◌then◌else◌, Ok, Err}
+use Rattle.std.specs.List.{prefix_len}
 use Rattle.site_base.specs.Lines.{lines}
 use Rattle.front_yaml.specs.Reading.{Reading}
-use Rattle.front_yaml.specs.Bytes.{starts, is_empty, white_len}
+use Rattle.front_yaml.specs.Bytes.{starts, is_empty, white_len, repeated}
 
 -- a line: its number, and its text without the line end
 pub record Line : Type 0 where
@@ -15,7 +15,7 @@ abbrev pub is_inside : ℕ → Bool
 is_inside c = not ((c == 10) || (c == 13))
 
 abbrev pub without_end : List ℕ → List ℕ
-without_end line = take (front_len is_inside line) line
+without_end = take_while is_inside
 
 abbrev pub line_of : ℕ → List ℕ → Line
 line_of n t = record { number = n; text = without_end t }
@@ -34,7 +34,7 @@ stream [] = []
 stream (l ∷ ls) = l.text ++ (10 ∷ stream ls)
 
 abbrev pub spaces : List ℕ → ℕ
-spaces = front_len (λ c. c == 32)
+spaces = prefix_len (λ c. c == 32)
 
 abbrev pub indent : Line → ℕ
 indent l = spaces l.text
@@ -48,6 +48,10 @@ is_blank l = is_empty (drop (white_len (inside l)) (inside l))
 abbrev pub is_comment : Line → Bool
 is_comment l = starts 35 (inside l)
 
+-- the line from a place inside it on, with spaces before
+abbrev pub from_place : ℕ → Line → Line
+from_place k l = record { number = l.number; text = repeated (indent l + k) 32 ++ drop k (inside l) }
+
 -- blank lines and comments carry nothing
 abbrev pub carries : Line → Bool
 carries l = not (is_blank l || is_comment l)
@@ -55,14 +59,9 @@ carries l = not (is_blank l || is_comment l)
 abbrev pub has_tab : Line → Bool
 has_tab l = starts 9 (inside l)
 
--- how many lines at the front pass
-abbrev pub run : (Line → Bool) → List Line → ℕ
-run p [] = 0
-run p (l ∷ ls) = if p l then suc (run p ls) else 0
-
 -- the longest front of lines that pass, and the others
 abbrev pub span : (Line → Bool) → List Line → List Line × List Line
-span p ls = (take (run p ls) ls, drop (run p ls) ls)
+span p ls = (take_while p ls, drop (prefix_len p ls) ls)
 
 abbrev pub line_ends : List ℕ → ℕ
 line_ends [] = 0

@@ -1,8 +1,9 @@
 -- The value of a text: YAML 1.2.2, sections 5.2 and 9.1 for what stands around it.
 use Rattle.std.specs.Prelude.{ℕ, ◌==◌, Bool, false, ◌&&◌, ◌||◌, not, List, [], ◌∷◌, drop, if◌then◌else◌, Ok, Err}
+use Rattle.site_base.specs.Chains.{◌>>=◌}
 use Rattle.site_base.specs.declared.faults.YamlKind.TheVariants as kind
 use Rattle.site_base.specs.Plain.{Plain, nil, hash, Pairs, no_pairs}
-use Rattle.front_yaml.specs.Reading.{Reading, ◌>>=◌}
+use Rattle.front_yaml.specs.Reading.{Reading}
 use Rattle.front_yaml.specs.Bytes.{starts, is_empty, white_len}
 use Rattle.front_yaml.specs.TextLines.{Line, text_lines, span}
 use Rattle.front_yaml.specs.Blocks.{block, below}

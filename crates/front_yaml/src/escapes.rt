@@ -1,8 +1,9 @@
 // The escapes of double-quoted scalars.
 ghost use Rattle.std.specs.Prelude.{◌≡◌, ◌≤◌, ◌<◌, ◌+◌, ◌∷◌, length, drop, MatchOption, if◌then◌else◌, Some, None, IfSome};
+ghost use Rattle.std.specs.Char.{is_ascii_hexdigit};
 ghost use Rattle.std.specs.List.{list_all};
 ghost use Rattle.std.proofs.Math.Utf8.{scalar};
-ghost use Rattle.front_yaml.specs.Escapes.{named_char, is_hex, hex_digit, hex_from, hex_char, of_length, escape};
+ghost use Rattle.front_yaml.specs.Escapes.{named_char, hex_digit, hex_from, hex_char, of_length, escape};
 ghost use Rattle.front_yaml.specs.Bytes.{added};
 ghost use Rattle.front_yaml.specs.Quotes.{escape_len, bad_escape};
 
@@ -28,16 +29,10 @@ fn named_char(letter: u8) -> Option<char>
     }
 }
 
-fn is_hex(c: u8) -> bool
-    ensures { result ≡ is_hex c }
-{
-    (48 <= c && c <= 57) || (65 <= c && c <= 70) || (97 <= c && c <= 102)
-}
-
 fn all_hex(digits: &[u8]) -> bool
-    ensures { result ≡ list_all is_hex digits.now }
+    ensures { result ≡ list_all is_ascii_hexdigit digits.now }
 {
-    digits.iter().all(|c| is_hex(*c))
+    digits.iter().all(|c| c.is_ascii_hexdigit())
 }
 
 fn hex_digit(c: u8) -> u64

@@ -1,11 +1,12 @@
-// Where quotes and flow values end.
-ghost use Rattle.std.specs.Prelude.{◌≡◌, ◌<◌, ◌≤◌, ◌+◌, ◌&&◌, ◌||◌, ◌==◌, ◌^◌, false, true, length, IfSome};
+// Where flow values end.
+ghost use Rattle.std.specs.Prelude.{◌≡◌, ◌<◌, ◌+◌, ◌&&◌, ◌==◌, ◌^◌, false, true, length};
 ghost use Rattle.front_yaml.specs.Extents.{opens, begins_value, closes, may_end_key, is_fresh, is_separator, is_closed};
 ghost use Rattle.front_yaml.specs.Scanning.{Stepped, IsNear};
-ghost use Rattle.front_yaml.specs.Quotes.{single_len, double_len, quote_len, is_quote};
+ghost use Rattle.front_yaml.specs.Quotes.{is_quote};
 
 use crate::plain_scalars::separates;
-use crate::scans::{is_gap, starts, tail};
+use crate::quote_ends::{is_quote, quote_len};
+use crate::scans::{is_gap, tail};
 
 /// What stands before a byte of a flow value.
 #[derive(Clone, Copy)]
@@ -16,69 +17,6 @@ pub(crate) enum Before {
     Plainly,
     /// The end of a value.
     Ended,
-}
-
-pub(crate) fn is_quote(c: u8) -> bool
-    ensures { result ≡ is_quote c }
-{
-    c == b'\'' || c == b'"'
-}
-
-// How many bytes stand before the closing double quote.
-#[tactic(auto, using(crate::proofs::Added::added_later, crate::proofs::Added::added_zero))]
-fn double_len(text: &[u8]) -> Option<usize>
-    ensures value { result ≡ double_len 0 text.now }
-    ensures within { IfSome result (λ n. n < length text.now) }
-{
-    let mut escaped = false;
-    let mut n = 0;
-    while n < text.len() {
-        let c = text[n];
-        n += 1;
-        if escaped {
-            escaped = false;
-        } else if c == b'"' {
-            return Some(n - 1);
-        } else {
-            escaped = c == b'\\';
-        }
-    }
-    None
-}
-
-// How many bytes stand before the closing single quote.
-#[tactic(auto, using(crate::proofs::Added::added_later, crate::proofs::Added::added_zero))]
-fn single_len(text: &[u8]) -> Option<usize>
-    ensures value { result ≡ single_len 0 text.now }
-    ensures within { IfSome result (λ n. n < length text.now) }
-{
-    let mut second = false;
-    let mut n = 0;
-    while n < text.len() {
-        let quote = text[n] == b'\'';
-        let doubled = starts(tail(text, n + 1), b'\'');
-        if second {
-            second = false;
-        } else if quote && !doubled {
-            return Some(n);
-        } else {
-            second = quote;
-        }
-        n += 1;
-    }
-    None
-}
-
-/// How many bytes stand before the quote that closes what this one opened, where one does.
-pub(crate) fn quote_len(quote: u8, text: &[u8]) -> Option<usize>
-    ensures value { result ≡ quote_len quote text.now }
-    ensures within { IfSome result (λ n. n < length text.now) }
-{
-    if quote == b'\'' {
-        single_len(text)
-    } else {
-        double_len(text)
-    }
 }
 
 pub(crate) fn opens(c: u8) -> bool

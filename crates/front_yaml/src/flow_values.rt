@@ -1,158 +1,18 @@
 // Flow lists and hashes.
-ghost use Rattle.std.specs.Prelude.{◌≡◌, ◌≤◌, ◌+◌, false, true, length, drop, IfOk};
-ghost use Rattle.front_yaml.specs.Reading.{further};
+ghost use Rattle.std.specs.Prelude.{◌≡◌, true, length};
 ghost use Rattle.front_yaml.specs.Extents.{begins_value};
-ghost use Rattle.front_yaml.specs.Flow.{start_fault, key_text, key, separator, scalar, node, part, items, pair_value, entry, hash_pairs, list_value, hash_value, collection, flow};
-ghost use Rattle.front_yaml.specs.Given.{ReadsAt, ReadsSized, ReadsEntry, ReadsItem, ReadsPair, Fits, FaultFits, EntryFits, ItemFits, PairFits, SeparatorFits};
-ghost use Rattle.front_yaml.specs.Gaps.{skip};
-ghost use Rattle.front_yaml.specs.declared.faults.PlaceError.TheVariants.{Fault};
+ghost use Rattle.front_yaml.specs.Flow.{node, part, items, pair_value, entry, hash_pairs, list_value, hash_value, collection, flow};
+ghost use Rattle.front_yaml.specs.Given.{ReadsAt, ReadsSized, ReadsEntry, ReadsItem, ReadsPair, Fits, EntryFits, PartFits};
 
-use crate::extents::{begins_value, is_closed, is_quote};
+use crate::extents::{begins_value, is_closed};
 use crate::faults::PlaceError;
-use crate::folding::folded;
+use crate::flow_parts::{Part, separator_from};
+use crate::flow_scalars::{key, scalar};
 use crate::gaps::skip;
-use crate::growth::{put, text_of};
-use crate::plain_scalars::{is_bracket, plain, plain_fault, plain_raw, starts_plain};
-use crate::quotes::quoted;
-use crate::scalars::equals;
+use crate::growth::put;
 use crate::scans::{starts, tail};
 use site_base::{GrowingHash, Hash, List, Text, Value, YamlKind};
 use std::alloc::Global;
-
-/// What stands in a flow list up to the next separator, with the bytes before that.
-#[derive(Drop)]
-pub(crate) enum ItemPart {
-    /// Nothing, and then the end.
-    Shut(usize),
-    /// An item before the end.
-    Last(Value, usize),
-    /// An item before a comma.
-    More(Value, usize),
-}
-
-/// What stands in a flow hash up to the next separator, with the bytes before that.
-#[derive(Drop)]
-pub(crate) enum PairPart {
-    /// Nothing, and then the end.
-    Shut(usize),
-    /// A key with its value before the end.
-    Last(Text, Value, usize),
-    /// A key with its value before a comma.
-    More(Text, Value, usize),
-}
-
-// The fault of a byte that starts no value.
-fn start_fault(text: &[u8]) -> PlaceError
-    ensures { result ≡ Fault (record { place = (start_fault text.now).0; kind = (start_fault text.now).1 }) }
-{
-    match text {
-        [] => PlaceError::at(0, YamlKind::Flow),
-        [c, ..] => {
-            if is_bracket(*c) || *c == b':' {
-                PlaceError::at(0, YamlKind::Flow)
-            } else {
-                PlaceError::at(0, YamlKind::Outside)
-            }
-        }
-    }
-}
-
-// The key at the front, without its `:`, and its bytes.
-fn key_text(alloc: Global, text: &[u8]) -> Result<(Text, usize), PlaceError>
-    ensures value { ReadsAt result (key_text text.now) }
-    ensures within { Fits (length text.now) result }
-{
-    if starts(text, b'\'') || starts(text, b'"') {
-        return quoted(alloc, text);
-    }
-    if !starts_plain(true, text) {
-        return Err(start_fault(text));
-    }
-    let raw = plain_raw(true, text);
-    if let Some(fault) = plain_fault(true, raw) {
-        return Err(PlaceError::Fault(fault));
-    }
-    if equals(raw, "<<") {
-        return Err(PlaceError::at(0, YamlKind::Outside));
-    }
-    Ok((text_of(folded(alloc, false, raw)?)?, raw.len()))
-}
-
-// How many bytes carry nothing behind some bytes of a text.
-fn skip_from(text: &[u8], at: usize) -> Result<usize, PlaceError>
-    requires { at ≤ length text.now }
-    ensures value { ReadsAt result (further at (skip false (drop at text.now))) }
-    ensures within { IfOk result (λ n. at + n ≤ length text.now) }
-    ensures place { FaultFits (length text.now) result }
-{
-    match skip(false, tail(text, at)) {
-        Ok(len) => Ok(len),
-        Err(PlaceError::Fault(fault)) => Err(fault.further(at)),
-        Err(PlaceError::Memory) => Err(PlaceError::Memory),
-    }
-}
-
-// The key at the front, and its bytes with the `:`.
-fn key(alloc: Global, text: &[u8]) -> Result<(Text, usize), PlaceError>
-    ensures value { ReadsAt result (key text.now) }
-    ensures within { Fits (length text.now) result }
-{
-    let (name, len) = match key_text(alloc, text) {
-        Ok(found) => found,
-        Err(error) => return Err(error),
-    };
-    let gap = match skip_from(text, len) {
-        Ok(gap) => gap,
-        Err(error) => return Err(error),
-    };
-    if starts(tail(text, len + gap), b':') {
-        Ok((name, len + gap + 1))
-    } else {
-        Err(PlaceError::at(len + gap, YamlKind::Flow))
-    }
-}
-
-// The separator behind some bytes, or the closing bracket: whether it closes, and the bytes before it.
-fn separator_from(close: u8, text: &[u8], at: usize) -> Result<(bool, usize), PlaceError>
-    requires { at ≤ length text.now }
-    ensures value { ReadsAt result (further at (separator close (drop at text.now))) }
-    ensures within { SeparatorFits at (length text.now) result }
-{
-    let gap = match skip_from(text, at) {
-        Ok(gap) => gap,
-        Err(error) => return Err(error),
-    };
-    let rest = tail(text, at + gap);
-    if starts(rest, close) {
-        Ok((true, gap))
-    } else if starts(rest, b',') {
-        Ok((false, gap))
-    } else {
-        Err(PlaceError::at(at + gap, YamlKind::Flow))
-    }
-}
-
-// The scalar at the front, and its bytes.
-fn scalar(alloc: Global, text: &[u8]) -> Result<(Value, usize), PlaceError>
-    ensures value { ReadsSized result (scalar text.now) }
-    ensures within { Fits (length text.now) result }
-{
-    match text {
-        [] => Err(start_fault(text)),
-        [c, ..] => {
-            if is_quote(*c) {
-                match quoted(alloc, text) {
-                    Ok((text, len)) => Ok((Value::Text(text), len)),
-                    Err(error) => Err(error),
-                }
-            } else if starts_plain(true, text) {
-                plain(alloc, true, text)
-            } else {
-                Err(start_fault(text))
-            }
-        }
-    }
-}
 
 // The value at the front, in which some more lists and hashes may nest, and its bytes.
 #[cycle(flow)]
@@ -222,12 +82,12 @@ fn items(alloc: Global, depth: u32, text: &[u8]) -> Result<(List, usize), PlaceE
     let mut n = 0;
     while n < text.len() {
         match item_part(alloc, depth, tail(text, n)) {
-            Ok(ItemPart::Shut(len)) => return Ok((items, n + len + 1)),
-            Ok(ItemPart::Last(value, len)) => {
+            Ok(Part::Shut(len)) => return Ok((items, n + len + 1)),
+            Ok(Part::Last(value, len)) => {
                 items.push(value)?;
                 return Ok((items, n + len + 1));
             }
-            Ok(ItemPart::More(value, len)) => {
+            Ok(Part::More(value, len)) => {
                 items.push(value)?;
                 n += len + 1;
             }
@@ -240,9 +100,9 @@ fn items(alloc: Global, depth: u32, text: &[u8]) -> Result<(List, usize), PlaceE
 
 // What stands in a list up to the next separator.
 #[cycle(flow)]
-fn item_part(alloc: Global, depth: u32, text: &[u8]) -> Result<ItemPart, PlaceError>
+fn item_part(alloc: Global, depth: u32, text: &[u8]) -> Result<Part<Value>, PlaceError>
     ensures value { ReadsItem result (part 93 (node (collection depth)) text.now) }
-    ensures within { ItemFits (length text.now) result }
+    ensures within { PartFits (length text.now) result }
 {
     let gap = match skip(true, text) {
         Ok(gap) => gap,
@@ -250,7 +110,7 @@ fn item_part(alloc: Global, depth: u32, text: &[u8]) -> Result<ItemPart, PlaceEr
     };
     let rest = tail(text, gap);
     if starts(rest, b']') {
-        return Ok(ItemPart::Shut(gap));
+        return Ok(Part::Shut(gap));
     }
     let (value, len) = match node(alloc, depth, rest) {
         Ok(found) => found,
@@ -258,8 +118,8 @@ fn item_part(alloc: Global, depth: u32, text: &[u8]) -> Result<ItemPart, PlaceEr
         Err(PlaceError::Memory) => return Err(PlaceError::Memory),
     };
     match separator_from(b']', text, gap + len) {
-        Ok((true, more)) => Ok(ItemPart::Last(value, gap + len + more)),
-        Ok((false, more)) => Ok(ItemPart::More(value, gap + len + more)),
+        Ok((true, more)) => Ok(Part::Last(value, gap + len + more)),
+        Ok((false, more)) => Ok(Part::More(value, gap + len + more)),
         Err(error) => Err(error),
     }
 }
@@ -274,13 +134,13 @@ fn pairs(alloc: Global, depth: u32, text: &[u8]) -> Result<(Hash, usize), PlaceE
     let mut n = 0;
     while n < text.len() {
         match pair_part(alloc, depth, tail(text, n)) {
-            Ok(PairPart::Shut(len)) => return Ok((pairs.finish(), n + len + 1)),
-            Ok(PairPart::Last(name, value, len)) => {
-                put(&mut pairs, name, value)?;
+            Ok(Part::Shut(len)) => return Ok((pairs.finish(), n + len + 1)),
+            Ok(Part::Last(pair, len)) => {
+                put(&mut pairs, pair.0, pair.1)?;
                 return Ok((pairs.finish(), n + len + 1));
             }
-            Ok(PairPart::More(name, value, len)) => {
-                put(&mut pairs, name, value)?;
+            Ok(Part::More(pair, len)) => {
+                put(&mut pairs, pair.0, pair.1)?;
                 n += len + 1;
             }
             Err(PlaceError::Fault(fault)) => return Err(fault.further(n)),
@@ -292,9 +152,9 @@ fn pairs(alloc: Global, depth: u32, text: &[u8]) -> Result<(Hash, usize), PlaceE
 
 // What stands in a hash up to the next separator.
 #[cycle(flow)]
-fn pair_part(alloc: Global, depth: u32, text: &[u8]) -> Result<PairPart, PlaceError>
+fn pair_part(alloc: Global, depth: u32, text: &[u8]) -> Result<Part<(Text, Value)>, PlaceError>
     ensures value { ReadsPair result (part 125 (entry (node (collection depth))) text.now) }
-    ensures within { PairFits (length text.now) result }
+    ensures within { PartFits (length text.now) result }
 {
     let gap = match skip(true, text) {
         Ok(gap) => gap,
@@ -302,7 +162,7 @@ fn pair_part(alloc: Global, depth: u32, text: &[u8]) -> Result<PairPart, PlaceEr
     };
     let rest = tail(text, gap);
     if starts(rest, b'}') {
-        return Ok(PairPart::Shut(gap));
+        return Ok(Part::Shut(gap));
     }
     let (name, value, len) = match entry(alloc, depth, rest) {
         Ok(found) => found,
@@ -310,8 +170,8 @@ fn pair_part(alloc: Global, depth: u32, text: &[u8]) -> Result<PairPart, PlaceEr
         Err(PlaceError::Memory) => return Err(PlaceError::Memory),
     };
     match separator_from(b'}', text, gap + len) {
-        Ok((true, more)) => Ok(PairPart::Last(name, value, gap + len + more)),
-        Ok((false, more)) => Ok(PairPart::More(name, value, gap + len + more)),
+        Ok((true, more)) => Ok(Part::Last((name, value), gap + len + more)),
+        Ok((false, more)) => Ok(Part::More((name, value), gap + len + more)),
         Err(error) => Err(error),
     }
 }

@@ -1,6 +1,6 @@
 // Line ends inside a value, and the tabs that stand at the front of a line.
 ghost use Rattle.std.specs.Prelude.{◌≡◌, ◌≤◌, ◌<◌, ◌++◌, ◌∷◌, ◌==◌, ◌&&◌, ◌||◌, not, length, OnOk, IfOk, IfSome, false, true, encode_utf8, None};
-ghost use Rattle.site_base.specs.Fronts.{front_len};
+ghost use Rattle.std.specs.List.{prefix_len};
 ghost use Rattle.front_yaml.specs.Bytes.{repeated};
 ghost use Rattle.front_yaml.specs.Escapes.{escape};
 ghost use Rattle.front_yaml.specs.TextLines.{line_ends};
@@ -101,14 +101,10 @@ fn is_solid(escapes: bool, c: u8) -> bool
 
 // How many bytes at the front stand for themselves.
 fn solid_len(escapes: bool, text: &[u8]) -> usize
-    ensures value { result ≡ front_len (is_solid escapes) text.now }
+    ensures value { result ≡ prefix_len (is_solid escapes) text.now }
     ensures within { result ≤ length text.now }
 {
-    let mut n = 0;
-    while n < text.len() && is_solid(escapes, text[n]) {
-        n += 1;
-    }
-    n
+    text.iter().take_while(|c| is_solid(escapes, **c)).count()
 }
 
 fn append_char(out: &mut Vec<u8>, c: char) -> Result<(), Memory>

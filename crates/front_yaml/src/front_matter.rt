@@ -1,7 +1,7 @@
 // Where the front matter of a file stands.
-ghost use Rattle.std.specs.Prelude.{◌≡◌, ◌+◌, ◌<◌, ◌≤◌, length, drop, slice_range, MatchOption, IfSome, IsTrue};
+ghost use Rattle.std.specs.Prelude.{◌≡◌, ◌+◌, ◌<◌, ◌≤◌, length, drop, take_while, slice_range, MatchOption, IfSome, IsTrue};
 ghost use Rattle.site_base.specs.Lines.{lines};
-ghost use Rattle.front_yaml.specs.Front.{front, front_at, opened, is_blank, begins_fence, is_fence, opens, closes, mark_len, lines_while, total, HasCuts, IsCut};
+ghost use Rattle.front_yaml.specs.Front.{front, front_at, opened, is_blank, begins_fence, is_fence, opens, closes, mark_len, total, HasCuts, IsCut};
 
 use crate::lines::line_end;
 
@@ -65,6 +65,7 @@ fn opening_end(bytes: &[u8], at: usize) -> Option<usize>
     }
 }
 
+#[tactic(auto, using(crate::proofs::FrontLemmas::goes_on, crate::proofs::FrontLemmas::ends_here))]
 fn split_opened(bytes: &[u8], start: usize) -> Front
     requires within { start ≤ length bytes.now }
     requires cut { IsCut bytes.now start }
@@ -87,10 +88,11 @@ fn split_opened(bytes: &[u8], start: usize) -> Front
 }
 
 // Where the blank lines that start at `from` end.
+#[tactic(auto, using(crate::proofs::FrontLemmas::blank_more, crate::proofs::FrontLemmas::blank_none))]
 fn blank_end(bytes: &[u8], from: usize) -> usize
     requires within { from ≤ length bytes.now }
     requires cut { IsCut bytes.now from }
-    ensures value { result ≡ from + total (lines_while is_blank (lines (drop from bytes.now))) }
+    ensures value { result ≡ from + total (take_while is_blank (lines (drop from bytes.now))) }
     ensures order { from ≤ result }
     ensures within { result ≤ length bytes.now }
     ensures cut { IsCut bytes.now result }

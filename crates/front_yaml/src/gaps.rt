@@ -1,11 +1,12 @@
 // What carries nothing between the parts of a value.
-ghost use Rattle.std.specs.Prelude.{◌≡◌, ◌≤◌, length, false, IfOk};
+ghost use Rattle.std.specs.Prelude.{◌≡◌, ◌≤◌, ◌+◌, length, drop, false, IfOk};
+ghost use Rattle.front_yaml.specs.Reading.{further};
 ghost use Rattle.front_yaml.specs.Gaps.{is_idle_byte, in_comment, gap_len, skip};
 ghost use Rattle.front_yaml.specs.Given.{ReadsAt, FaultFits};
 
 use crate::faults::{PlaceError, PlaceFault};
 use crate::folding::first_tab;
-use crate::scans::{front, is_gap};
+use crate::scans::{front, is_gap, tail};
 use site_base::YamlKind;
 
 fn is_idle_byte(gap: bool, comment: bool, c: u8) -> bool
@@ -48,5 +49,19 @@ pub(crate) fn skip(gap: bool, text: &[u8]) -> Result<usize, PlaceError>
             kind: YamlKind::Tab,
         })),
         None => Ok(len),
+    }
+}
+
+/// How many bytes carry nothing behind some bytes of a text.
+pub(crate) fn skip_from(text: &[u8], at: usize) -> Result<usize, PlaceError>
+    requires { at ≤ length text.now }
+    ensures value { ReadsAt result (further at (skip false (drop at text.now))) }
+    ensures within { IfOk result (λ n. at + n ≤ length text.now) }
+    ensures place { FaultFits (length text.now) result }
+{
+    match skip(false, tail(text, at)) {
+        Ok(len) => Ok(len),
+        Err(PlaceError::Fault(fault)) => Err(fault.further(at)),
+        Err(PlaceError::Memory) => Err(PlaceError::Memory),
     }
 }

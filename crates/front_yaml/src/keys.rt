@@ -5,10 +5,10 @@ ghost use Rattle.front_yaml.specs.Quotes.{is_quote};
 ghost use Rattle.front_yaml.specs.Keys.{colon_at, key, has_key, starts_block, quoted_key, plain_key};
 ghost use Rattle.front_yaml.specs.Given.{ReadsAt};
 
-use crate::extents::{is_quote, quote_len};
 use crate::faults::{PlaceError, PlaceFault};
 use crate::growth::text_of;
 use crate::plain_scalars::{first_colon, plain_raw, separates, starts_plain};
+use crate::quote_ends::{is_quote, quote_len};
 use crate::quotes::quoted;
 use crate::scalars::equals;
 use crate::scans::{front, is_dash, starts, tail, trim, white_len};
@@ -132,4 +132,13 @@ pub(crate) fn key(alloc: Global, text: &[u8]) -> Result<Option<(Text, usize)>, P
             }
         }
     }
+}
+
+/// Where the value behind a key begins that has this many bytes with its `:`.
+pub(crate) fn value_place(text: &[u8], len: usize) -> usize
+    requires { len ≤ length text.now }
+    ensures value { result ≡ len + white_len (drop len text.now) }
+    ensures within { result ≤ length text.now }
+{
+    len + white_len(tail(text, len))
 }

@@ -3,12 +3,13 @@ ghost use Rattle.std.specs.Prelude.{◌≡◌, ◌≤◌, length};
 ghost use Rattle.front_yaml.specs.Leaves.{scalar_leaf, leaf_value, nothing_after, leaf};
 ghost use Rattle.front_yaml.specs.Given.{ReadsAt, ReadsValue, ReadsLeaf, FaultFits, LeafFits};
 
-use crate::extents::{begins_value, is_quote};
+use crate::extents::begins_value;
 use crate::faults::PlaceError;
 use crate::flow_values::flow;
 use crate::folding::line_ends;
 use crate::gaps::skip;
 use crate::plain_scalars::{plain, starts_plain};
+use crate::quote_ends::is_quote;
 use crate::quotes::quoted;
 use crate::scans::{front, is_empty, tail};
 use site_base::{Value, YamlKind};

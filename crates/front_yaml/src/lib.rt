@@ -6,6 +6,8 @@ mod blocks;
 mod escapes;
 mod extents;
 mod faults;
+mod flow_parts;
+mod flow_scalars;
 mod flow_values;
 mod folding;
 mod front_matter;
@@ -13,8 +15,13 @@ mod gaps;
 mod growth;
 mod keys;
 mod leaves;
+mod line_faults;
+mod line_keys;
+mod line_leaves;
+mod line_runs;
 mod lines;
 mod plain_scalars;
+mod quote_ends;
 mod quotes;
 mod reading;
 mod scalars;
@@ -25,5 +32,7 @@ pub use faults::{YamlError, YamlFault};
 pub use front_matter::{Front, split_front};
 pub use reading::{read_mapping, read_yaml};
 
+#[cfg(test)]
+mod standard_examples;
 #[cfg(test)]
 mod tests;

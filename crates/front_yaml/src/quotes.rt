@@ -4,10 +4,10 @@ ghost use Rattle.front_yaml.specs.Quotes.{halved, quote_fault, quote_text, quote
 ghost use Rattle.front_yaml.specs.Given.{ReadsAt, Fits, as_pair};
 
 use crate::escapes::bad_escape;
-use crate::extents::quote_len;
 use crate::faults::{PlaceError, PlaceFault};
 use crate::folding::{first_tab, folded};
 use crate::growth::text_of;
+use crate::quote_ends::quote_len;
 use crate::scans::front;
 use site_base::{Memory, Text, YamlKind};
 use std::alloc::Global;

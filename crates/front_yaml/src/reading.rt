@@ -1,13 +1,14 @@
 // The value of a text.
 ghost use Rattle.std.specs.Prelude.{◌≡◌, ◌≤◌, length};
 ghost use Rattle.site_base.specs.View.{plain};
-ghost use Rattle.front_yaml.specs.TextLines.{run};
+ghost use Rattle.std.specs.List.{prefix_len};
 ghost use Rattle.front_yaml.specs.Yaml.{without_start, goes_on, lines_value, yaml, pairs_of, yaml_pairs};
 ghost use Rattle.front_yaml.specs.Given.{Gives, ReadsLines};
 
-use crate::blocks::{below, first_lines};
+use crate::blocks::below;
 use crate::faults::YamlError;
 use crate::front_matter::mark_len;
+use crate::line_runs::first_lines;
 use crate::scans::tail;
 use crate::text_lines::{TextLine, cut_lines};
 use site_base::{Hash, Value, YamlKind};
@@ -28,14 +29,10 @@ fn without_start<'l, 'a>(lines: &'l [TextLine<'a>]) -> &'l [TextLine<'a>]
 
 // How many lines stand before the first that marks an end.
 fn going_on(lines: &[TextLine]) -> usize
-    ensures value { result ≡ run goes_on lines.now }
+    ensures value { result ≡ prefix_len goes_on lines.now }
     ensures within { result ≤ length lines.now }
 {
-    let mut n = 0;
-    while n < lines.len() && !lines[n].is_marker() {
-        n += 1;
-    }
-    n
+    lines.iter().take_while(|line| !line.is_marker()).count()
 }
 
 fn lines_value(alloc: Global, lines: &[TextLine]) -> Result<Value, YamlError>

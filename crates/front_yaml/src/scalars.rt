@@ -1,8 +1,9 @@
 // What a plain scalar stands for.
 ghost use Rattle.std.specs.Prelude.{◌≡◌, ◌≤◌, ◌<◌, ◌^◌, ◌+◌, ◌*◌, MatchOption};
+ghost use Rattle.std.specs.Char.{is_ascii_digit};
 ghost use Rattle.std.specs.List.{list_all};
 ghost use Rattle.std.specs.Str.{bytes_eq};
-ghost use Rattle.front_yaml.specs.Scalars.{is_digit, is_nil_word, is_true_word, is_false_word, number_from, is_number, unsigned, negated, integer, resolve};
+ghost use Rattle.front_yaml.specs.Scalars.{is_nil_word, is_true_word, is_false_word, number_from, is_number, unsigned, negated, integer, resolve};
 ghost use Rattle.front_yaml.specs.Given.{ReadsValue, FaultFits};
 
 use crate::faults::{PlaceError, PlaceFault};
@@ -55,9 +56,9 @@ fn is_false_word(text: &[u8]) -> bool
 }
 
 fn all_digits(text: &[u8]) -> bool
-    ensures { result ≡ list_all is_digit text.now }
+    ensures { result ≡ list_all is_ascii_digit text.now }
 {
-    text.iter().all(|c| 48 <= *c && *c <= 57)
+    text.iter().all(|c| c.is_ascii_digit())
 }
 
 fn is_number(text: &[u8]) -> bool

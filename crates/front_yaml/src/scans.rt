@@ -1,6 +1,6 @@
 // What stands at the front of a text.
 ghost use Rattle.std.specs.Prelude.{◌≡◌, ◌≤◌, ◌+◌, ◌==◌, ◌||◌, length, drop, take, true, false};
-ghost use Rattle.site_base.specs.Fronts.{front_len};
+ghost use Rattle.std.specs.List.{prefix_len, suffix_len};
 ghost use Rattle.front_yaml.specs.Bytes.{starts, is_empty, white_len, is_white, is_gap, trim};
 ghost use Rattle.front_yaml.specs.Keys.{is_dash};
 
@@ -55,39 +55,31 @@ pub(crate) fn white_len(text: &[u8]) -> usize
     ensures value { result ≡ white_len text.now }
     ensures within { result ≤ length text.now }
 {
-    let mut n = 0;
-    while n < text.len() && is_white(text[n]) {
-        n += 1;
-    }
-    n
+    text.iter().take_while(|c| is_white(**c)).count()
 }
 
 /// How many spaces, tabs and line ends stand at the front.
 pub(crate) fn blank_len(text: &[u8]) -> usize
-    ensures value { result ≡ front_len is_gap text.now }
+    ensures value { result ≡ prefix_len is_gap text.now }
     ensures within { result ≤ length text.now }
 {
-    let mut n = 0;
-    while n < text.len() && is_gap(text[n]) {
-        n += 1;
-    }
-    n
+    text.iter().take_while(|c| is_gap(**c)).count()
+}
+
+// How many spaces, tabs and line ends stand at the end.
+fn gap_end_len(text: &[u8]) -> usize
+    ensures value { result ≡ suffix_len is_gap text.now }
+    ensures within { result ≤ length text.now }
+{
+    text.iter().rev().take_while(|c| is_gap(**c)).count()
 }
 
 /// The text without the white space and line ends at its end.
-#[tactic(auto, using(crate::proofs::Trimming::gap_off, crate::proofs::Trimming::trimmed_at))]
 pub(crate) fn trim(text: &[u8]) -> &[u8]
     ensures value { result.now ≡ trim text.now }
     ensures within { length result.now ≤ length text.now }
 {
-    let mut end = text.len();
-    while end > 0 {
-        if !is_gap(text[end - 1]) {
-            return front(text, end);
-        }
-        end -= 1;
-    }
-    front(text, 0)
+    front(text, text.len() - gap_end_len(text))
 }
 
 /// Whether a `-` stands at the front that begins an item.

@@ -1,10 +1,9 @@
 // The lines of a text.
 ghost use Rattle.std.specs.Prelude.{◌≡◌, ◌<◌, ◌≤◌, ◌+◌, ◌^◌, drop, take, false, length, IfOk};
-ghost use Rattle.site_base.specs.Fronts.{front_len};
+ghost use Rattle.std.specs.List.{prefix_len};
 ghost use Rattle.front_yaml.specs.Bytes.{starts, is_empty, white_len};
 ghost use Rattle.front_yaml.specs.Yaml.{is_three, is_marker, is_start_text, is_start};
-ghost use Rattle.front_yaml.specs.TextLines.{is_inside, without_end, spaces, indent, inside, is_blank, has_tab, carries, line_of, text_lines};
-ghost use Rattle.front_yaml.specs.Blocks.{from_place};
+ghost use Rattle.front_yaml.specs.TextLines.{is_inside, without_end, spaces, indent, inside, is_blank, has_tab, carries, line_of, text_lines, from_place};
 
 use crate::lines::line_end;
 use crate::scans::{front, is_empty, starts, tail, white_len};
@@ -153,27 +152,25 @@ fn is_white_from(at: usize, text: &[u8]) -> bool
     is_empty(tail(rest, white_len(rest)))
 }
 
+fn is_inside(c: u8) -> bool
+    ensures { result ≡ is_inside c }
+{
+    !(c == b'\n' || c == b'\r')
+}
+
 // How many bytes stand before the line end.
 fn inside_len(line: &[u8]) -> usize
-    ensures value { result ≡ front_len is_inside line.now }
+    ensures value { result ≡ prefix_len is_inside line.now }
     ensures within { result ≤ length line.now }
 {
-    let mut n = 0;
-    while n < line.len() && !(line[n] == b'\n' || line[n] == b'\r') {
-        n += 1;
-    }
-    n
+    line.iter().take_while(|c| is_inside(**c)).count()
 }
 
 fn space_len(text: &[u8]) -> usize
     ensures value { result ≡ spaces text.now }
     ensures within { result ≤ length text.now }
 {
-    let mut n = 0;
-    while n < text.len() && text[n] == b' ' {
-        n += 1;
-    }
-    n
+    text.iter().take_while(|c| **c == b' ').count()
 }
 
 /// The lines of a text, numbered from 1.

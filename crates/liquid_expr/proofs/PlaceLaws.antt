@@ -5,7 +5,8 @@ use Rattle.std.proofs.lemmas.Bool.{ltb-true, ltb-false, ne_eqb}
 use Rattle.std.proofs.lemmas.Bool.Decides.{nat_tests}
 use Rattle.std.proofs.lemmas.List.{drop_all, drop_more}
 use Rattle.std.proofs.lemmas.Str.{IsCharBoundary-before_ascii}
-use Rattle.liquid_grammar.specs.Tokens.{Token, large, is_letter, is_digit, whole_len, short_mark, long_mark, mark_at, token_at}
+use Rattle.liquid_grammar.specs.Tokens.{Token, large, whole_len, short_mark, long_mark, mark_at, token_at}
+use Rattle.site_text.specs.Bytes.{is_digit, is_name_start}
 use Rattle.liquid_expr.specs.Tokens.{found_token, token_in}
 
 pub true_false : true ≡ false → ⊥
@@ -16,8 +17,8 @@ true_false e = absurd cc
 other : (c k : ℕ) → 128 ≤ c → k < 128 → eqb c k ≡ false
 other c k high low = ne_eqb c k (λ e. absurd (omega (arith, e, high, low)))
 
-no_letter : (c : ℕ) → 128 ≤ c → is_letter c ≡ false
-no_letter c high = grind (arith, nat_tests)
+no_start : (c : ℕ) → 128 ≤ c → is_name_start c ≡ false
+no_start c high = grind (arith, nat_tests)
 
 no_digit : (c : ℕ) → 128 ≤ c → is_digit c ≡ false
 no_digit c high = grind (arith, nat_tests)
@@ -59,7 +60,7 @@ high_byte : (c : ℕ) (cs : List ℕ) → 128 ≤ c → token_at (c ∷ cs) ≡ 
 high_byte c cs high =
     let double : eqb c 34 ≡ false = other c 34 high (omega arith) in
     let single : eqb c 39 ≡ false = other c 39 high (omega arith) in
-    rw (no_letter c high, double, single, no_whole c cs high) (no_mark c cs high)
+    rw (no_start c high, double, single, no_whole c cs high) (no_mark c cs high)
 
 pub no_token : (bytes : List ℕ) (place : ℕ) → (IsCharBoundary bytes place → ⊥) → token_at (drop place bytes) ≡ None
 no_token bytes place uncut = at (ltb place (length bytes)) refl where

@@ -1,5 +1,5 @@
 -- Where tokens end.
-use Rattle.std.proofs.Common.{◌≡◌, ℕ, zero, suc, ◌+◌, ◌-◌, ◌<◌, ◌≤◌, Bool, true, false, cond, ltb, eqb, ◌&&◌, List, [], ◌∷◌, length, take, drop, get_or, refl, sym, subst, arith, slice_index, not, ◌==◌, Option, Some, None, IfSome}
+use Rattle.std.proofs.Common.{◌≡◌, ℕ, zero, suc, ◌+◌, ◌-◌, ◌<◌, ◌≤◌, Bool, true, false, cond, ltb, eqb, ◌&&◌, ◌||◌, List, [], ◌∷◌, length, take, drop, get_or, refl, sym, subst, arith, slice_index, not, ◌==◌, Option, Some, None, IfSome}
 use Rattle.std.specs.List.{prefix_len}
 use Rattle.std.specs.Str.{IsUtf8, IsCharBoundary}
 use Rattle.std.specs.Str.Parse.{AllDigits, IsNumeral, without_leading_sign}
@@ -10,7 +10,8 @@ use Rattle.std.proofs.lemmas.List.{length-drop, length-take, get_or-drop}
 use Rattle.std.proofs.lemmas.List.Sums.{prefix_len_passes, prefix_len_stops, prefix_len-le-length}
 use Rattle.std.proofs.lemmas.Str.{IsCharBoundary-after_ascii}
 use Rattle.liquid_grammar.specs.Pieces.{is_white}
-use Rattle.liquid_grammar.specs.Tokens.{is_letter, is_digit, is_name_byte, sign_len, whole_len, fraction_len}
+use Rattle.liquid_grammar.specs.Tokens.{sign_len, whole_len, fraction_len}
+use Rattle.site_text.specs.Bytes.{is_digit, is_letter, is_name_byte, is_name_start}
 use Rattle.liquid_grammar.specs.declared.mark.Mark.{Mark}
 use Rattle.liquid_expr.specs.Token.{IsFound, IsWhole}
 
@@ -25,8 +26,14 @@ digit_ascii c e = grind (arith, nat_tests)
 pub name_ascii : (c : ℕ) → is_name_byte c ≡ true → c < 128
 name_ascii c e = grind (arith, nat_tests)
 
-pub letter_is_name : (c : ℕ) → is_letter c ≡ true → is_name_byte c ≡ true
-letter_is_name c e = rw e refl
+or_in : (a b d h : Bool) → (a || b) ≡ true → ((a || d) || (b || h)) ≡ true
+or_in true b d h e = refl
+or_in false true true h e = refl
+or_in false true false h e = refl
+or_in false false d h e = absurd cc
+
+pub start_is_name : (c : ℕ) → is_name_start c ≡ true → is_name_byte c ≡ true
+start_is_name c e = or_in (is_letter c) (c == 95) (is_digit c) (c == 45) e
 
 -- the last byte of a front that passes a test of ASCII
 pub white_ascii : (c : ℕ) → is_white c ≡ true → c < 128
@@ -40,9 +47,9 @@ some_if : (b : Bool) (n : ℕ) → b ≡ true → 0 < cond b (1 + n) 0
 some_if true n e = omega arith
 some_if false n e = absurd cc
 
-pub name_some : (xs : List ℕ) → 0 < length xs → is_letter (slice_index xs 0) ≡ true → 0 < prefix_len is_name_byte xs
+pub name_some : (xs : List ℕ) → 0 < length xs → is_name_start (slice_index xs 0) ≡ true → 0 < prefix_len is_name_byte xs
 name_some [] lt e = absurd (omega arith)
-name_some (c ∷ cs) lt e = some_if (is_name_byte c) (prefix_len is_name_byte cs) (letter_is_name c e)
+name_some (c ∷ cs) lt e = some_if (is_name_byte c) (prefix_len is_name_byte cs) (start_is_name c e)
 
 -- ---- Whole numbers
 

@@ -3,8 +3,9 @@ ghost use Rattle.std.specs.Prelude.{◌≡◌, ◌+◌, ◌<◌, ◌≤◌, leng
 ghost use Rattle.liquid_grammar.specs.Pieces.{tag_at, markup_at, front_of, len_of, trims_after, has_last_dash};
 ghost use Rattle.liquid_expr.specs.Fits.{Fits, found_len};
 
-use crate::places::{begins, find, find_open, find_tag, is_tag};
+use crate::places::{find, find_open, find_tag, is_tag};
 use liquid_grammar::Front;
+use site_text::begins;
 
 fn tag_at(text: &[u8], len: usize) -> Front
     requires { len ≤ length text.now }

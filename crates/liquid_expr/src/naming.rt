@@ -9,12 +9,13 @@ ghost use Rattle.liquid_grammar.specs.Items.{tag_name_len, tag_name, tag_rest};
 ghost use Rattle.liquid_expr.specs.Token.{EndsAscii, IsCut};
 
 use crate::cutting::cut_up;
-use crate::places::{begins, is_white, tail, white_end_len, white_len};
+use crate::places::{is_white, tail, white_end_len, white_len};
 use crate::reads::{read_expr, read_params};
 use crate::stop::ReadExprError;
-use crate::token::{is_letter, name_len as token_name_len};
+use crate::token::name_len as token_name_len;
 use liquid_grammar::{Include, NamePart, NamePlace, PieceKind, Span};
 use site_base::{Sequence, Text};
+use site_text::{begins, is_name_start};
 use std::alloc::Global;
 
 /// The part of a text that a span is of.
@@ -179,7 +180,7 @@ fn tag_name_len(bytes: &[u8]) -> usize
 {
     match bytes {
         [first, ..] => {
-            if is_letter(*first) {
+            if is_name_start(*first) {
                 token_name_len(bytes)
             } else {
                 0

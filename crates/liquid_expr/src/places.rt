@@ -4,6 +4,7 @@ ghost use Rattle.std.specs.List.{suffix_len};
 ghost use Rattle.liquid_grammar.specs.Pieces.{first_place, begins, opens, is_tag, is_white, white_len, after_white, after_dash, line_ends};
 
 use memchr::memchr;
+use site_text::begins;
 
 /// What follows a place.
 pub(crate) fn tail(bytes: &[u8], at: usize) -> &[u8]
@@ -11,12 +12,6 @@ pub(crate) fn tail(bytes: &[u8], at: usize) -> &[u8]
     ensures { result.now ≡ drop at bytes.now }
 {
     &bytes[at..]
-}
-
-pub(crate) fn begins(text: &[u8], word: &[u8]) -> bool
-    ensures { result ≡ begins word.now text.now }
-{
-    text.starts_with(word)
 }
 
 /// Whether a piece starts here.

@@ -2,12 +2,14 @@
 ghost use Rattle.std.specs.Prelude.{◌≡◌, ◌+◌, ◌-◌, ◌<◌, ◌≤◌, ◌==◌, not, length, take, drop, slice_index, IfSome, OnSome, true, Some};
 ghost use Rattle.std.specs.List.{prefix_len};
 ghost use Rattle.std.specs.Str.Parse.{IsNumeral, without_leading_sign};
-ghost use Rattle.liquid_grammar.specs.Tokens.{is_large, short_at, is_letter, is_digit, is_name_byte, whole_token, sign_len, whole_len, fraction_len, short_mark, long_mark, mark_at, quoted_at, number_at, number_or_mark, token_at, text};
+ghost use Rattle.liquid_grammar.specs.Tokens.{is_large, short_at, whole_token, sign_len, whole_len, fraction_len, short_mark, long_mark, mark_at, quoted_at, number_at, number_or_mark, token_at, text};
 ghost use Rattle.liquid_grammar.specs.Pieces.{is_white};
+ghost use Rattle.site_text.specs.Bytes.{is_name_byte, is_name_start};
 ghost use Rattle.liquid_expr.specs.Token.{token_of, found_of, marked_of, EndsAscii, IsCut, IsFound, IsWhole};
 
 use crate::places::{is_white, tail};
 use liquid_grammar::{Comparison, Mark};
+use site_text::{Class, class_run, is_name_start};
 
 /// A token, in the text that it stands in.
 #[derive(Clone, Copy)]
@@ -64,7 +66,7 @@ pub(crate) fn token_at<'a>(rest: &'a str) -> Option<(Token<'a>, usize)>
     ensures fits { IfSome result (λ found. IsFound rest.now found.1) }
 {
     let first = rest.as_bytes()[0];
-    if is_letter(first) {
+    if is_name_start(first) {
         return Some(word(rest));
     }
     if first == b'"' || first == b'\'' {
@@ -86,7 +88,7 @@ fn number_or_mark<'a>(rest: &'a str) -> Option<(Token<'a>, usize)>
 
 fn word<'a>(rest: &'a str) -> (Token<'a>, usize)
     requires some { 0 < length rest.now }
-    requires letter { is_letter (slice_index rest.now 0) ≡ true }
+    requires letter { is_name_start (slice_index rest.now 0) ≡ true }
     ensures value { found_of (Some result) ≡ token_at rest.now }
     ensures fits { IsFound rest.now result.1 }
 {
@@ -218,37 +220,12 @@ fn long_mark(first: u8, second: u8) -> Option<Mark>
     }
 }
 
-pub(crate) fn is_letter(byte: u8) -> bool
-    ensures { result ≡ is_letter byte }
-{
-    64 < byte && byte < 91 || 96 < byte && byte < 123 || byte == b'_'
-}
-
-fn is_digit(byte: u8) -> bool
-    ensures { result ≡ is_digit byte }
-{
-    47 < byte && byte < 58
-}
-
-fn is_name_byte(byte: u8) -> bool
-    ensures { result ≡ is_name_byte byte }
-{
-    is_letter(byte) || is_digit(byte) || byte == b'-'
-}
-
 pub(crate) fn name_len(bytes: &[u8]) -> usize
     ensures value { result ≡ prefix_len is_name_byte bytes.now }
     ensures within { result ≤ length bytes.now }
     ensures ascii { EndsAscii bytes.now result }
 {
-    bytes.iter().take_while(|byte| is_name_byte(**byte)).count()
-}
-
-fn digits_len(bytes: &[u8]) -> usize
-    ensures value { result ≡ prefix_len is_digit bytes.now }
-    ensures within { result ≤ length bytes.now }
-{
-    bytes.iter().take_while(|byte| is_digit(**byte)).count()
+    class_run(Class::Name, bytes)
 }
 
 fn unquoted_len(bytes: &[u8], quote: u8) -> usize
@@ -274,7 +251,7 @@ fn whole_len(bytes: &[u8]) -> usize
     ensures { result ≡ whole_len bytes.now }
 {
     let sign = sign_len(bytes);
-    let digits = digits_len(&bytes[sign..]);
+    let digits = class_run(Class::Digit, &bytes[sign..]);
     if digits > 0 { sign + digits } else { 0 }
 }
 
@@ -285,7 +262,7 @@ fn fraction_len(bytes: &[u8]) -> usize
 {
     match bytes {
         [b'.', rest @ ..] => {
-            let digits = digits_len(rest);
+            let digits = class_run(Class::Digit, rest);
             if digits > 0 { digits + 1 } else { 0 }
         }
         _ => 0,

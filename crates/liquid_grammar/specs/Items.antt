@@ -1,5 +1,5 @@
 -- What the pieces of a template say, one by one, by the tags' names. After the reference of Liquid 4 (Shopify), "Tags", and Jekyll 4's manual, "Includes" and "Liquid"; docs/PROFILE.md lists the tags that are read.
-use Rattle.std.specs.Prelude.{ℕ, List, [], ◌∷◌, length, drop, take, ◌==◌, codes, if◌then◌else◌, Option, Some, None, Result, Ok, Err}
+use Rattle.std.specs.Prelude.{ℕ, true, false, List, [], ◌∷◌, length, drop, take, ◌==◌, codes, if◌then◌else◌, Option, Some, None, Result, Ok, Err}
 use Rattle.std.specs.Str.{bytes_eq}
 use Rattle.std.specs.List.{prefix_len}
 use Rattle.site_base.specs.declared.faults.FaultKind.{FaultKind}
@@ -13,12 +13,19 @@ use Rattle.liquid_grammar.specs.declared.item.Leaf.TheVariants as leaf
 use Rattle.liquid_grammar.specs.declared.item.Block.TheVariants as block
 use Rattle.liquid_grammar.specs.declared.item.BlockName.{BlockName}
 use Rattle.liquid_grammar.specs.declared.item.BlockName.TheVariants as block_name
-use Rattle.liquid_grammar.specs.declared.item.Part.TheVariants.{Body, Test, When, Otherwise}
+use Rattle.liquid_grammar.specs.declared.item.Part.TheVariants.{Body, Test, Otherwise}
+use Rattle.liquid_grammar.specs.declared.item.Part.TheVariants as part
+use Rattle.liquid_grammar.specs.declared.tag_kind.LeafName.{LeafName}
+use Rattle.liquid_grammar.specs.declared.tag_kind.LeafName.TheVariants as leaf_name
+use Rattle.liquid_grammar.specs.declared.tag_kind.PartName.{PartName}
+use Rattle.liquid_grammar.specs.declared.tag_kind.PartName.TheVariants.{Else, ElsIf, When}
+use Rattle.liquid_grammar.specs.declared.tag_kind.TagKind.{TagKind}
+use Rattle.liquid_grammar.specs.declared.tag_kind.TagKind.TheVariants.{Opens, Ends, Turns, Leaf}
 use Rattle.liquid_grammar.specs.declared.item.Item.{Item}
 use Rattle.liquid_grammar.specs.declared.item.Item.TheVariants as item
 use Rattle.liquid_grammar.specs.Readings.{Refusal, syntax_fault, overflow}
 use Rattle.liquid_grammar.specs.Pieces.{after_white}
-use Rattle.liquid_grammar.specs.Tokens.{is_letter, is_name_byte}
+use Rattle.site_text.specs.Bytes.{is_name_byte, is_name_start}
 use Rattle.liquid_grammar.specs.Expressions.{read_expression}
 use Rattle.liquid_grammar.specs.Conditions.{read_condition}
 use Rattle.liquid_grammar.specs.Tags.{read_nothing, read_name, read_assign, read_values, read_cycle, read_loop, read_include, read_path, read_language, inside}
@@ -36,18 +43,45 @@ made f (Err e) = Err (fault_of e)
 
 -- ---- Names of tags
 
-abbrev pub block_named : List ℕ → Option BlockName
-block_named name =
-    if bytes_eq name (codes "if") then Some block_name.If
-    else if bytes_eq name (codes "unless") then Some block_name.Unless
-    else if bytes_eq name (codes "case") then Some block_name.Case
-    else if bytes_eq name (codes "for") then Some block_name.For
-    else if bytes_eq name (codes "tablerow") then Some block_name.TableRow
-    else if bytes_eq name (codes "capture") then Some block_name.Capture
-    else if bytes_eq name (codes "highlight") then Some block_name.Highlight
-    else if bytes_eq name (codes "raw") then Some block_name.Raw
-    else if bytes_eq name (codes "comment") then Some block_name.Comment
-    else None
+-- what each tag is, by its word
+unfoldable pub tag_words : List (List ℕ × TagKind)
+tag_words =
+    (codes "if", Opens block_name.If)
+    ∷ (codes "endif", Ends block_name.If)
+    ∷ (codes "unless", Opens block_name.Unless)
+    ∷ (codes "endunless", Ends block_name.Unless)
+    ∷ (codes "case", Opens block_name.Case)
+    ∷ (codes "endcase", Ends block_name.Case)
+    ∷ (codes "for", Opens block_name.For)
+    ∷ (codes "endfor", Ends block_name.For)
+    ∷ (codes "tablerow", Opens block_name.TableRow)
+    ∷ (codes "endtablerow", Ends block_name.TableRow)
+    ∷ (codes "capture", Opens block_name.Capture)
+    ∷ (codes "endcapture", Ends block_name.Capture)
+    ∷ (codes "highlight", Opens block_name.Highlight)
+    ∷ (codes "endhighlight", Ends block_name.Highlight)
+    ∷ (codes "raw", Opens block_name.Raw)
+    ∷ (codes "endraw", Ends block_name.Raw)
+    ∷ (codes "comment", Opens block_name.Comment)
+    ∷ (codes "endcomment", Ends block_name.Comment)
+    ∷ (codes "else", Turns Else)
+    ∷ (codes "elsif", Turns ElsIf)
+    ∷ (codes "when", Turns When)
+    ∷ (codes "assign", Leaf leaf_name.Assign)
+    ∷ (codes "cycle", Leaf leaf_name.Cycle)
+    ∷ (codes "increment", Leaf leaf_name.Increment)
+    ∷ (codes "decrement", Leaf leaf_name.Decrement)
+    ∷ (codes "break", Leaf leaf_name.Break)
+    ∷ (codes "continue", Leaf leaf_name.Continue)
+    ∷ (codes "include", Leaf leaf_name.Include)
+    ∷ (codes "include_relative", Leaf leaf_name.IncludeRelative)
+    ∷ (codes "link", Leaf leaf_name.Link)
+    ∷ (codes "post_url", Leaf leaf_name.PostUrl)
+    ∷ []
+
+abbrev pub kind_in : List (List ℕ × TagKind) → List ℕ → Option TagKind
+kind_in [] name = None
+kind_in (row ∷ rows) name = elim (bytes_eq name row.0) [ true ↦ Some row.1 | false ↦ kind_in rows name ]
 
 -- ---- What tags say
 
@@ -68,63 +102,39 @@ opening block_name.Highlight rest = made (λ x. item.Opens (block.Highlight x) B
 opening block_name.Raw rest = made (λ _. item.Raw) (read_nothing rest)
 opening block_name.Comment rest = made (λ _. item.Comment) (read_nothing rest)
 
--- tags that are not in the tables above and below
-abbrev pub unknown : Result Item FaultKind
-unknown = Err UnknownTag
+abbrev pub turning : PartName → List ℕ → Result Item FaultKind
+turning Else rest = made (λ _. item.Turns Otherwise) (read_nothing rest)
+turning ElsIf rest = made (λ c. item.Turns (Test c)) (read_condition rest)
+turning When rest = made (λ vs. item.Turns (part.When vs)) (read_values rest)
 
--- parts of blocks, and tags that go to names
-abbrev pub naming : List ℕ → List ℕ → Result Item FaultKind
-naming name rest =
-    if bytes_eq name (codes "else") then made (λ _. item.Turns Otherwise) (read_nothing rest)
-    else if bytes_eq name (codes "elsif") then made (λ c. item.Turns (Test c)) (read_condition rest)
-    else if bytes_eq name (codes "when") then made (λ vs. item.Turns (When vs)) (read_values rest)
-    else if bytes_eq name (codes "include") then made (λ i. item.Leaf (leaf.Include i)) (read_include rest)
-    else if bytes_eq name (codes "include_relative") then made (λ i. item.Leaf (leaf.IncludeRelative i)) (read_include rest)
-    else if bytes_eq name (codes "link") then made (λ p. item.Leaf (leaf.Link p)) (read_path rest)
-    else if bytes_eq name (codes "post_url") then made (λ p. item.Leaf (leaf.PostUrl p)) (read_path rest)
-    else unknown
+-- a cycle has the text of its whole tag, too
+abbrev pub leaf_tag : LeafName → List ℕ → List ℕ → Result Item FaultKind
+leaf_tag leaf_name.Assign text rest = made (λ a. item.Leaf (leaf.Assign a)) (read_assign rest)
+leaf_tag leaf_name.Cycle text rest = made (λ c. item.Leaf (leaf.Cycle text c)) (read_cycle rest)
+leaf_tag leaf_name.Increment text rest = made (λ x. item.Leaf (leaf.Increment x)) (read_name rest)
+leaf_tag leaf_name.Decrement text rest = made (λ x. item.Leaf (leaf.Decrement x)) (read_name rest)
+leaf_tag leaf_name.Break text rest = made (λ _. item.Leaf leaf.Break) (read_nothing rest)
+leaf_tag leaf_name.Continue text rest = made (λ _. item.Leaf leaf.Continue) (read_nothing rest)
+leaf_tag leaf_name.Include text rest = made (λ i. item.Leaf (leaf.Include i)) (read_include rest)
+leaf_tag leaf_name.IncludeRelative text rest = made (λ i. item.Leaf (leaf.IncludeRelative i)) (read_include rest)
+leaf_tag leaf_name.Link text rest = made (λ p. item.Leaf (leaf.Link p)) (read_path rest)
+leaf_tag leaf_name.PostUrl text rest = made (λ p. item.Leaf (leaf.PostUrl p)) (read_path rest)
 
--- tags that hold nothing else; a cycle has the text of its whole tag, too
-abbrev pub plain_tag : List ℕ → List ℕ → List ℕ → Result Item FaultKind
-plain_tag text name rest =
-    if bytes_eq name (codes "assign") then made (λ a. item.Leaf (leaf.Assign a)) (read_assign rest)
-    else if bytes_eq name (codes "cycle") then made (λ c. item.Leaf (leaf.Cycle text c)) (read_cycle rest)
-    else if bytes_eq name (codes "increment") then made (λ x. item.Leaf (leaf.Increment x)) (read_name rest)
-    else if bytes_eq name (codes "decrement") then made (λ x. item.Leaf (leaf.Decrement x)) (read_name rest)
-    else if bytes_eq name (codes "break") then made (λ _. item.Leaf leaf.Break) (read_nothing rest)
-    else if bytes_eq name (codes "continue") then made (λ _. item.Leaf leaf.Continue) (read_nothing rest)
-    else naming name rest
-
--- the block that is ended by a tag of this name
-abbrev pub block_ended : List ℕ → Option BlockName
-block_ended name =
-    if bytes_eq name (codes "endif") then Some block_name.If
-    else if bytes_eq name (codes "endunless") then Some block_name.Unless
-    else if bytes_eq name (codes "endcase") then Some block_name.Case
-    else if bytes_eq name (codes "endfor") then Some block_name.For
-    else if bytes_eq name (codes "endtablerow") then Some block_name.TableRow
-    else if bytes_eq name (codes "endcapture") then Some block_name.Capture
-    else if bytes_eq name (codes "endhighlight") then Some block_name.Highlight
-    else if bytes_eq name (codes "endraw") then Some block_name.Raw
-    else if bytes_eq name (codes "endcomment") then Some block_name.Comment
-    else None
-
-abbrev pub ending : Option BlockName → List ℕ → List ℕ → List ℕ → Result Item FaultKind
-ending (Some b) text name rest = made (λ _. item.Ends b) (read_nothing rest)
-ending None text name rest = plain_tag text name rest
-
-abbrev pub tag_named : Option BlockName → List ℕ → List ℕ → List ℕ → Result Item FaultKind
-tag_named (Some b) text name rest = opening b rest
-tag_named None text name rest = ending (block_ended name) text name rest
+abbrev pub said : Option TagKind → List ℕ → List ℕ → Result Item FaultKind
+said (Some (Opens b)) text rest = opening b rest
+said (Some (Ends b)) text rest = made (λ _. item.Ends b) (read_nothing rest)
+said (Some (Turns p)) text rest = turning p rest
+said (Some (Leaf l)) text rest = leaf_tag l text rest
+said None text rest = Err UnknownTag
 
 -- how many bytes at the front are a name
 abbrev pub tag_name_len : List ℕ → ℕ
 tag_name_len [] = 0
-tag_name_len (c ∷ cs) = if is_letter c then prefix_len is_name_byte (c ∷ cs) else 0
+tag_name_len (c ∷ cs) = if is_name_start c then prefix_len is_name_byte (c ∷ cs) else 0
 
 -- a tag without a name is none
 abbrev pub tag_with : List ℕ → List ℕ → List ℕ → Result Item FaultKind
-tag_with text name rest = if length name == 0 then Err LiquidSyntax else tag_named (block_named name) text name rest
+tag_with text name rest = if length name == 0 then Err LiquidSyntax else said (kind_in tag_words name) text rest
 
 abbrev pub tag_name : List ℕ → List ℕ
 tag_name text = let behind = after_white text in take (tag_name_len behind) behind

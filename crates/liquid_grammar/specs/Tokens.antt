@@ -6,6 +6,7 @@ use Rattle.liquid_grammar.specs.declared.mark.Mark.{Mark}
 use Rattle.liquid_grammar.specs.declared.mark.Mark.TheVariants.{Dot, To, OpenBracket, CloseBracket, OpenRange, CloseRange, Bar, Colon, Comma, Assign, Compare}
 use Rattle.liquid_grammar.specs.declared.mark.Comparison.TheVariants.{Equal, Unequal, Less, Greater, AtMost, AtLeast}
 use Rattle.liquid_grammar.specs.Pieces.{is_white}
+use Rattle.site_text.specs.Bytes.{is_digit, is_name_byte, is_name_start}
 
 pub data Token : Type 0 where
   -- a name, or a word of the language
@@ -16,17 +17,6 @@ pub data Token : Type 0 where
   -- a whole number that is no i64
   large : Token
   mark : (m : Mark) → Token
-
--- ---- Words
-
-abbrev pub is_letter : ℕ → Bool
-is_letter c = (nat_lt 64 c && nat_lt c 91) || (nat_lt 96 c && nat_lt c 123) || (c == 95)
-
-abbrev pub is_digit : ℕ → Bool
-is_digit c = nat_lt 47 c && nat_lt c 58
-
-abbrev pub is_name_byte : ℕ → Bool
-is_name_byte c = is_letter c || is_digit c || (c == 45)
 
 -- ---- Numbers
 
@@ -117,7 +107,7 @@ number_or_mark bytes = let n = whole_len bytes in if nat_lt 0 n then Some (numbe
 abbrev pub token_at : List ℕ → Option (Token × ℕ)
 token_at [] = None
 token_at (c ∷ cs) =
-    if is_letter c then (let n = prefix_len is_name_byte (c ∷ cs) in Some (word (take n (c ∷ cs)), n))
+    if is_name_start c then (let n = prefix_len is_name_byte (c ∷ cs) in Some (word (take n (c ∷ cs)), n))
     else if (c == 34) || (c == 39) then quoted_at c cs
     else number_or_mark (c ∷ cs)
 

@@ -13,6 +13,7 @@ mod operand;
 mod piece;
 mod step;
 mod tag;
+mod tag_kind;
 
 pub use condition::{Condition, Joined, Test};
 pub use expression::{Expr, Filter, Parameter, Params};
@@ -24,3 +25,4 @@ pub use operand::Operand;
 pub use piece::{Front, Piece, PieceKind, Span};
 pub use step::Step;
 pub use tag::{Assign, Cycle, Include, Loop, LoopKey, LoopKind, LoopPart, NamePart, NamePlace};
+pub use tag_kind::{LeafName, PartName, TagKind};

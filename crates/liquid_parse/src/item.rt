@@ -1,70 +1,21 @@
 // What a piece says.
-ghost use Rattle.std.specs.Prelude.{◌≡◌};
+ghost use Rattle.std.specs.Prelude.{Some};
 ghost use Rattle.liquid_grammar.specs.declared.piece.PieceKind.TheVariants as kind;
-ghost use Rattle.liquid_grammar.specs.Items.{block_named, block_ended, opening, naming, plain_tag, ending, tag_named, tag_item, item_in};
+ghost use Rattle.liquid_grammar.specs.Items.{item_in, leaf_tag, opening, said, tag_item, turning};
+ghost use Rattle.liquid_grammar.specs.declared.tag_kind.LeafName.TheVariants as leaf_name;
 ghost use Rattle.liquid_parse.specs.ItemErrors.{GivesItem};
 
 use crate::error::ItemError;
+use crate::tags::tag_kind;
 use liquid_expr::{
     read_assign, read_condition, read_cycle, read_expr, read_include, read_language, read_loop,
     read_name, read_nothing, read_path, read_values, tag_text,
 };
-use liquid_grammar::{Block, BlockName, Item, Leaf, LoopKind, Part, PieceKind};
+use liquid_grammar::{
+    Block, BlockName, Item, Leaf, LeafName, LoopKind, Part, PartName, PieceKind, TagKind,
+};
 use site_base::{Boxed, FaultKind, Text};
 use std::alloc::Global;
-
-fn block_named(name: &str) -> Option<BlockName>
-    ensures { result ≡ block_named name.now }
-{
-    if name == "if" {
-        Some(BlockName::If)
-    } else if name == "unless" {
-        Some(BlockName::Unless)
-    } else if name == "case" {
-        Some(BlockName::Case)
-    } else if name == "for" {
-        Some(BlockName::For)
-    } else if name == "tablerow" {
-        Some(BlockName::TableRow)
-    } else if name == "capture" {
-        Some(BlockName::Capture)
-    } else if name == "highlight" {
-        Some(BlockName::Highlight)
-    } else if name == "raw" {
-        Some(BlockName::Raw)
-    } else if name == "comment" {
-        Some(BlockName::Comment)
-    } else {
-        None
-    }
-}
-
-// The block that a tag of this name ends.
-fn block_ended(name: &str) -> Option<BlockName>
-    ensures { result ≡ block_ended name.now }
-{
-    if name == "endif" {
-        Some(BlockName::If)
-    } else if name == "endunless" {
-        Some(BlockName::Unless)
-    } else if name == "endcase" {
-        Some(BlockName::Case)
-    } else if name == "endfor" {
-        Some(BlockName::For)
-    } else if name == "endtablerow" {
-        Some(BlockName::TableRow)
-    } else if name == "endcapture" {
-        Some(BlockName::Capture)
-    } else if name == "endhighlight" {
-        Some(BlockName::Highlight)
-    } else if name == "endraw" {
-        Some(BlockName::Raw)
-    } else if name == "endcomment" {
-        Some(BlockName::Comment)
-    } else {
-        None
-    }
-}
 
 // The start of a block.
 fn opening(alloc: Global, block: BlockName, rest: &str) -> Result<Item, ItemError>
@@ -107,78 +58,79 @@ fn opening(alloc: Global, block: BlockName, rest: &str) -> Result<Item, ItemErro
     }
 }
 
-// Parts of blocks, and tags that go to names.
-fn naming(alloc: Global, name: &str, rest: &str) -> Result<Item, ItemError>
-    ensures { GivesItem result (naming name.now rest.now) }
+// The start of the next part of a block.
+fn turning(alloc: Global, part: PartName, rest: &str) -> Result<Item, ItemError>
+    ensures { GivesItem result (turning part rest.now) }
 {
-    if name == "else" {
-        read_nothing(alloc, rest)?;
-        return Ok(Item::Turns(Part::Otherwise));
+    match part {
+        PartName::Else => {
+            read_nothing(alloc, rest)?;
+            Ok(Item::Turns(Part::Otherwise))
+        }
+        PartName::ElsIf => Ok(Item::Turns(Part::Test(Boxed::new(
+            alloc,
+            read_condition(alloc, rest)?,
+        )?))),
+        PartName::When => Ok(Item::Turns(Part::When(Boxed::new(
+            alloc,
+            read_values(alloc, rest)?,
+        )?))),
     }
-    if name == "elsif" {
-        let test = Boxed::new(alloc, read_condition(alloc, rest)?)?;
-        return Ok(Item::Turns(Part::Test(test)));
-    }
-    if name == "when" {
-        let values = Boxed::new(alloc, read_values(alloc, rest)?)?;
-        return Ok(Item::Turns(Part::When(values)));
-    }
-    if name == "include" {
-        let include = Boxed::new(alloc, read_include(alloc, rest)?)?;
-        return Ok(Item::Leaf(Leaf::Include(include)));
-    }
-    if name == "include_relative" {
-        let include = Boxed::new(alloc, read_include(alloc, rest)?)?;
-        return Ok(Item::Leaf(Leaf::IncludeRelative(include)));
-    }
-    if name == "link" {
-        return Ok(Item::Leaf(Leaf::Link(read_path(alloc, rest)?)));
-    }
-    if name == "post_url" {
-        return Ok(Item::Leaf(Leaf::PostUrl(read_path(alloc, rest)?)));
-    }
-    Err(ItemError::Fault(FaultKind::UnknownTag))
 }
 
-// Tags that hold nothing else.
-fn plain_tag(alloc: Global, text: &str, name: &str, rest: &str) -> Result<Item, ItemError>
-    ensures { GivesItem result (plain_tag text.now name.now rest.now) }
+// A tag that holds nothing else.
+fn leaf_tag(alloc: Global, leaf: LeafName, text: &str, rest: &str) -> Result<Item, ItemError>
+    ensures { GivesItem result (leaf_tag leaf text.now rest.now) }
 {
-    if name == "assign" {
-        return Ok(Item::Leaf(Leaf::Assign(Boxed::new(alloc, read_assign(alloc, rest)?)?)));
+    match leaf {
+        LeafName::Assign => Ok(Item::Leaf(Leaf::Assign(Boxed::new(
+            alloc,
+            read_assign(alloc, rest)?,
+        )?))),
+        LeafName::Cycle => cycle_tag(alloc, text, rest),
+        LeafName::Increment => Ok(Item::Leaf(Leaf::Increment(read_name(alloc, rest)?))),
+        LeafName::Decrement => Ok(Item::Leaf(Leaf::Decrement(read_name(alloc, rest)?))),
+        LeafName::Break => {
+            read_nothing(alloc, rest)?;
+            Ok(Item::Leaf(Leaf::Break))
+        }
+        LeafName::Continue => {
+            read_nothing(alloc, rest)?;
+            Ok(Item::Leaf(Leaf::Continue))
+        }
+        LeafName::Include => Ok(Item::Leaf(Leaf::Include(Boxed::new(
+            alloc,
+            read_include(alloc, rest)?,
+        )?))),
+        LeafName::IncludeRelative => Ok(Item::Leaf(Leaf::IncludeRelative(Boxed::new(
+            alloc,
+            read_include(alloc, rest)?,
+        )?))),
+        LeafName::Link => Ok(Item::Leaf(Leaf::Link(read_path(alloc, rest)?))),
+        LeafName::PostUrl => Ok(Item::Leaf(Leaf::PostUrl(read_path(alloc, rest)?))),
     }
-    if name == "cycle" {
-        let cycle = Boxed::new(alloc, read_cycle(alloc, rest)?)?;
-        let text = Boxed::new(alloc, Text::copy(alloc, text)?)?;
-        return Ok(Item::Leaf(Leaf::Cycle(text, cycle)));
-    }
-    if name == "increment" {
-        return Ok(Item::Leaf(Leaf::Increment(read_name(alloc, rest)?)));
-    }
-    if name == "decrement" {
-        return Ok(Item::Leaf(Leaf::Decrement(read_name(alloc, rest)?)));
-    }
-    if name == "break" {
-        read_nothing(alloc, rest)?;
-        return Ok(Item::Leaf(Leaf::Break));
-    }
-    if name == "continue" {
-        read_nothing(alloc, rest)?;
-        return Ok(Item::Leaf(Leaf::Continue));
-    }
-    naming(alloc, name, rest)
 }
 
-// Tags that start no block.
-fn ending(alloc: Global, text: &str, name: &str, rest: &str) -> Result<Item, ItemError>
-    ensures { GivesItem result (ending (block_ended name.now) text.now name.now rest.now) }
+fn cycle_tag(alloc: Global, text: &str, rest: &str) -> Result<Item, ItemError>
+    ensures { GivesItem result (leaf_tag leaf_name.Cycle text.now rest.now) }
 {
-    match block_ended(name) {
-        Some(block) => {
+    let cycle = Boxed::new(alloc, read_cycle(alloc, rest)?)?;
+    let text = Boxed::new(alloc, Text::copy(alloc, text)?)?;
+    Ok(Item::Leaf(Leaf::Cycle(text, cycle)))
+}
+
+// What a tag says that is known.
+fn said(alloc: Global, kind: TagKind, text: &str, rest: &str) -> Result<Item, ItemError>
+    ensures { GivesItem result (said (Some kind) text.now rest.now) }
+{
+    match kind {
+        TagKind::Opens(block) => opening(alloc, block, rest),
+        TagKind::Ends(block) => {
             read_nothing(alloc, rest)?;
             Ok(Item::Ends(block))
         }
-        None => plain_tag(alloc, text, name, rest),
+        TagKind::Turns(part) => turning(alloc, part, rest),
+        TagKind::Leaf(leaf) => leaf_tag(alloc, leaf, text, rest),
     }
 }
 
@@ -191,9 +143,9 @@ fn tag_item(alloc: Global, text: &str) -> Result<Item, ItemError>
     if tag.name.is_empty() {
         return Err(ItemError::Fault(FaultKind::LiquidSyntax));
     }
-    match block_named(tag.name) {
-        Some(block) => opening(alloc, block, tag.rest),
-        None => ending(alloc, text, tag.name, tag.rest),
+    match tag_kind(tag.name) {
+        Some(kind) => said(alloc, kind, text, tag.rest),
+        None => Err(ItemError::Fault(FaultKind::UnknownTag)),
     }
 }
 

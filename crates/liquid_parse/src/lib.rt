@@ -6,6 +6,7 @@ mod error;
 mod item;
 mod node;
 mod parsing;
+mod tags;
 mod template;
 
 pub use error::ParseError;

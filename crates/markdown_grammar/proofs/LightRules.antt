@@ -3,11 +3,11 @@ use Rattle.std.proofs.Common.{Bool, List, [], ap, arith, cond, drop, false, refl
 use Rattle.markdown_grammar.proofs.Extending.{one_more}
 use Rattle.markdown_grammar.proofs.OpenEndWalk.{walk_is}
 use Rattle.markdown_grammar.specs.Blocks.{blocks, line_weight, opening, opening_at, opening_of, rules}
-use Rattle.markdown_grammar.specs.Bytes.{is_space}
+use Rattle.site_text.specs.Bytes.{is_space}
+use Rattle.site_text.specs.Fronts.{run_len}
 use Rattle.markdown_grammar.specs.Columns.{Line, bytes_weight, indent, lazy_line, own_line, shifted, tab_width}
 use Rattle.markdown_grammar.specs.Containers.{Container, block_quote, entry, lazily, list_item, padding, quote_entry}
 use Rattle.markdown_grammar.specs.Extents.{EntersLight, Entry, IsLight, OpensLight, add_line, goes_in, goes_in_if_filled, no_blocks}
-use Rattle.markdown_grammar.specs.Fronts.{run_len}
 use Rattle.markdown_grammar.specs.LineStarts.{start_of}
 use Rattle.markdown_grammar.specs.Lines.{trim_front}
 use Rattle.markdown_grammar.specs.OpenEnds.{line_steps, none_open, whole}

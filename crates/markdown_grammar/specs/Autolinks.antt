@@ -1,9 +1,8 @@
 -- Autolinks: CommonMark 0.31.2, section 6.5.
 use Rattle.std.specs.Prelude.{None, Some, codes, drop, if◌then◌else◌, nat_le, not, ◌&&◌, ◌-◌, ◌==◌, ◌||◌}
-use Rattle.markdown_grammar.specs.Bytes.{hyphen, is_alnum, is_control, is_letter, space}
-use Rattle.markdown_grammar.specs.Fronts.{first_byte, run_len}
+use Rattle.site_text.specs.Bytes.{hyphen, is_alnum, is_control, is_letter, is_one_of, space}
+use Rattle.site_text.specs.Fronts.{first_byte, run_len}
 use Rattle.markdown_grammar.specs.Readers.{Reader, at_least, exactly, one_byte, repeat, ◌then◌}
-use Rattle.markdown_grammar.specs.Tags.{is_one_of}
 
 -- a letter and one to 31 letters, digits, `+`, `.` or `-`
 abbrev pub scheme : Reader

@@ -1,7 +1,7 @@
 -- Thematic breaks: CommonMark 0.31.2, section 4.1.
 use Rattle.std.specs.Prelude.{List, [], if◌then◌else◌, nat_lt, not, ℕ, ◌&&◌, ◌+◌, ◌==◌, ◌||◌, ◌∷◌}
-use Rattle.markdown_grammar.specs.Bytes.{hyphen, is_space, star, underscore}
-use Rattle.markdown_grammar.specs.Fronts.{first_byte, has_one}
+use Rattle.site_text.specs.Bytes.{hyphen, is_space, star, underscore}
+use Rattle.site_text.specs.Fronts.{first_byte, has_one}
 use Rattle.markdown_grammar.specs.Starts.{Start, break_start, text_start}
 
 -- how often a byte stands in a text

@@ -1,7 +1,7 @@
 -- Code spans: CommonMark 0.31.2, section 6.1.
 use Rattle.std.specs.Prelude.{List, None, Some, [], drop, false, if◌then◌else◌, length, not, reverse, suc, take, true, ℕ, ◌&&◌, ◌+◌, ◌-◌, ◌==◌, ◌∷◌}
-use Rattle.markdown_grammar.specs.Bytes.{backtick, line_feed, space}
-use Rattle.markdown_grammar.specs.Fronts.{first_byte, has_one, run_len}
+use Rattle.site_text.specs.Bytes.{backtick, line_feed, space}
+use Rattle.site_text.specs.Fronts.{first_byte, has_one, run_len}
 use Rattle.markdown_grammar.specs.Inlines.{code_span, no_inlines, textual}
 use Rattle.markdown_grammar.specs.Pieces.{Piece, finished}
 use Rattle.markdown_grammar.specs.Readers.{Reader, plus}

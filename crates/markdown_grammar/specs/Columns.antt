@@ -1,6 +1,6 @@
 -- Lines and their columns: a tab stands for spaces up to the next stop of four (CommonMark 0.31.2, section 2.2).
 use Rattle.std.specs.Prelude.{List, [], false, replicate, suc, true, zero, ℕ, ◌%◌, ◌++◌, ◌+◌, ◌-◌, ◌==◌, ◌∷◌}
-use Rattle.markdown_grammar.specs.Bytes.{space, tab}
+use Rattle.site_text.specs.Bytes.{space, tab}
 
 -- what a container's inside has of a line: what stands behind the marks, from a column on, or a lazy line, which has no marks and goes on the open paragraph
 pub data Line : Type 0 where

@@ -1,6 +1,6 @@
 -- Container blocks: CommonMark 0.31.2, sections 5.1 and 5.2, and lazy lines.
 use Rattle.std.specs.Prelude.{List, [], if◌then◌else◌, nat_le, nat_lt, ℕ, ◌&&◌, ◌+◌, ◌==◌, ◌||◌, ◌∷◌}
-use Rattle.markdown_grammar.specs.Bytes.{greater_than}
+use Rattle.site_text.specs.Bytes.{greater_than}
 use Rattle.markdown_grammar.specs.Columns.{Line, indent, lazy_line, own_line, shifted}
 use Rattle.markdown_grammar.specs.Extents.{Entry, goes_in, goes_in_if_filled, goes_in_if_open, stays_out}
 use Rattle.markdown_grammar.specs.LineStarts.{start_of}

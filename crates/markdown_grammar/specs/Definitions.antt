@@ -1,9 +1,10 @@
 -- Link reference definitions at the front of a paragraph's text: CommonMark 0.31.2, section 4.7.
 use Rattle.std.specs.Prelude.{List, None, Option, Some, [], drop, false, if◌then◌else◌, length, take, true, ℕ, ◌+◌, ◌-◌, ◌==◌, ◌∷◌}
 use Rattle.site_base.specs.Recursion.{down}
-use Rattle.markdown_grammar.specs.Bytes.{colon, line_feed}
+use Rattle.site_text.specs.Bytes.{colon, line_feed}
+use Rattle.site_text.specs.Fronts.{begins_with}
 use Rattle.markdown_grammar.specs.Destinations.{Part, destination}
-use Rattle.markdown_grammar.specs.Fronts.{begins_with, same_bytes}
+use Rattle.markdown_grammar.specs.Fronts.{same_bytes}
 use Rattle.markdown_grammar.specs.Labels.{label_key, link_label}
 use Rattle.markdown_grammar.specs.Readers.{Reader, at_end, exactly, spaces, taken, white_gap, ◌or◌, ◌then◌}
 use Rattle.markdown_grammar.specs.Titles.{link_title}

@@ -1,9 +1,9 @@
 -- Link destinations: CommonMark 0.31.2, section 6.3.
 use Rattle.std.specs.Prelude.{Bool, List, None, Option, Some, [], drop, false, if◌then◌else◌, nat_lt, suc, take, true, ℕ, ◌&&◌, ◌+◌, ◌-◌, ◌==◌, ◌||◌, ◌∷◌}
-use Rattle.markdown_grammar.specs.Bytes.{backslash, greater_than, is_control, is_punct, left_paren, less_than, line_feed, right_paren, space}
+use Rattle.site_text.specs.Bytes.{backslash, greater_than, is_control, is_punct, left_paren, less_than, line_feed, right_paren, space}
+use Rattle.site_text.specs.Fronts.{begins_with}
 use Rattle.markdown_grammar.specs.Readers.{Reader, plus}
 use Rattle.markdown_grammar.specs.References.{resolved}
-use Rattle.markdown_grammar.specs.Fronts.{begins_with}
 
 -- the length of a destination between `<` and `>`: no line end, and no `<` or `>` without a backslash
 abbrev pub pointed_len : (is_escaped : Bool) → Reader

@@ -1,7 +1,7 @@
 -- Emphasis by rewriting the list of pieces: the first closer that has an opener is paired with the nearest, again and again. CommonMark 0.31.2, section 6.2.
 use Rattle.std.specs.Prelude.{Bool, List, None, Option, Some, [], false, if◌then◌else◌, nat_lt, not, replicate, true, ℕ, ◌%◌, ◌&&◌, ◌++◌, ◌+◌, ◌-◌, ◌==◌, ◌||◌, ◌∷◌, ◌≡◌}
 use Rattle.site_base.specs.Recursion.{down}
-use Rattle.markdown_grammar.specs.Bytes.{exclamation_mark, left_bracket}
+use Rattle.site_text.specs.Bytes.{exclamation_mark, left_bracket}
 use Rattle.markdown_grammar.specs.Inlines.{Inlines, before_all, emphasis, no_inlines, strong, textual}
 use Rattle.markdown_grammar.specs.Pieces.{Piece, delimiter_run, finished, open_bracket}
 

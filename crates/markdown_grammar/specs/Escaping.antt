@@ -1,7 +1,7 @@
 -- Escapes in HTML and URLs, as they are printed.
 use Rattle.std.specs.Prelude.{List, None, Option, Some, [], codes, flat_map, if◌then◌else◌, nat_lt, ℕ, ◌%◌, ◌++◌, ◌+◌, ◌/◌, ◌==◌, ◌||◌, ◌∷◌}
-use Rattle.markdown_grammar.specs.Bytes.{ampersand, double_quote, greater_than, is_alnum, less_than, percent_sign}
-use Rattle.markdown_grammar.specs.Fronts.{has_one}
+use Rattle.site_text.specs.Bytes.{ampersand, double_quote, greater_than, is_alnum, less_than, percent_sign}
+use Rattle.site_text.specs.Fronts.{has_one}
 
 -- `&`, `<`, `>` and `"` as references
 abbrev pub escaped_byte : ℕ → List ℕ

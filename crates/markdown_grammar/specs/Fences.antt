@@ -1,8 +1,8 @@
 -- The lines before and after fenced code: CommonMark 0.31.2, section 4.5.
 use Rattle.std.specs.Prelude.{Bool, List, drop, if◌then◌else◌, nat_le, nat_lt, not, ℕ, ◌&&◌, ◌==◌, ◌||◌}
-use Rattle.markdown_grammar.specs.Bytes.{backtick, tilde}
+use Rattle.site_text.specs.Bytes.{backtick, tilde}
+use Rattle.site_text.specs.Fronts.{first_byte, has_one, run_len}
 use Rattle.markdown_grammar.specs.Columns.{indent}
-use Rattle.markdown_grammar.specs.Fronts.{first_byte, has_one, run_len}
 use Rattle.markdown_grammar.specs.Lines.{is_blank, trim, trim_front}
 use Rattle.markdown_grammar.specs.Starts.{Start, fence_start, text_start}
 

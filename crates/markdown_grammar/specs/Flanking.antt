@@ -4,8 +4,8 @@ use Rattle.ucd_category.specs.GeneralCategory.{general_category, general_categor
 use Rattle.ucd_category.specs.GeneralCategoryGroup.{in_group}
 use Rattle.ucd_category.specs.declared.GeneralCategory.TheVariants.{SpaceSeparator}
 use Rattle.ucd_category.specs.declared.GeneralCategoryGroup.TheVariants.{Punctuation, Symbol}
-use Rattle.markdown_grammar.specs.Bytes.{between, is_punct, line_feed, space}
-use Rattle.markdown_grammar.specs.Fronts.{first_byte, run_len}
+use Rattle.site_text.specs.Bytes.{between, is_punct, line_feed, space}
+use Rattle.site_text.specs.Fronts.{first_byte, run_len}
 
 -- the characters at the end of the bytes before, which lie last first, and at the front of those after; a line end stands for the text's ends
 abbrev pub is_lead : ℕ → Bool

@@ -1,7 +1,8 @@
 -- Headings: CommonMark 0.31.2, sections 4.2 and 4.3.
 use Rattle.std.specs.Prelude.{Bool, List, drop, false, if◌then◌else◌, nat_lt, reverse, true, ℕ, ◌&&◌, ◌==◌, ◌||◌}
-use Rattle.markdown_grammar.specs.Bytes.{equals_sign, hyphen, is_space, number_sign}
-use Rattle.markdown_grammar.specs.Fronts.{first_byte, is_empty, run_len}
+use Rattle.site_text.specs.Bytes.{equals_sign, hyphen, is_space, number_sign}
+use Rattle.site_text.specs.Fronts.{first_byte, run_len}
+use Rattle.markdown_grammar.specs.Fronts.{is_empty}
 use Rattle.markdown_grammar.specs.Lines.{is_blank, trim}
 use Rattle.markdown_grammar.specs.Places.{Place, beside_paragraph, in_paragraph, not_in_paragraph}
 use Rattle.markdown_grammar.specs.Starts.{Start, atx_start, text_start, underline_start}

@@ -1,7 +1,8 @@
 -- What starts and ends an HTML block, of seven kinds: CommonMark 0.31.2, section 4.6.
 use Rattle.std.specs.Prelude.{Bool, List, [], codes, drop, false, if◌then◌else◌, length, not, take, true, ℕ, ◌&&◌, ◌==◌, ◌||◌, ◌∷◌}
-use Rattle.markdown_grammar.specs.Bytes.{hyphen, is_alnum, is_letter, is_space, less_than, lowered, slash}
-use Rattle.markdown_grammar.specs.Fronts.{begins_with, first_byte, has, run_len, same_bytes}
+use Rattle.site_text.specs.Bytes.{hyphen, is_alnum, is_letter, is_space, less_than, lowered, slash}
+use Rattle.site_text.specs.Fronts.{begins_with, first_byte, run_len}
+use Rattle.markdown_grammar.specs.Fronts.{has, same_bytes}
 use Rattle.markdown_grammar.specs.Places.{Place, is_fresh}
 use Rattle.markdown_grammar.specs.Readers.{Reader, ahead, at_end, exactly, spaces, to, ◌or◌, ◌then◌}
 use Rattle.markdown_grammar.specs.Starts.{Start, html_start, text_start}

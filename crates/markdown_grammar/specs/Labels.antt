@@ -1,8 +1,8 @@
 -- Link labels, and which of them match: CommonMark 0.31.2, section 6.3.
 use Rattle.std.specs.Prelude.{Bool, List, None, Some, [], chars, drop, false, if◌then◌else◌, length, nat_le, not, take, true, ℕ, ◌&&◌, ◌++◌, ◌+◌, ◌==◌, ◌∷◌}
 use Rattle.caseless.specs.Caseless.{default_case_fold}
-use Rattle.markdown_grammar.specs.Bytes.{backslash, is_white, left_bracket, right_bracket, space}
-use Rattle.markdown_grammar.specs.Fronts.{begins_with, has_one}
+use Rattle.site_text.specs.Bytes.{backslash, is_white, left_bracket, right_bracket, space}
+use Rattle.site_text.specs.Fronts.{begins_with, has_one}
 use Rattle.markdown_grammar.specs.Readers.{Reader, plus}
 
 -- the length of a label's text: up to a `]` that no backslash stands before, and no `[` without one is in it

@@ -1,9 +1,10 @@
 -- Leaf blocks as HTML.
 use Rattle.std.specs.Prelude.{Bool, List, [], codes, if◌then◌else◌, not, take, ℕ, ◌++◌, ◌+◌, ◌∷◌}
-use Rattle.markdown_grammar.specs.Bytes.{is_white}
+use Rattle.site_text.specs.Bytes.{is_white}
+use Rattle.site_text.specs.Fronts.{run_len}
 use Rattle.markdown_grammar.specs.Definitions.{Definition, after_definitions}
 use Rattle.markdown_grammar.specs.Escaping.{escaped}
-use Rattle.markdown_grammar.specs.Fronts.{is_empty, run_len}
+use Rattle.markdown_grammar.specs.Fronts.{is_empty}
 use Rattle.markdown_grammar.specs.InlineHtml.{inline_html}
 use Rattle.markdown_grammar.specs.Leaves.{Leaf, atx_heading, fenced_code, html_block, indented_code, paragraph, setext_heading, thematic_break}
 use Rattle.markdown_grammar.specs.Lines.{ended_lines, joined_lines, trim}

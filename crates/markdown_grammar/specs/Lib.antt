@@ -1,5 +1,4 @@
 pub mod Fronts
-pub mod Bytes
 pub mod Lines
 pub mod Readers
 pub mod CharacterNames

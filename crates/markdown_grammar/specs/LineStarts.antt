@@ -1,10 +1,10 @@
 -- The order in which a line is tried for what it starts: CommonMark 0.31.2, sections 4 and 5.
 use Rattle.std.specs.Prelude.{List, if◌then◌else◌, nat_lt, ℕ, ◌==◌}
 use Rattle.markdown_grammar.specs.Breaks.{break_at}
-use Rattle.markdown_grammar.specs.Bytes.{greater_than}
+use Rattle.site_text.specs.Bytes.{greater_than}
+use Rattle.site_text.specs.Fronts.{first_byte}
 use Rattle.markdown_grammar.specs.Columns.{indent}
 use Rattle.markdown_grammar.specs.Fences.{fence_at}
-use Rattle.markdown_grammar.specs.Fronts.{first_byte}
 use Rattle.markdown_grammar.specs.Headings.{atx_at, underline_at}
 use Rattle.markdown_grammar.specs.HtmlStarts.{html_at}
 use Rattle.markdown_grammar.specs.Lines.{is_blank, trim_front}

@@ -1,8 +1,9 @@
 -- The lines of a text without their ends, and white space at their ends: CommonMark 0.31.2, sections 2.1 and 2.3.
 use Rattle.std.specs.Prelude.{Bool, List, [], drop, if◌then◌else◌, map, not, reverse, take, ℕ, ◌++◌, ◌==◌, ◌||◌, ◌∷◌}
 use Rattle.site_base.specs.Lines.{lines}
-use Rattle.markdown_grammar.specs.Bytes.{carriage_return, is_space, line_feed}
-use Rattle.markdown_grammar.specs.Fronts.{is_empty, run_len}
+use Rattle.site_text.specs.Bytes.{carriage_return, is_space, line_feed}
+use Rattle.site_text.specs.Fronts.{run_len}
+use Rattle.markdown_grammar.specs.Fronts.{is_empty}
 
 -- without spaces and tabs in front
 abbrev pub trim_front : List ℕ → List ℕ

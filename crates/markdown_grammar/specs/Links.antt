@@ -1,10 +1,11 @@
 -- Links and images: what a `]` makes of the pieces before it and the text behind it. CommonMark 0.31.2, sections 6.3 and 6.4.
 use Rattle.std.specs.Prelude.{Bool, List, None, Option, Some, [], codes, drop, false, if◌then◌else◌, length, not, take, true, ℕ, ◌++◌, ◌+◌, ◌-◌, ◌==◌, ◌∷◌}
-use Rattle.markdown_grammar.specs.Bytes.{exclamation_mark, left_bracket, left_paren, right_bracket, right_paren}
+use Rattle.site_text.specs.Bytes.{exclamation_mark, left_bracket, left_paren, right_bracket, right_paren}
+use Rattle.site_text.specs.Fronts.{begins_with, first_byte}
 use Rattle.markdown_grammar.specs.Definitions.{Definition, Target, look_up}
 use Rattle.markdown_grammar.specs.Destinations.{destination}
 use Rattle.markdown_grammar.specs.Emphasis.{last_that, pairs}
-use Rattle.markdown_grammar.specs.Fronts.{begins_with, first_byte, ◌orelse◌}
+use Rattle.markdown_grammar.specs.Fronts.{◌orelse◌}
 use Rattle.markdown_grammar.specs.Inlines.{image, link, no_inlines, textual}
 use Rattle.markdown_grammar.specs.Labels.{is_label, label_key, link_label}
 use Rattle.markdown_grammar.specs.Pieces.{Piece, delimiter_run, finished, open_bracket}

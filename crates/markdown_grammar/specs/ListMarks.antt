@@ -1,7 +1,8 @@
 -- The marks of list items: CommonMark 0.31.2, section 5.2.
 use Rattle.std.specs.Prelude.{Bool, List, drop, if◌then◌else◌, nat_lt, not, take, true, ℕ, ◌&&◌, ◌+◌, ◌==◌, ◌||◌}
-use Rattle.markdown_grammar.specs.Bytes.{full_stop, hyphen, is_digit, is_space, plus_sign, right_paren, star}
-use Rattle.markdown_grammar.specs.Fronts.{first_byte, is_empty, run_len}
+use Rattle.site_text.specs.Bytes.{full_stop, hyphen, is_digit, is_space, plus_sign, right_paren, star}
+use Rattle.site_text.specs.Fronts.{first_byte, run_len}
+use Rattle.markdown_grammar.specs.Fronts.{is_empty}
 use Rattle.markdown_grammar.specs.Lines.{is_blank}
 use Rattle.markdown_grammar.specs.Places.{Place, beside_paragraph, in_paragraph, not_in_paragraph}
 use Rattle.std.specs.Str.Parse.{digits_value}

@@ -1,7 +1,8 @@
 -- The tags around the items of a list, as they are printed.
 use Rattle.std.specs.Prelude.{Bool, List, [], codes, decimal, false, if◌then◌else◌, not, reverse, ℕ, ◌++◌, ◌==◌, ◌||◌, ◌∷◌}
-use Rattle.markdown_grammar.specs.Bytes.{hyphen, line_feed, plus_sign, star}
-use Rattle.markdown_grammar.specs.Fronts.{first_byte, is_empty}
+use Rattle.site_text.specs.Bytes.{hyphen, line_feed, plus_sign, star}
+use Rattle.site_text.specs.Fronts.{first_byte}
+use Rattle.markdown_grammar.specs.Fronts.{is_empty}
 
 -- the text with a line end, unless nothing stands before on the line
 abbrev pub fresh_line : List ℕ → List ℕ

@@ -1,6 +1,6 @@
 -- The pieces of which inlines are made: CommonMark 0.31.2, section 6.
 use Rattle.std.specs.Prelude.{Bool, List, if◌then◌else◌, not, ℕ, ◌&&◌, ◌==◌, ◌||◌}
-use Rattle.markdown_grammar.specs.Bytes.{star}
+use Rattle.site_text.specs.Bytes.{star}
 use Rattle.markdown_grammar.specs.Flanking.{is_unicode_punct, left_flanking, right_flanking}
 use Rattle.markdown_grammar.specs.Inlines.{Inlines}
 

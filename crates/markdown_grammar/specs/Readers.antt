@@ -1,7 +1,7 @@
 -- Patterns for the front of a text, in which the standard's rules for tags and links are written: a reader answers how many bytes it takes, or none.
 use Rattle.std.specs.Prelude.{Bool, List, None, Option, Some, [], drop, false, if◌then◌else◌, length, nat_le, suc, true, zero, ℕ, ◌+◌, ◌==◌, ◌∷◌}
-use Rattle.markdown_grammar.specs.Bytes.{is_space, line_feed}
-use Rattle.markdown_grammar.specs.Fronts.{begins_with, run_len}
+use Rattle.site_text.specs.Bytes.{is_space, line_feed}
+use Rattle.site_text.specs.Fronts.{begins_with, run_len}
 
 -- a pattern: how many bytes it takes at the front of a text, or none
 abbrev pub Reader : Type 0

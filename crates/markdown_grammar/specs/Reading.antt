@@ -1,7 +1,7 @@
 -- The inlines of a text: code spans, autolinks and raw HTML bind tightest, then brackets, then emphasis. CommonMark 0.31.2, section 6.
 use Rattle.std.specs.Prelude.{List, [], drop, if◌then◌else◌, length, reverse, take, ℕ, ◌++◌, ◌+◌, ◌-◌, ◌==◌, ◌∷◌}
 use Rattle.site_base.specs.Recursion.{down}
-use Rattle.markdown_grammar.specs.Bytes.{right_bracket}
+use Rattle.site_text.specs.Bytes.{right_bracket}
 use Rattle.markdown_grammar.specs.Definitions.{Definition}
 use Rattle.markdown_grammar.specs.Emphasis.{pairs}
 use Rattle.markdown_grammar.specs.Inlines.{Inlines}

@@ -3,9 +3,10 @@ use Rattle.std.specs.Char.{encode_utf8}
 use Rattle.std.specs.Str.Parse.{digits_value}
 use Rattle.std.specs.Prelude.{Bool, List, None, Option, Some, [], drop, false, if◌then◌else◌, length, nat_le, nat_lt, not, take, true, ℕ, ◌&&◌, ◌++◌, ◌+◌, ◌-◌, ◌==◌, ◌||◌, ◌∷◌}
 use Rattle.site_base.specs.Recursion.{down}
-use Rattle.markdown_grammar.specs.Bytes.{ampersand, backslash, between, is_alnum, is_digit, is_hex, is_punct, lower_x, number_sign, semicolon, upper_x}
+use Rattle.site_text.specs.Bytes.{ampersand, backslash, between, is_alnum, is_digit, is_hex, is_punct, lower_x, number_sign, semicolon, upper_x}
+use Rattle.site_text.specs.Fronts.{first_byte, run_len}
 use Rattle.markdown_grammar.specs.CharacterNames.{character_names}
-use Rattle.markdown_grammar.specs.Fronts.{first_byte, run_len, same_bytes}
+use Rattle.markdown_grammar.specs.Fronts.{same_bytes}
 
 -- the character of a name in a table
 abbrev pub named_in : List (List ℕ × ℕ) → List ℕ → Option ℕ

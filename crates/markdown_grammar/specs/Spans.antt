@@ -1,11 +1,11 @@
 -- Pieces that stand for themselves: escapes, references, breaks, autolinks, raw HTML and text. CommonMark 0.31.2, sections 2.4, 2.5 and 6.5 to 6.9.
 use Rattle.std.specs.Char.{encode_utf8}
-use Rattle.std.specs.Prelude.{Bool, List, None, Some, [], codes, drop, false, if◌then◌else◌, nat_lt, not, suc, take, true, ℕ, ◌&&◌, ◌++◌, ◌+◌, ◌-◌, ◌==◌, ◌||◌, ◌∷◌}
+use Rattle.std.specs.Prelude.{List, None, Some, [], codes, drop, false, if◌then◌else◌, nat_lt, not, suc, take, true, ℕ, ◌&&◌, ◌++◌, ◌+◌, ◌-◌, ◌==◌, ◌||◌, ◌∷◌}
 use Rattle.markdown_grammar.specs.Autolinks.{email, pointed, uri}
-use Rattle.markdown_grammar.specs.Bytes.{ampersand, backslash, backtick, exclamation_mark, is_punct, left_bracket, less_than, line_feed, space, star, underscore}
+use Rattle.site_text.specs.Bytes.{ampersand, backslash, backtick, exclamation_mark, is_punct, is_special, left_bracket, less_than, line_feed, space, star, underscore}
+use Rattle.site_text.specs.Fronts.{first_byte, run_len}
 use Rattle.markdown_grammar.specs.CodeSpans.{Taken, as_textual, code_at}
 use Rattle.markdown_grammar.specs.Flanking.{char_after, char_before}
-use Rattle.markdown_grammar.specs.Fronts.{first_byte, has_one, run_len}
 use Rattle.markdown_grammar.specs.Inlines.{hard_break, link, no_inlines, raw_html, soft_break, textual}
 use Rattle.markdown_grammar.specs.Pieces.{Piece, finished, open_bracket, run_at}
 use Rattle.markdown_grammar.specs.References.{front_reference}
@@ -46,10 +46,6 @@ abbrev pub spaces_at : List ℕ → Taken
 spaces_at t =
     let n = run_len (λ c. c == space) t in
     if first_byte (drop n t) == line_feed then (finished (if nat_lt 1 n then hard_break no_inlines else soft_break no_inlines), n + 1) else as_textual (take n t) n
-
--- a byte that is not text by itself
-abbrev pub is_special : ℕ → Bool
-is_special c = has_one (λ d. d == c) (codes "\\&`<*_![] \n")
 
 -- text up to the next such byte
 abbrev pub textual_at : List ℕ → Taken

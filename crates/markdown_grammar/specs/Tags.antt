@@ -1,12 +1,7 @@
 -- Raw HTML: CommonMark 0.31.2, section 6.6, in the standard's words.
-use Rattle.std.specs.Prelude.{Bool, List, [], codes, not, ℕ, ◌==◌, ◌||◌, ◌∷◌}
-use Rattle.markdown_grammar.specs.Bytes.{double_quote, hyphen, is_alnum, is_letter, is_white, single_quote}
-use Rattle.markdown_grammar.specs.Fronts.{has_one}
+use Rattle.std.specs.Prelude.{[], codes, not, ℕ, ◌==◌, ◌||◌, ◌∷◌}
+use Rattle.site_text.specs.Bytes.{double_quote, hyphen, is_alnum, is_letter, is_one_of, is_white, single_quote}
 use Rattle.markdown_grammar.specs.Readers.{Reader, ahead, at_least, exactly, one_byte, perhaps, repeat, some_white_gap, to, white_gap, ◌or◌, ◌then◌}
-
--- a byte is one of these
-abbrev pub is_one_of : List ℕ → ℕ → Bool
-is_one_of w c = has_one (λ d. d == c) w
 
 -- a letter, then letters, digits and hyphens
 abbrev pub tag_name : Reader

@@ -1,6 +1,6 @@
 -- Link titles: CommonMark 0.31.2, section 6.3.
 use Rattle.std.specs.Prelude.{Bool, List, None, Option, Some, [], drop, false, if◌then◌else◌, take, true, ℕ, ◌&&◌, ◌+◌, ◌==◌, ◌||◌, ◌∷◌}
-use Rattle.markdown_grammar.specs.Bytes.{backslash, double_quote, is_punct, left_paren, right_paren, single_quote}
+use Rattle.site_text.specs.Bytes.{backslash, double_quote, is_punct, left_paren, right_paren, single_quote}
 use Rattle.markdown_grammar.specs.Destinations.{Part}
 use Rattle.markdown_grammar.specs.Readers.{Reader, plus}
 use Rattle.markdown_grammar.specs.References.{resolved}

@@ -9,8 +9,8 @@ use Rattle.site_items.specs.Extensions.{is_listed}
 use Rattle.site_reader.specs.declared.site.Site.{Site}
 use Rattle.site_reader.specs.declared.site_item.SiteItem.{SiteItem}
 use Rattle.page_render.specs.Pieces.{body_text}
-use Rattle.page_render.specs.declared.outcome.Outcome.{Outcome}
-use Rattle.page_render.specs.declared.outcome.Outcome.TheVariants.{Done, Fault}
+use Rattle.read_record.specs.declared.outcome.Outcome.{Outcome}
+use Rattle.read_record.specs.declared.outcome.Outcome.TheVariants.{Done, Fault}
 
 -- no Markdown, no layout, and a body of at most 1,024 bytes
 abbrev pub is_thin : List ℕ → SiteItem → Bool

@@ -6,11 +6,9 @@
 
 mod body;
 mod key;
-mod outcome;
 mod piece;
 mod render;
 
-pub use outcome::Outcome;
 pub use render::render_thin;
 
 #[cfg(test)]

@@ -5,7 +5,7 @@ ghost use Rattle.site_config.specs.Forms.{given, is_text, setting};
 ghost use Rattle.page_render.specs.Thin.{is_thin, item_text, outcome, outcome_by};
 
 use crate::body::{body_text, setting};
-use crate::outcome::Outcome;
+use read_record::Outcome;
 use site_base::{FaultKind, Memory, SiteFault, SitePath, Text, Value};
 use site_files::{extension, file_name};
 use site_items::is_listed;

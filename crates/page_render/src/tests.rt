@@ -1,4 +1,5 @@
-use crate::{Outcome, render_thin};
+use crate::render_thin;
+use read_record::Outcome;
 use site_base::{Settings, SiteFault, SitePath, Text};
 use site_reader::{Site, read_site};
 use source_tree::Held;

@@ -16,7 +16,7 @@ relative_same (b ∷ url) none = on (b == 47) refl
 
 -- a byte of the name, the byte behind it, and the end of the text
 pub name_more : (bs : List ℕ) (i : ℕ) → i < length bs → is_name (get_or bs i 0) ≡ true → name_len (drop i bs) ≡ suc (name_len (drop (i + 1) bs))
-name_more bs i lt e = rw (add-one, drop-cons bs i 0, e) refl
+name_more bs i lt e = let more : name_len (drop i bs) ≡ 1 + name_len (drop (i + 1) bs) = rw (add-one, drop-cons bs i 0, e) refl in omega (arith, more)
 
 pub name_stops : (bs : List ℕ) (i : ℕ) → i < length bs → is_name (get_or bs i 0) ≡ false → name_len (drop i bs) ≡ 0
 name_stops bs i lt e = rw (drop-cons bs i 0, e) refl

@@ -6,7 +6,7 @@ use Rattle.std.proofs.lemmas.List.{append-nil}
 use Rattle.std.proofs.lemmas.List.Elements.{All-from_get_or}
 use Rattle.std.proofs.lemmas.List.Sums.{fails_before_first}
 use Rattle.std.proofs.lemmas.List.Splits.{slice_split_none, slice_split_first}
-use Rattle.permalinks.specs.declared.parts.UrlParts.{UrlParts}
+use Rattle.permalinks.specs.Placeholders.{Values}
 use Rattle.permalinks.specs.declared.template.UrlError.{UrlError}
 use Rattle.permalinks.specs.Url.{both, part_text, parts_text, template_text, filled, is_colon, IsRefusal, behind_slashes}
 
@@ -17,11 +17,11 @@ both_assoc (Some a) (Some b) None = refl
 both_assoc (Some a) (Some b) (Some c) = ap Some (sym (append_assoc a b c))
 
 -- a part is added
-pub part_step : (u : UrlParts) (old new part : List ℕ) (parts : List (List ℕ)) → both (Some old) (part_text u part) ≡ Some new → both (Some old) (parts_text u (part ∷ parts)) ≡ both (Some new) (parts_text u parts)
+pub part_step : (u : Values) (old new part : List ℕ) (parts : List (List ℕ)) → both (Some old) (part_text u part) ≡ Some new → both (Some old) (parts_text u (part ∷ parts)) ≡ both (Some new) (parts_text u parts)
 part_step u old new part parts e = both_assoc (Some old) (part_text u part) (parts_text u parts) ∙ ap (λ made. both made (parts_text u parts)) e
 
 -- or refused
-pub part_refused : (u : UrlParts) (part : List ℕ) (parts : List (List ℕ)) (e : UrlError) → IsRefusal (part_text u part) e → IsRefusal (parts_text u (part ∷ parts)) e
+pub part_refused : (u : Values) (part : List ℕ) (parts : List (List ℕ)) (e : UrlError) → IsRefusal (part_text u part) e → IsRefusal (parts_text u (part ∷ parts)) e
 part_refused u part parts e (inl memory) = inl memory
 part_refused u part parts e (inr bad) = inr (bad.0, ap (λ made. both made (parts_text u parts)) bad.1)
 
@@ -36,13 +36,13 @@ pub next_part : (all : List (List ℕ)) (n : ℕ) (part : List ℕ) → n < leng
 next_part all n part lt e = rw (add-one, drop-cons all n part) (ap (λ p. p ∷ drop (suc n) all) (sym e))
 
 -- a template without `:` is its text
-pub without_colon : (u : UrlParts) (bs : List ℕ) → position_or_len is_colon bs ≡ length bs → filled u bs ≡ Some bs
+pub without_colon : (u : Values) (bs : List ℕ) → position_or_len is_colon bs ≡ length bs → filled u bs ≡ Some bs
 without_colon u bs e =
     let none = slice_split_none is_colon bs (All-from_get_or (λ b. is_colon b ≡ false) bs 0 (λ k lt. let before : k < position_or_len is_colon bs = omega arith in fails_before_first is_colon bs k 0 before)) in
     ap (template_text u) none ∙ ap Some (append-nil bs)
 
 -- what stands before the first `:` is text
-pub at_colon : (u : UrlParts) (bs : List ℕ) → position_or_len is_colon bs < length bs → filled u bs ≡ both (Some (before_first is_colon bs)) (parts_text u (slice_split is_colon (after_first is_colon bs)))
+pub at_colon : (u : Values) (bs : List ℕ) → position_or_len is_colon bs < length bs → filled u bs ≡ both (Some (before_first is_colon bs)) (parts_text u (slice_split is_colon (after_first is_colon bs)))
 at_colon u bs lt = ap (template_text u) (slice_split_first is_colon bs 0 lt)
 
 -- what stands before the first `:`, and then the parts behind it

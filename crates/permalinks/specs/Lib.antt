@@ -1,3 +1,4 @@
 pub mod Dest
+pub mod Placeholders
 pub mod Slug
 pub mod Url

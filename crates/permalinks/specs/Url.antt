@@ -1,40 +1,12 @@
 -- URLs: templates with placeholders, after Jekyll 4's manual, "Permalinks".
-use Rattle.std.specs.Prelude.{◌≡◌, ◌≤◌, ◌⊎◌, ℕ, length, ◌==◌, nat_le, Bool, true, false, ◌&&◌, ◌||◌, List, [], ◌∷◌, ◌++◌, take, drop, codes, Option, Some, None, if◌then◌else◌}
+use Rattle.std.specs.Prelude.{◌≡◌, ◌≤◌, ◌⊎◌, ℕ, length, ◌==◌, nat_le, Bool, true, false, ◌&&◌, ◌||◌, List, [], ◌∷◌, ◌++◌, take, drop, codes, Option, Some, None}
 use Rattle.std.specs.Option.{option_map}
-use Rattle.std.specs.List.{slice_split}
-use Rattle.std.specs.Str.{bytes_eq, IsUtf8, IsCharBoundary}
-use Rattle.site_base.specs.Fronts.{front_len}
+use Rattle.std.specs.List.{prefix_len, slice_split}
+use Rattle.std.specs.Str.{IsUtf8, IsCharBoundary}
+use Rattle.permalinks.specs.Placeholders.{Values, field, value}
 use Rattle.permalinks.specs.declared.parts.UrlParts.{UrlParts}
 use Rattle.permalinks.specs.declared.template.UrlError.{UrlError}
 use Rattle.permalinks.specs.declared.template.UrlError.TheVariants.{Placeholder, Memory}
-
--- the part of a day that a placeholder names
-abbrev pub date_field : UrlParts → List ℕ → Option (List ℕ)
-date_field parts name =
-    if bytes_eq name (codes "year") then parts.year
-    else if bytes_eq name (codes "month") then parts.month
-    else if bytes_eq name (codes "day") then parts.day
-    else if bytes_eq name (codes "i_month") then parts.i_month
-    else if bytes_eq name (codes "i_day") then parts.i_day
-    else if bytes_eq name (codes "short_year") then parts.short_year
-    else if bytes_eq name (codes "y_day") then parts.y_day
-    else if bytes_eq name (codes "hour") then parts.hour
-    else if bytes_eq name (codes "minute") then parts.minute
-    else if bytes_eq name (codes "second") then parts.second
-    else None
-
--- the value of a placeholder
-abbrev pub field : UrlParts → List ℕ → Option (List ℕ)
-field parts name =
-    if bytes_eq name (codes "title") then parts.title
-    else if bytes_eq name (codes "slug") then parts.slug
-    else if bytes_eq name (codes "categories") then parts.categories
-    else if bytes_eq name (codes "name") then parts.name
-    else if bytes_eq name (codes "basename") then parts.basename
-    else if bytes_eq name (codes "path") then parts.path
-    else if bytes_eq name (codes "collection") then parts.collection
-    else if bytes_eq name (codes "output_ext") then parts.output_ext
-    else date_field parts name
 
 -- `a` to `z` and `_`
 abbrev pub is_name : ℕ → Bool
@@ -42,15 +14,15 @@ is_name b = (nat_le 97 b && nat_le b 122) || (b == 95)
 
 -- the length of the name that a part of a template begins with, which is as long as it can be
 abbrev pub name_len : List ℕ → ℕ
-name_len part = front_len is_name part
+name_len part = prefix_len is_name part
 
 -- a text may be cut at this place
 abbrev pub IsCut : List ℕ → ℕ → Type 0
 IsCut text at = (at ≤ length text) × (IsUtf8 text → IsCharBoundary text at)
 
 -- a part of a template that stands behind a `:`, with the value in place of its name
-abbrev pub part_text : UrlParts → List ℕ → Option (List ℕ)
-part_text parts part = option_map (λ value. value ++ drop (name_len part) part) (field parts (take (name_len part) part))
+abbrev pub part_text : Values → List ℕ → Option (List ℕ)
+part_text values part = option_map (λ text. text ++ drop (name_len part) part) (field values (take (name_len part) part))
 
 -- one text behind another, where both are there
 abbrev pub both : Option (List ℕ) → Option (List ℕ) → Option (List ℕ)
@@ -58,21 +30,21 @@ both None after = None
 both (Some before) None = None
 both (Some before) (Some after) = Some (before ++ after)
 
-abbrev pub parts_text : UrlParts → List (List ℕ) → Option (List ℕ)
-parts_text parts [] = Some []
-parts_text parts (part ∷ rest) = both (part_text parts part) (parts_text parts rest)
+abbrev pub parts_text : Values → List (List ℕ) → Option (List ℕ)
+parts_text values [] = Some []
+parts_text values (part ∷ rest) = both (part_text values part) (parts_text values rest)
 
 abbrev pub is_colon : ℕ → Bool
 is_colon b = b == 58
 
 -- what stands before the first `:` is text
-abbrev pub template_text : UrlParts → List (List ℕ) → Option (List ℕ)
-template_text parts [] = Some []
-template_text parts (part ∷ rest) = both (Some part) (parts_text parts rest)
+abbrev pub template_text : Values → List (List ℕ) → Option (List ℕ)
+template_text values [] = Some []
+template_text values (part ∷ rest) = both (Some part) (parts_text values rest)
 
 -- the template with a value in place of each placeholder, where each has one
-abbrev pub filled : UrlParts → List ℕ → Option (List ℕ)
-filled parts template = template_text parts (slice_split is_colon template)
+abbrev pub filled : Values → List ℕ → Option (List ℕ)
+filled values template = template_text values (slice_split is_colon template)
 
 abbrev pub is_slash : ℕ → Bool
 is_slash b = b == 47
@@ -88,8 +60,12 @@ behind_slashes ends ((b ∷ segment) ∷ segments) = (47 ∷ b ∷ segment) ++ b
 abbrev pub with_slashes : List ℕ → List ℕ
 with_slashes text = behind_slashes false (slice_split is_slash text)
 
+-- the URL that a template makes of these values
+abbrev pub url_by : List ℕ → Values → Option (List ℕ)
+url_by template values = option_map with_slashes (filled values template)
+
 abbrev pub url : List ℕ → UrlParts → Option (List ℕ)
-url template parts = option_map with_slashes (filled parts template)
+url template parts = url_by template (value parts)
 
 -- memory aside, only a template without such a text is refused
 abbrev pub IsRefusal : Option (List ℕ) → UrlError → Type 0

@@ -3,13 +3,17 @@
 
 mod output;
 mod parts;
+mod placeholder;
 mod slug;
 mod template;
+mod values;
 
 pub use output::dest;
 pub use parts::UrlParts;
+pub use placeholder::Placeholder;
 pub use slug::slugify;
-pub use template::{UrlError, url};
+pub use template::{UrlError, url, url_by};
+pub use values::Values;
 
 #[cfg(test)]
 mod tests;

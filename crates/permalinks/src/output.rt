@@ -17,10 +17,7 @@ pub fn dest(alloc: Global, url: &str, output_ext: &str) -> Result<SitePath, UrlE
         (λ path. (path ≡ dest url.now output_ext.now) × (path_refusal (dest url.now output_ext.now) ≡ None))
         (IsNoPath (dest url.now output_ext.now)) }
 {
-    let text = match dest_text(alloc, url, output_ext) {
-        Ok(text) => text,
-        Err(_) => return Err(UrlError::Memory),
-    };
+    let text = dest_text(alloc, url, output_ext)?;
     match SitePath::read(alloc, text.as_str()) {
         Ok(path) => Ok(path),
         Err(PathError::Memory) => Err(UrlError::Memory),

@@ -1,9 +1,11 @@
 // What the placeholders of a template stand for.
 ghost use Rattle.std.specs.Prelude.{◌≡◌};
 ghost use Rattle.std.specs.Option.{option_copied};
-ghost use Rattle.permalinks.specs.Url.{date_field, field};
 
-use site_base::Text;
+use crate::placeholder::Placeholder;
+use crate::values::Values;
+use site_base::{Memory, Text};
+use std::alloc::Global;
 
 /// The values of the placeholders of a template. One that an item lacks is `None`.
 #[derive(Drop)]
@@ -40,71 +42,44 @@ pub struct UrlParts {
     pub output_ext: Option<Text>,
 }
 
-impl UrlParts {
-    /// The value of a placeholder.
-    pub(crate) fn field(&self, name: &[u8]) -> Option<&Text>
-        ensures { option_copied result ≡ field self.now name.now }
-    {
-        if name == b"title".as_slice() {
-            return self.title.as_ref();
-        }
-        if name == b"slug".as_slice() {
-            return self.slug.as_ref();
-        }
-        if name == b"categories".as_slice() {
-            return self.categories.as_ref();
-        }
-        if name == b"name".as_slice() {
-            return self.name.as_ref();
-        }
-        if name == b"basename".as_slice() {
-            return self.basename.as_ref();
-        }
-        if name == b"path".as_slice() {
-            return self.path.as_ref();
-        }
-        if name == b"collection".as_slice() {
-            return self.collection.as_ref();
-        }
-        if name == b"output_ext".as_slice() {
-            return self.output_ext.as_ref();
-        }
-        self.date_field(name)
-    }
+impl Values for UrlParts {
+    ghost use Rattle.permalinks.specs.Placeholders.{value};
 
-    fn date_field(&self, name: &[u8]) -> Option<&Text>
-        ensures { option_copied result ≡ date_field self.now name.now }
+    ghost stands_for = { value };
+
+    fn value(&self, alloc: Global, placeholder: Placeholder) -> Result<Option<Text>, Memory> {
+        match self.part(placeholder) {
+            Some(text) => Ok(Some(Text::copy(alloc, text.as_str())?)),
+            None => Ok(None),
+        }
+    }
+}
+
+impl UrlParts {
+    ghost use Rattle.permalinks.specs.Placeholders.{value};
+
+    fn part(&self, placeholder: Placeholder) -> Option<&Text>
+        ensures { option_copied result ≡ value self.now placeholder }
     {
-        if name == b"year".as_slice() {
-            return self.year.as_ref();
+        match placeholder {
+            Placeholder::Year => self.year.as_ref(),
+            Placeholder::Month => self.month.as_ref(),
+            Placeholder::Day => self.day.as_ref(),
+            Placeholder::IMonth => self.i_month.as_ref(),
+            Placeholder::IDay => self.i_day.as_ref(),
+            Placeholder::ShortYear => self.short_year.as_ref(),
+            Placeholder::YDay => self.y_day.as_ref(),
+            Placeholder::Hour => self.hour.as_ref(),
+            Placeholder::Minute => self.minute.as_ref(),
+            Placeholder::Second => self.second.as_ref(),
+            Placeholder::Title => self.title.as_ref(),
+            Placeholder::Slug => self.slug.as_ref(),
+            Placeholder::Categories => self.categories.as_ref(),
+            Placeholder::Name => self.name.as_ref(),
+            Placeholder::Basename => self.basename.as_ref(),
+            Placeholder::Path => self.path.as_ref(),
+            Placeholder::Collection => self.collection.as_ref(),
+            Placeholder::OutputExt => self.output_ext.as_ref(),
         }
-        if name == b"month".as_slice() {
-            return self.month.as_ref();
-        }
-        if name == b"day".as_slice() {
-            return self.day.as_ref();
-        }
-        if name == b"i_month".as_slice() {
-            return self.i_month.as_ref();
-        }
-        if name == b"i_day".as_slice() {
-            return self.i_day.as_ref();
-        }
-        if name == b"short_year".as_slice() {
-            return self.short_year.as_ref();
-        }
-        if name == b"y_day".as_slice() {
-            return self.y_day.as_ref();
-        }
-        if name == b"hour".as_slice() {
-            return self.hour.as_ref();
-        }
-        if name == b"minute".as_slice() {
-            return self.minute.as_ref();
-        }
-        if name == b"second".as_slice() {
-            return self.second.as_ref();
-        }
-        None
     }
 }

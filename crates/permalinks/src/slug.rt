@@ -12,10 +12,7 @@ use ucd_category::GeneralCategory;
 pub fn slugify(alloc: Global, text: &str) -> Result<Text, Memory>
     ensures { IfOk result (λ made. made ≡ slug text.now) }
 {
-    match slug_text(alloc, text) {
-        Ok(slug) => Text::from_string(slug),
-        Err(_) => Err(Memory),
-    }
+    Text::from_string(slug_text(alloc, text)?)
 }
 
 fn slug_text(alloc: Global, text: &str) -> Result<String, AllocError>

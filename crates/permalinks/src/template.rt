@@ -2,9 +2,11 @@
 ghost use Rattle.std.specs.Prelude.{◌≡◌, ◌++◌, IfOk, ◌∷◌, List, ℕ, Bool, MatchResult, Some};
 ghost use Rattle.std.specs.List.{slice_split};
 ghost use Rattle.std.specs.String.{string_bytes};
-ghost use Rattle.permalinks.specs.Url.{IsRefusal, IsCut, is_colon, is_name, name_len, both, part_text, parts_text, filled, behind_slashes, with_slashes, url};
+ghost use Rattle.permalinks.specs.Placeholders.{field};
+ghost use Rattle.permalinks.specs.Url.{IsRefusal, IsCut, is_colon, is_name, name_len, both, part_text, parts_text, filled, behind_slashes, with_slashes, url, url_by};
 
-use crate::UrlParts;
+use crate::placeholder::Placeholder;
+use crate::{UrlParts, Values};
 use site_base::{Memory, Text};
 use std::alloc::{AllocError, Global};
 
@@ -29,6 +31,17 @@ impl From<AllocError> for UrlError {
     }
 }
 
+impl From<Memory> for UrlError {
+    ghost use Rattle.std.specs.Prelude.{◌≡◌};
+    ghost use Rattle.permalinks.specs.declared.template.UrlError.TheVariants as url_error;
+
+    ghost from_gives = { λ _ error. error ≡ url_error.Memory };
+
+    fn from(_: Memory) -> UrlError {
+        UrlError::Memory
+    }
+}
+
 /// The URL of a template: each placeholder, which is `:` and the longest run of `a` to `z` and `_`, is replaced by its
 /// value; then `/` is put in front where it is missing, and runs of `/` become one.
 ///
@@ -38,47 +51,61 @@ pub fn url(alloc: Global, template: &str, parts: &UrlParts) -> Result<Text, UrlE
         (λ text. url template.now parts.now ≡ Some text)
         (IsRefusal (url template.now parts.now)) }
 {
-    let text = filled(alloc, template, parts)?;
-    match Text::from_string(with_slashes(alloc, text.as_str())?) {
-        Ok(text) => Ok(text),
-        Err(Memory) => Err(UrlError::Memory),
-    }
+    url_by(alloc, template, parts)
 }
 
-fn filled(alloc: Global, template: &str, parts: &UrlParts) -> Result<String, UrlError>
+/// The same, of values that are asked for where their placeholder is met.
+pub fn url_by<V: Values>(alloc: Global, template: &str, values: &V) -> Result<Text, UrlError>
     ensures { MatchResult result
-        (λ text. filled parts.now template.now ≡ Some (string_bytes text))
-        (IsRefusal (filled parts.now template.now)) }
+        (λ text. url_by template.now (V.stands_for values.now) ≡ Some text)
+        (IsRefusal (url_by template.now (V.stands_for values.now))) }
+{
+    let text = filled(alloc, template, values)?;
+    Ok(Text::from_string(with_slashes(alloc, text.as_str())?)?)
+}
+
+fn filled<V: Values>(alloc: Global, template: &str, values: &V) -> Result<String, UrlError>
+    ensures { MatchResult result
+        (λ text. filled (V.stands_for values.now) template.now ≡ Some (string_bytes text))
+        (IsRefusal (filled (V.stands_for values.now) template.now)) }
 {
     let mut text = String::new(alloc);
-    match push_template(&mut text, template, parts) {
-        Ok(()) => Ok(text),
-        Err(error) => Err(error),
-    }
+    push_template(alloc, &mut text, template, values)?;
+    Ok(text)
 }
 
-fn push_template(text: &mut String, template: &str, parts: &UrlParts) -> Result<(), UrlError>
+fn push_template<V: Values>(
+    alloc: Global,
+    text: &mut String,
+    template: &str,
+    values: &V,
+) -> Result<(), UrlError>
     ensures { MatchResult result
-        (λ _. both (Some (string_bytes text.old)) (filled parts.now template.now) ≡ Some (string_bytes text.new))
-        (IsRefusal (filled parts.now template.now)) }
+        (λ _. both (Some (string_bytes text.old)) (filled (V.stands_for values.now) template.now) ≡ Some (string_bytes text.new))
+        (IsRefusal (filled (V.stands_for values.now) template.now)) }
 {
     match template.split_once(':') {
         None => Ok(text.push_str(template)?),
         Some((start, rest)) => {
             text.push_str(start)?;
-            push_parts(text, rest, parts)
+            push_parts(alloc, text, rest, values)
         }
     }
 }
 
 // Adds what the parts of a template behind its first `:` stand for.
-fn push_parts(text: &mut String, rest: &str, parts: &UrlParts) -> Result<(), UrlError>
+fn push_parts<V: Values>(
+    alloc: Global,
+    text: &mut String,
+    rest: &str,
+    values: &V,
+) -> Result<(), UrlError>
     ensures { MatchResult result
-        (λ _. both (Some (string_bytes text.old)) (parts_text parts.now (slice_split is_colon rest.now)) ≡ Some (string_bytes text.new))
-        (IsRefusal (parts_text parts.now (slice_split is_colon rest.now))) }
+        (λ _. both (Some (string_bytes text.old)) (parts_text (V.stands_for values.now) (slice_split is_colon rest.now)) ≡ Some (string_bytes text.new))
+        (IsRefusal (parts_text (V.stands_for values.now) (slice_split is_colon rest.now))) }
 {
     for part in rest.split(':') {
-        match push_part(text, part, parts) {
+        match push_part(alloc, text, part, values) {
             Ok(()) => (),
             Err(error) => return Err(error),
         }
@@ -86,19 +113,34 @@ fn push_parts(text: &mut String, rest: &str, parts: &UrlParts) -> Result<(), Url
     Ok(())
 }
 
-fn push_part(text: &mut String, part: &str, parts: &UrlParts) -> Result<(), UrlError>
+fn push_part<V: Values>(
+    alloc: Global,
+    text: &mut String,
+    part: &str,
+    values: &V,
+) -> Result<(), UrlError>
     ensures { MatchResult result
-        (λ _. both (Some (string_bytes text.old)) (part_text parts.now part.now) ≡ Some (string_bytes text.new))
-        (IsRefusal (part_text parts.now part.now)) }
+        (λ _. both (Some (string_bytes text.old)) (part_text (V.stands_for values.now) part.now) ≡ Some (string_bytes text.new))
+        (IsRefusal (part_text (V.stands_for values.now) part.now)) }
 {
     let end = name_len(part.as_bytes());
-    match parts.field(&part.as_bytes()[..end]) {
+    match value_of(alloc, &part[..end], values)? {
         Some(value) => {
             text.push_str(value.as_str())?;
             text.push_str(&part[end..])?;
             Ok(())
         }
         None => Err(UrlError::Placeholder),
+    }
+}
+
+// What the placeholder of a name stands for.
+fn value_of<V: Values>(alloc: Global, name: &str, values: &V) -> Result<Option<Text>, Memory>
+    ensures { IfOk result (λ text. text ≡ field (V.stands_for values.now) name.now) }
+{
+    match Placeholder::named(name) {
+        Some(placeholder) => values.value(alloc, placeholder),
+        None => Ok(None),
     }
 }
 

@@ -1,5 +1,6 @@
 -- Which values a look-up of a key may give.
 use Rattle.std.specs.Prelude.{◌≡◌, pos, Bool, true, false, ◌&&◌, is_none, nat_le, codes, Option, Some, IsTrue}
+use Rattle.site_base.specs.Limits.{last_moment}
 use Rattle.site_base.specs.Path.{path_refusal}
 use Rattle.site_base.specs.Plain.{Plain, nil, text, hash, int, get}
 use Rattle.read_record.specs.declared.key.Key.{Key}
@@ -37,9 +38,9 @@ is_layout nil = true
 is_layout (hash ps) = is_path (get (codes "path") ps) && (is_some_hash (get (codes "vars") ps) && is_some_text (get (codes "body") ps))
 is_layout v = false
 
--- a number of seconds from 1970 up to the end of the year 9999
+-- a number of seconds from 1970 up to the last moment
 abbrev pub is_moment : Plain → Bool
-is_moment (int (pos n)) = nat_le n 253402214399
+is_moment (int (pos n)) = nat_le n last_moment
 is_moment v = false
 
 -- variables and data are any values

@@ -6,7 +6,6 @@ pub mod Ends
 pub mod Faults
 pub mod Fingerprints
 pub mod Flat
-pub mod Fronts
 pub mod Limits
 pub mod Lines
 pub mod Listing

@@ -1,14 +1,19 @@
 // The measured program: reads its standard input, and calls one library on it. `bench/` runs it.
 #![tactic(auto)]
 
+mod claims;
+
 use cm_print::{HtmlError, to_html};
 use data_files::{DataError, read_data};
 use front_yaml::{YamlError, read_yaml};
 use liquid_parse::{ParseError, parse};
 use site_base::SitePath;
 use site_config::{ConfigError, read_config};
+use std::alloc::Global;
 use std::io::Write;
 use std::process::ExitCode;
+use std::rt::Clock;
+use std::thread::Threads;
 use std::{env, io};
 
 // The status of a run whose input is refused, whose words are wrong, or that failed.
@@ -26,6 +31,9 @@ fn main(rt: HostRuntime) -> ExitCode {
         return ExitCode::from(FAILED);
     };
     match arguments.nth(1) {
+        Some(word) if word.as_str() == "claims" => {
+            ExitCode::from(claim_times(&rt, rt.alloc(), text.as_str()))
+        }
         Some(word) => ExitCode::from(status(rt, word.as_str(), text.as_str())),
         None => ExitCode::from(USAGE),
     }
@@ -91,6 +99,20 @@ fn markdown(rt: HostRuntime, text: &str) -> u8 {
         Ok(html) => written(rt, html.as_str()),
         Err(HtmlError::TooLong) => REFUSED,
         Err(HtmlError::Memory) => FAILED,
+    }
+}
+
+// The status of as many threads' claims as the text says. The nanoseconds that they took and the claims that succeeded are written.
+fn claim_times<R: Threads + Clock + Print + Sync>(rt: &R, alloc: Global, text: &str) -> u8 {
+    let Ok(threads) = text.trim().parse::<u32>() else {
+        return REFUSED;
+    };
+    let Some((taken, claimed)) = claims::timed(rt, alloc, threads) else {
+        return FAILED;
+    };
+    match println!(rt; "{} {claimed}", taken.as_nanos()) {
+        Ok(()) => 0,
+        Err(_) => FAILED,
     }
 }
 

@@ -1,13 +1,13 @@
 -- The forms that the values of a configuration have, and what stands for one that is absent.
 use Rattle.std.specs.Prelude.{ℕ, pos, ◌==◌, nat_eq, nat_le, Bool, true, false, not, ◌&&◌, ◌||◌, List, [], ◌∷◌, length, codes, Option, Some, None, is_some, unwrap_or}
 use Rattle.std.specs.Borrow.{Bor}
-use Rattle.std.specs.Char.{is_ascii_digit}
-use Rattle.std.specs.List.{list_all, list_any, starts_with}
+use Rattle.std.specs.List.{list_all, list_any, prefix_len, starts_with}
 use Rattle.std.specs.Str.{bytes_eq}
 use Rattle.site_base.specs.Plain.{Plain, nil, bool, int, text, list, hash, Items, item_list, Pairs, no_pairs, pair, get}
 use Rattle.site_base.specs.View.{plain}
 use Rattle.site_base.specs.declared.value.Value.{Value}
 use Rattle.site_dates.specs.Offset.{read_offset}
+use Rattle.site_text.specs.Bytes.{is_name_byte}
 use Rattle.site_config.specs.declared.form.Form.{Form}
 use Rattle.site_config.specs.declared.form.Form.TheVariants as form
 
@@ -28,12 +28,9 @@ is_text v = false
 abbrev pub are_texts : Items → Bool
 are_texts is = list_all is_text (item_list is)
 
--- ASCII letters, digits, `-` and `_`
-abbrev pub is_name_byte : ℕ → Bool
-is_name_byte b = is_ascii_digit b || (nat_le 65 b && nat_le b 90) || (nat_le 97 b && nat_le b 122) || (b == 45) || (b == 95)
-
+-- one byte or more, each an ASCII letter, a digit, `-` or `_`
 abbrev pub is_name : List ℕ → Bool
-is_name s = not (length s == 0) && list_all is_name_byte s
+is_name s = not (length s == 0) && (prefix_len is_name_byte s == length s)
 
 -- a text that is the name of a collection
 abbrev pub is_name_text : Plain → Bool

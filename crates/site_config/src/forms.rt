@@ -1,13 +1,13 @@
 // The forms that values of a configuration have.
 ghost use Rattle.std.specs.Prelude.{◌≡◌};
-ghost use Rattle.std.specs.List.{list_all};
 ghost use Rattle.site_base.specs.View.{plain};
-ghost use Rattle.site_config.specs.Forms.{given, fits, is_text, are_texts, is_name, are_names, is_collection, are_collections, names, is_kind, is_kind_text, is_name_text, has_text, is_hash, is_scope, are_scopes, holds_number, is_flag, is_optional_text, is_name_byte};
+ghost use Rattle.site_config.specs.Forms.{given, fits, is_text, are_texts, is_name, are_names, is_collection, are_collections, names, is_kind, is_kind_text, is_name_text, has_text, is_hash, is_scope, are_scopes, holds_number, is_flag, is_optional_text};
 
 use crate::form::Form;
 use crate::settings::setting;
 use site_base::{Hash, List, Value};
 use site_dates::read_offset;
+use site_text::{Class, class_run};
 
 /// Whether a value has a form, where `collections` has its own. An absent one and nil have any.
 pub(crate) fn fits(collections: Option<&Value>, form: Form, value: Option<&Value>) -> bool
@@ -55,19 +55,7 @@ fn is_name_text(value: &Value) -> bool
 fn is_name(text: &str) -> bool
     ensures { result ≡ is_name text.now }
 {
-    !text.is_empty() && are_name_bytes(text.as_bytes())
-}
-
-fn are_name_bytes(bytes: &[u8]) -> bool
-    ensures { result ≡ list_all is_name_byte bytes.now }
-{
-    bytes.iter().all(|b| is_name_byte(*b))
-}
-
-fn is_name_byte(byte: u8) -> bool
-    ensures { result ≡ is_name_byte byte }
-{
-    byte.is_ascii_alphanumeric() || byte == b'-' || byte == b'_'
+    !text.is_empty() && class_run(Class::Name, text.as_bytes()) == text.len()
 }
 
 fn are_collections(hash: &Hash) -> bool

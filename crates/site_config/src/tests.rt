@@ -32,7 +32,7 @@ fn is_refused(alloc: Global, yaml: &str, want: &str) -> bool {
 }
 
 // Whether there are so many names, and the last of them is this one.
-fn end_in(names: &len: u64, last: &str) -> bool {
+fn end_in(names: &TextList, len: u64, last: &str) -> bool {
     if len == 0 || names.len() != len {
         return false;
     }

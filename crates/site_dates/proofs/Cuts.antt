@@ -6,6 +6,6 @@ use Rattle.site_dates.specs.declared.directive.Directive.{Directive}
 use Rattle.site_dates.specs.Format.{IsCut, sized}
 
 -- after a directive's letter, at place n
-pub cut_after_letter : (directive : Option Directive) (part : List ℕ) (n : ℕ) → n < length part → (IsSome directive → get_or part n 0 < 128) → IfSome (sized (n + 1) directive) (λ found. IsCut part found.1)
+pub cut_after_letter : (directive : Option Directive) (part : List ℕ) (n : ℕ) → n < length part → (IsSome directive → get_or part n 0 < 128) → IfSome (sized (n + 1) directive) (λ at. IsCut part at.len)
 cut_after_letter None part n lt ascii = tt
 cut_after_letter (Some directive) part n lt ascii = (omega arith, λ u. IsCharBoundary-after_ascii part n u lt (ascii (search rules)))

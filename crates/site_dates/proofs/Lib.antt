@@ -1,6 +1,6 @@
-pub mod Begun
+pub mod Clocks
 pub mod Cuts
-pub mod Lengths
+pub mod DayCounts
 pub mod Patterns
 pub mod Reading
 pub mod Shapes

@@ -1,30 +1,16 @@
 -- Moments as text: patterns of directives, as those of strftime in POSIX.
-use Rattle.std.specs.Prelude.{◌≡◌, ◌≤◌, length, ◌⊎◌, ℕ, ◌+◌, ◌-◌, ◌/◌, ◌%◌, ◌==◌, nat_lt, Bool, true, false, List, [], ◌∷◌, ◌++◌, take, drop, codes, slice_index_or, ℤ, pos, negsuc, ◌+ℤ◌, unsigned_abs, Option, Some, None, if◌then◌else◌}
+use Rattle.std.specs.Prelude.{◌≡◌, ◌≤◌, length, ◌⊎◌, ℕ, ◌+◌, ◌-◌, ◌/◌, ◌%◌, ◌==◌, nat_lt, Bool, true, false, List, [], ◌∷◌, ◌++◌, take, drop, codes, slice_index_or, ℤ, pos, negsuc, unsigned_abs, Option, Some, None, if◌then◌else◌}
 use Rattle.std.specs.Option.{option_map}
 use Rattle.std.specs.List.{slice_split}
 use Rattle.std.specs.Fmt.{signed_decimal}
 use Rattle.std.specs.Str.{IsUtf8, IsCharBoundary}
-use Rattle.site_dates.specs.declared.calendar.Date.{Date}
 use Rattle.site_dates.specs.declared.directive.Directive.{Directive}
 use Rattle.site_dates.specs.declared.directive.Directive.TheVariants.{Year, ShortYear, Month, BareMonth, Day, BareDay, SpacedDay, Hour, BareHour, HalfHour, BareHalfHour, Minute, Second, Half, MonthName, ShortMonthName, WeekdayName, ShortWeekdayName, DayOfYear, Offset, ColonOffset, Moment, FullDate, FullTime}
-use Rattle.site_dates.specs.declared.local.LocalTime.{LocalTime}
+use Rattle.site_dates.specs.declared.directive.Found.{Found}
 use Rattle.site_dates.specs.declared.format.FormatError.{FormatError}
 use Rattle.site_dates.specs.declared.format.FormatError.TheVariants.{BadFormat, Memory}
-use Rattle.site_dates.specs.Calendar.{date_at, day_of_year, weekday}
-
--- seconds since the beginning of the year 1, as clocks at the offset show them
-abbrev pub shown_seconds : ℤ → ℤ → ℕ
-shown_seconds moment offset = unsigned_abs (moment +ℤ offset +ℤ pos 62_135_596_800)
-
--- what calendars and clocks at an offset show
-abbrev pub local_time : ℤ → ℤ → LocalTime
-local_time moment offset = let shown = shown_seconds moment offset in record {
-  moment = moment;
-  offset = offset;
-  day = shown / 86_400;
-  second = shown % 86_400;
-  date = date_at (shown / 86_400);
-}
+use Rattle.site_dates.specs.Days.{CivilDay}
+use Rattle.site_dates.specs.Shown.{Shown, local_time, half_hour, weekday, year_day}
 
 abbrev pub digit : ℕ → List ℕ
 digit n = (48 + n % 10) ∷ []
@@ -53,19 +39,6 @@ month_name month = slice_index_or (codes "January" ∷ codes "February" ∷ code
 abbrev pub weekday_name : ℕ → List ℕ
 weekday_name day = slice_index_or (codes "Monday" ∷ codes "Tuesday" ∷ codes "Wednesday" ∷ codes "Thursday" ∷ codes "Friday" ∷ codes "Saturday" ∷ codes "Sunday" ∷ []) day []
 
-abbrev pub hour : LocalTime → ℕ
-hour t = t.second / 3600
-
-abbrev pub minute : LocalTime → ℕ
-minute t = t.second / 60 % 60
-
-abbrev pub second : LocalTime → ℕ
-second t = t.second % 60
-
--- on a clock of twelve hours
-abbrev pub half_hour : LocalTime → ℕ
-half_hour t = (hour t + 11) % 12 + 1
-
 abbrev pub half_text : ℕ → List ℕ
 half_text hour = if nat_lt hour 12 then codes "AM" else codes "PM"
 
@@ -73,36 +46,36 @@ abbrev pub sign : ℤ → List ℕ
 sign (pos n) = codes "+"
 sign (negsuc n) = codes "-"
 
-abbrev pub full_date : Date → List ℕ
-full_date date = four_digits date.year ++ (45 ∷ (two_digits date.month ++ (45 ∷ two_digits date.day)))
+abbrev pub full_date : CivilDay → List ℕ
+full_date date = four_digits (unsigned_abs date.year) ++ (45 ∷ (two_digits date.month ++ (45 ∷ two_digits date.day)))
 
-abbrev pub full_time : LocalTime → List ℕ
-full_time t = two_digits (hour t) ++ (58 ∷ (two_digits (minute t) ++ (58 ∷ two_digits (second t))))
+abbrev pub full_time : Shown → List ℕ
+full_time t = two_digits t.hour ++ (58 ∷ (two_digits t.minute ++ (58 ∷ two_digits t.second)))
 
 abbrev pub offset_text : List ℕ → ℤ → List ℕ
 offset_text between offset = sign offset ++ (two_digits (unsigned_abs offset / 3600) ++ (between ++ two_digits (unsigned_abs offset / 60 % 60)))
 
 -- what stands for a directive
-abbrev pub directive_text : Directive → LocalTime → List ℕ
-directive_text Year t = four_digits t.date.year
-directive_text ShortYear t = two_digits t.date.year
+abbrev pub directive_text : Directive → Shown → List ℕ
+directive_text Year t = four_digits (unsigned_abs t.date.year)
+directive_text ShortYear t = two_digits (unsigned_abs t.date.year)
 directive_text Month t = two_digits t.date.month
 directive_text BareMonth t = bare_digits t.date.month
 directive_text Day t = two_digits t.date.day
 directive_text BareDay t = bare_digits t.date.day
 directive_text SpacedDay t = spaced_digits t.date.day
-directive_text Hour t = two_digits (hour t)
-directive_text BareHour t = bare_digits (hour t)
+directive_text Hour t = two_digits t.hour
+directive_text BareHour t = bare_digits t.hour
 directive_text HalfHour t = two_digits (half_hour t)
 directive_text BareHalfHour t = bare_digits (half_hour t)
-directive_text Minute t = two_digits (minute t)
-directive_text Second t = two_digits (second t)
-directive_text Half t = half_text (hour t)
+directive_text Minute t = two_digits t.minute
+directive_text Second t = two_digits t.second
+directive_text Half t = half_text t.hour
 directive_text MonthName t = month_name t.date.month
 directive_text ShortMonthName t = take 3 (month_name t.date.month)
-directive_text WeekdayName t = weekday_name (weekday t.day)
-directive_text ShortWeekdayName t = take 3 (weekday_name (weekday t.day))
-directive_text DayOfYear t = three_digits (day_of_year t.date)
+directive_text WeekdayName t = weekday_name (weekday t)
+directive_text ShortWeekdayName t = take 3 (weekday_name (weekday t))
+directive_text DayOfYear t = three_digits (year_day t)
 directive_text Offset t = offset_text [] t.offset
 directive_text ColonOffset t = offset_text (codes ":") t.offset
 directive_text Moment t = signed_decimal t.moment
@@ -146,11 +119,14 @@ bare_directive b =
 abbrev pub colon_directive : ℕ → Option Directive
 colon_directive b = if b == 122 then Some ColonOffset else None
 
-abbrev pub sized : ℕ → Option Directive → Option (Directive × ℕ)
-sized len directive = option_map (λ found. (found, len)) directive
+abbrev pub found : ℕ → Directive → Found
+found len directive = record { directive = directive; len = len }
 
--- the directive at the front of what stands behind a `%`, and its length
-abbrev pub directive_at : List ℕ → Option (Directive × ℕ)
+abbrev pub sized : ℕ → Option Directive → Option Found
+sized len directive = option_map (found len) directive
+
+-- the directive at the front of what stands behind a `%`
+abbrev pub directive_at : List ℕ → Option Found
 directive_at [] = None
 directive_at (b ∷ []) = sized 1 (letter_directive b)
 directive_at (b ∷ c ∷ rest) =
@@ -163,8 +139,8 @@ abbrev pub IsCut : List ℕ → ℕ → Type 0
 IsCut text at = (at ≤ length text) × (IsUtf8 text → IsCharBoundary text at)
 
 -- a part of a pattern, with the directive at its front written
-abbrev pub part_text : LocalTime → List ℕ → Option (List ℕ)
-part_text t part = option_map (λ found. directive_text found.0 t ++ drop found.1 part) (directive_at part)
+abbrev pub part_text : Shown → List ℕ → Option (List ℕ)
+part_text t part = option_map (λ at. directive_text at.directive t ++ drop at.len part) (directive_at part)
 
 -- one text behind another, where both are there
 abbrev pub both : Option (List ℕ) → Option (List ℕ) → Option (List ℕ)
@@ -174,7 +150,7 @@ both (Some before) (Some after) = Some (before ++ after)
 
 -- the parts of a pattern, each of which stands behind a `%`; `escaped` says that one more `%` stands before them, which
 -- makes one of the two, and after which nothing is a directive
-abbrev pub parts_text : LocalTime → Bool → List (List ℕ) → Option (List ℕ)
+abbrev pub parts_text : Shown → Bool → List (List ℕ) → Option (List ℕ)
 parts_text t true [] = None
 parts_text t false [] = Some []
 parts_text t true (part ∷ parts) = both (Some (37 ∷ part)) (parts_text t false parts)
@@ -185,7 +161,7 @@ abbrev pub is_percent : ℕ → Bool
 is_percent b = b == 37
 
 -- what stands before the first `%` is text
-abbrev pub pattern_text : LocalTime → List (List ℕ) → Option (List ℕ)
+abbrev pub pattern_text : Shown → List (List ℕ) → Option (List ℕ)
 pattern_text t [] = Some []
 pattern_text t (part ∷ parts) = both (Some part) (parts_text t false parts)
 

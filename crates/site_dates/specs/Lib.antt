@@ -1,5 +1,6 @@
-pub mod Calendar
+pub mod Days
 pub mod Format
 pub mod Moment
 pub mod Offset
 pub mod Shape
+pub mod Shown

@@ -1,11 +1,9 @@
 // The directives of a pattern.
-ghost use Rattle.std.specs.Prelude.{◌≡◌, ◌<◌, ◌++◌, OnOk, IsTrue, IsSome, IfSome};
+ghost use Rattle.std.specs.Prelude.{◌≡◌, ◌<◌, ◌++◌, OnOk, IsSome, IfSome};
 ghost use Rattle.std.specs.String.{string_bytes};
 ghost use Rattle.std.specs.Fmt.{signed_decimal};
-ghost use Rattle.site_dates.specs.Calendar.{is_date};
 ghost use Rattle.site_dates.specs.Format.{IsCut, full_date, full_time, half_text, sign, offset_text, directive_text, letter_directive, bare_directive, colon_directive, directive_at, sized};
 
-use crate::calendar::Date;
 use crate::digits::{
     push_bare_digits, push_four_digits, push_spaced_digits, push_three_digits, push_two_digits,
 };
@@ -43,10 +41,18 @@ pub(crate) enum Directive {
     FullTime,
 }
 
-/// The directive at the front of what stands behind a `%`, and its length.
-pub(crate) fn directive_at(part: &[u8]) -> Option<(Directive, usize)>
+/// A directive that stands at the front of a text.
+#[derive(Clone, Copy)]
+pub(crate) struct Found {
+    pub directive: Directive,
+    /// How many bytes write it.
+    pub len: usize,
+}
+
+/// The directive at the front of what stands behind a `%`.
+pub(crate) fn directive_at(part: &[u8]) -> Option<Found>
     ensures is { result ≡ directive_at part.now }
-    ensures cut { IfSome result (λ found. IsCut part.now found.1) }
+    ensures cut { IfSome result (λ found. IsCut part.now found.len) }
 {
     match part {
         [b'-', letter, ..] => sized(bare_directive(*letter), 2),
@@ -56,10 +62,10 @@ pub(crate) fn directive_at(part: &[u8]) -> Option<(Directive, usize)>
     }
 }
 
-fn sized(directive: Option<Directive>, len: usize) -> Option<(Directive, usize)>
+fn sized(directive: Option<Directive>, len: usize) -> Option<Found>
     ensures { result ≡ sized len directive }
 {
-    directive.map(|directive| (directive, len))
+    directive.map(|directive| Found { directive, len })
 }
 
 fn letter_directive(letter: u8) -> Option<Directive>
@@ -118,17 +124,16 @@ fn colon_directive(letter: u8) -> Option<Directive>
 impl Directive {
     /// Adds what stands for the directive at this time.
     pub(crate) fn push(self, text: &mut String, time: &LocalTime) -> Result<(), AllocError>
-        requires { IsTrue (is_date time.now.date) }
         ensures { OnOk result (string_bytes text.new ≡ string_bytes text.old ++ directive_text self time.now) }
     {
         match self {
-            Directive::Year => push_four_digits(text, time.date.year),
-            Directive::ShortYear => push_two_digits(text, time.date.year),
-            Directive::Month => push_two_digits(text, time.date.month),
-            Directive::BareMonth => push_bare_digits(text, time.date.month),
-            Directive::Day => push_two_digits(text, time.date.day),
-            Directive::BareDay => push_bare_digits(text, time.date.day),
-            Directive::SpacedDay => push_spaced_digits(text, time.date.day),
+            Directive::Year => push_four_digits(text, time.year()),
+            Directive::ShortYear => push_two_digits(text, time.year()),
+            Directive::Month => push_two_digits(text, time.month()),
+            Directive::BareMonth => push_bare_digits(text, time.month()),
+            Directive::Day => push_two_digits(text, time.day()),
+            Directive::BareDay => push_bare_digits(text, time.day()),
+            Directive::SpacedDay => push_spaced_digits(text, time.day()),
             Directive::Hour => push_two_digits(text, time.hour()),
             Directive::BareHour => push_bare_digits(text, time.hour()),
             Directive::HalfHour => push_two_digits(text, time.half_hour()),
@@ -136,15 +141,15 @@ impl Directive {
             Directive::Minute => push_two_digits(text, time.minute()),
             Directive::Second => push_two_digits(text, time.second()),
             Directive::Half => text.push_str(half_text(time.hour())),
-            Directive::MonthName => text.push_str(month_name(time.date.month).full),
-            Directive::ShortMonthName => text.push_str(month_name(time.date.month).short),
-            Directive::WeekdayName => text.push_str(weekday_name(time.day % 7).full),
-            Directive::ShortWeekdayName => text.push_str(weekday_name(time.day % 7).short),
-            Directive::DayOfYear => push_three_digits(text, time.date.day_of_year()),
-            Directive::Offset => push_offset(text, "", time.offset),
-            Directive::ColonOffset => push_offset(text, ":", time.offset),
-            Directive::Moment => push_seconds(text, time.moment),
-            Directive::FullDate => push_date(text, time.date),
+            Directive::MonthName => text.push_str(month_name(time.month()).full),
+            Directive::ShortMonthName => text.push_str(month_name(time.month()).short),
+            Directive::WeekdayName => text.push_str(weekday_name(time.weekday()).full),
+            Directive::ShortWeekdayName => text.push_str(weekday_name(time.weekday()).short),
+            Directive::DayOfYear => push_three_digits(text, time.year_day()),
+            Directive::Offset => push_offset(text, "", time.offset()),
+            Directive::ColonOffset => push_offset(text, ":", time.offset()),
+            Directive::Moment => push_seconds(text, time.moment()),
+            Directive::FullDate => push_date(text, time),
             Directive::FullTime => push_time(text, time),
         }
     }
@@ -178,14 +183,14 @@ fn push_seconds(text: &mut String, moment: i64) -> Result<(), AllocError>
     write!(text, "{moment}")
 }
 
-fn push_date(text: &mut String, date: Date) -> Result<(), AllocError>
-    ensures { OnOk result (string_bytes text.new ≡ string_bytes text.old ++ full_date date) }
+fn push_date(text: &mut String, time: &LocalTime) -> Result<(), AllocError>
+    ensures { OnOk result (string_bytes text.new ≡ string_bytes text.old ++ full_date time.now.date) }
 {
-    push_four_digits(text, date.year)?;
+    push_four_digits(text, time.year())?;
     text.push('-')?;
-    push_two_digits(text, date.month)?;
+    push_two_digits(text, time.month())?;
     text.push('-')?;
-    push_two_digits(text, date.day)
+    push_two_digits(text, time.day())
 }
 
 fn push_time(text: &mut String, time: &LocalTime) -> Result<(), AllocError>

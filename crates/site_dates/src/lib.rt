@@ -1,7 +1,7 @@
 //! Dates: texts of dates and offsets read, and moments written by a pattern.
 #![tactic(auto)]
 
-mod calendar;
+mod day;
 mod digits;
 mod directive;
 mod format;
@@ -12,5 +12,8 @@ mod offset;
 mod shape;
 
 pub use format::{FormatError, format_moment};
-pub use moment::read_moment;
+pub use moment::{FIRST_MOMENT, read_moment};
 pub use offset::read_offset;
+
+#[cfg(test)]
+mod tests;

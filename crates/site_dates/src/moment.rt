@@ -1,11 +1,16 @@
 // Texts of dates.
 ghost use Rattle.std.specs.Prelude.{◌≡◌, ◌≤◌, ◌<◌, ◌+◌, length, IfSome};
+ghost use Rattle.jiff_core.specs.Calendar.{IsEpochDay};
 ghost use Rattle.site_dates.specs.Offset.{IsOffset};
-ghost use Rattle.site_dates.specs.Moment.{IsMoment, written_date, time_of_day, with_seconds, written_clock, written_zone, moment_at, if_moment, moment_of, read_moment};
+ghost use Rattle.site_dates.specs.Moment.{IsMoment, time_of_day, with_seconds, written_clock, written_zone, moment_at, if_moment, moment_of, read_moment};
 
-use crate::calendar::Date;
+use crate::day::written_number;
 use crate::offset::{clock_time, offset_of};
 use crate::shape::{begins, two_digits_at};
+use site_base::LAST_MOMENT;
+
+/// The first moment that has a date in the years 1 to 9999 at every offset, in seconds from 1970 in UTC.
+pub const FIRST_MOMENT: i64 = -62_135_510_400;
 
 /// The time of day that a text begins with.
 #[derive(Clone, Copy)]
@@ -26,30 +31,15 @@ pub fn read_moment(text: &str, offset: i32) -> Option<i64>
     ensures range { IfSome result IsMoment }
 {
     let text = text.as_bytes();
-    if !begins(b"0000-00-00", text) {
-        return None;
-    }
-    let date = written_date(text);
-    if !date.is_valid() {
-        return None;
-    }
-    moment_of(date.number(), offset, &text[10..])
-}
-
-fn written_date(text: &[u8]) -> Date
-    requires { 10 ≤ length text.now }
-    ensures is { result ≡ written_date text.now }
-{
-    Date {
-        year: 100 * two_digits_at(text, 0) + two_digits_at(text, 2),
-        month: two_digits_at(text, 5),
-        day: two_digits_at(text, 8),
+    match written_number(text) {
+        Some(day) => moment_of(day, offset, &text[10..]),
+        None => None,
     }
 }
 
 // The moment of a day at the time and the offset that a text writes.
-fn moment_of(day: u32, given: i32, text: &[u8]) -> Option<i64>
-    requires day { day < 400_000_000 }
+fn moment_of(day: i32, given: i32, text: &[u8]) -> Option<i64>
+    requires day { IsEpochDay day }
     requires given { IsOffset given }
     ensures is { result ≡ moment_of day given (written_clock text.now) text.now }
     ensures range { IfSome result IsMoment }
@@ -116,90 +106,22 @@ fn written_zone(given: i32, text: &[u8]) -> Option<i32>
     }
 }
 
-const YEAR_ONE: i64 = 62_135_596_800;
-
-fn moment_at(day: u32, second: u32, offset: i32) -> i64
-    requires day { day < 400_000_000 }
+fn moment_at(day: i32, second: u32, offset: i32) -> i64
+    requires day { IsEpochDay day }
     requires second { second < 86_400 }
     requires offset { IsOffset offset }
     ensures { result ≡ moment_at day second offset }
 {
-    i64::from(day) * 86_400 + i64::from(second) - YEAR_ONE - i64::from(offset)
+    i64::from(day) * 86_400 + i64::from(second) - i64::from(offset)
 }
 
 fn if_moment(moment: i64) -> Option<i64>
     ensures is { result ≡ if_moment moment }
     ensures range { IfSome result IsMoment }
 {
-    if (-62_135_510_400..=253_402_214_399).contains(&moment) {
+    if (FIRST_MOMENT..=LAST_MOMENT).contains(&moment) {
         Some(moment)
     } else {
         None
-    }
-}
-
-#[cfg(test)]
-mod tests {
-    use super::*;
-
-    #[test]
-    fn reads_dates(rt: HostRuntime) {
-        let rows = [
-            ("1970-01-01", Some(0)),
-            ("2024-01-01", Some(1_704_067_200)),
-            ("2024-01-01 00:00 +0200", Some(1_704_060_000)),
-            ("2024-01-01+02:00", Some(1_704_060_000)),
-            ("2024-02-29T12:30:45Z", Some(1_709_209_845)),
-            ("2023-12-31 23:59:59 -01:00", Some(1_704_070_799)),
-            ("1969-12-31 23:59:59 UTC", Some(-1)),
-            ("2024-12-31T06:05:04+0530", Some(1_735_605_304)),
-            ("2000-02-29", Some(951_782_400)),
-            ("1900-03-01 Etc/UTC", Some(-2_203_891_200)),
-            ("0001-01-02", Some(-62_135_510_400)),
-            ("0001-01-01 00:01 -23:59", Some(-62_135_510_400)),
-            ("9999-12-30 23:59:59", Some(253_402_214_399)),
-            ("9999-12-31 23:58:59 +23:59", Some(253_402_214_399)),
-        ];
-        for (text, moment) in rows {
-            assert_eq!(rt; read_moment(text, 0), moment, "at {text:?}");
-        }
-        assert_eq!(rt; read_moment("2024-01-01", 7200), Some(1_704_060_000));
-        assert_eq!(rt; read_moment("2024-01-01 Z", 7200), Some(1_704_067_200));
-    }
-
-    #[test]
-    fn refuses_what_is_no_date(rt: HostRuntime) {
-        let rows = [
-            "",
-            "2024",
-            "2024-1-1",
-            "24-01-01",
-            "2024/01/01",
-            "2024-13-01",
-            "2024-00-10",
-            "2024-01-00",
-            "2024-04-31",
-            "2023-02-29",
-            "1900-02-29",
-            "2100-02-29",
-            "0000-12-31 23:59:59 -23:59",
-            "0001-01-01",
-            "9999-12-31",
-            "2024-01-01 24:00",
-            "2024-01-01 12:60",
-            "2024-01-01 12:00:60",
-            "2024-01-01 12",
-            "2024-01-01 ",
-            "2024-01-01T",
-            "2024-01-01TZ",
-            "2024-01-01  UTC",
-            "2024-01-01 12:00  UTC",
-            "2024-01-01 12:00 x",
-            "2024-01-01 12:00:00 +2400",
-            " 2024-01-01",
-        ];
-        for text in rows {
-            assert_eq!(rt; read_moment(text, 0), None, "at {text:?}");
-        }
     }
 }

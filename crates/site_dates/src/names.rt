@@ -1,6 +1,10 @@
 // The English names of months and days of the week.
-ghost use Rattle.std.specs.Prelude.{◌≡◌, ◌≤◌, ◌<◌, take};
+ghost use Rattle.std.specs.Prelude.{◌≡◌, take};
+ghost use Rattle.std.specs.Int.{IsInRange};
+ghost use Rattle.jiff_core.specs.Weekday.{monday_zero};
 ghost use Rattle.site_dates.specs.Format.{month_name, weekday_name};
+
+use jiff_core::civil::Weekday;
 
 /// A name, and its short form.
 #[derive(Clone, Copy)]
@@ -19,8 +23,7 @@ impl Name {
 }
 
 pub(crate) fn month_name(month: u32) -> Name
-    requires first { 1 ≤ month }
-    requires last { month ≤ 12 }
+    requires { IsInRange 1 12 month }
     ensures full { result.full.now ≡ month_name month }
     ensures short { result.short.now ≡ take 3 (month_name month) }
 {
@@ -40,19 +43,17 @@ pub(crate) fn month_name(month: u32) -> Name
     }
 }
 
-/// The name of a day of the week, from 0 for Monday.
-pub(crate) fn weekday_name(day: u32) -> Name
-    requires { day < 7 }
-    ensures full { result.full.now ≡ weekday_name day }
-    ensures short { result.short.now ≡ take 3 (weekday_name day) }
+pub(crate) fn weekday_name(day: Weekday) -> Name
+    ensures full { result.full.now ≡ weekday_name (monday_zero day) }
+    ensures short { result.short.now ≡ take 3 (weekday_name (monday_zero day)) }
 {
     match day {
-        0 => Name::of("Monday", "Mon"),
-        1 => Name::of("Tuesday", "Tue"),
-        2 => Name::of("Wednesday", "Wed"),
-        3 => Name::of("Thursday", "Thu"),
-        4 => Name::of("Friday", "Fri"),
-        5 => Name::of("Saturday", "Sat"),
-        _ => Name::of("Sunday", "Sun"),
+        Weekday::Monday => Name::of("Monday", "Mon"),
+        Weekday::Tuesday => Name::of("Tuesday", "Tue"),
+        Weekday::Wednesday => Name::of("Wednesday", "Wed"),
+        Weekday::Thursday => Name::of("Thursday", "Thu"),
+        Weekday::Friday => Name::of("Friday", "Fri"),
+        Weekday::Saturday => Name::of("Saturday", "Sat"),
+        Weekday::Sunday => Name::of("Sunday", "Sun"),
     }
 }

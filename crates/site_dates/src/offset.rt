@@ -72,35 +72,3 @@ pub(crate) fn clock_time(hour: u32, minute: u32) -> Option<u32>
         None
     }
 }
-
-#[cfg(test)]
-mod tests {
-    use super::*;
-
-    #[test]
-    fn reads_offsets(rt: HostRuntime) {
-        let rows = [
-            ("UTC", Some(0)),
-            ("Etc/UTC", Some(0)),
-            ("Z", Some(0)),
-            ("-00:00", Some(0)),
-            ("+02:00", Some(7200)),
-            ("-0530", Some(-19_800)),
-            ("+23:59", Some(86_340)),
-            ("-2359", Some(-86_340)),
-            ("", None),
-            ("+", None),
-            ("utc", None),
-            ("+24:00", None),
-            ("+00:60", None),
-            ("+1:00", None),
-            ("0100", None),
-            ("+01:00:00", None),
-            (" +01:00", None),
-            ("Europe/Oslo", None),
-        ];
-        for (text, offset) in rows {
-            assert_eq!(rt; read_offset(text), offset, "at {text:?}");
-        }
-    }
-}

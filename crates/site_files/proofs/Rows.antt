@@ -1,8 +1,8 @@
 -- Worked rows: names and places.
 use Rattle.std.proofs.Common.{◌≡◌, [], codes, refl, true, false}
 use Rattle.std.specs.Prelude.{Some, None, pos}
+use Rattle.jiff_core.specs.Calendar.{day_count, days_from_civil, days_of_months, days_of_years}
 use Rattle.site_base.specs.Plain.{nil, hash, list, text, item, no_items, pair, no_pairs}
-use Rattle.site_dates.specs.Calendar.{days_before_month}
 use Rattle.site_config.specs.Config.{config}
 use Rattle.site_config.specs.declared.config.Config.{Config}
 use Rattle.site_files.specs.Names.{extension, file_name, folder, stem}
@@ -39,19 +39,19 @@ name_without_extension : stem (codes "c.tar.gz") ≡ codes "c.tar"
 name_without_extension = refl
 
 date_of_a_name : dated_name (pos 0) (codes "1970-01-02-a-b") ≡ Some (pos 86400, codes "a-b")
-unfolding days_before_month
+unfolding days_from_civil day_count days_of_years days_of_months
 date_of_a_name = refl
 
 no_such_day : dated_name (pos 0) (codes "2023-02-29-a") ≡ None
-unfolding days_before_month
+unfolding days_from_civil day_count days_of_years days_of_months
 no_such_day = refl
 
 post_without_title : is_post_name (pos 0) (codes "2020-01-01-.md") ≡ false
-unfolding days_before_month
+unfolding days_from_civil day_count days_of_years days_of_months
 post_without_title = refl
 
 post_without_extension : is_post_name (pos 0) (codes "2020-01-01-a") ≡ false
-unfolding days_before_month
+unfolding days_from_civil day_count days_of_years days_of_months
 post_without_extension = refl
 
 the_configuration : place_of bare false (codes "_config.yml") ≡ Configuration
@@ -74,7 +74,7 @@ unfolding lies_in lies_in_posts post_place common_place is_folder_of
 a_data_file = refl
 
 a_post : place_of bare false (codes "news/_posts/2020-01-01-a.md") ≡ Post
-unfolding lies_in lies_in_posts post_place common_place is_folder_of days_before_month
+unfolding lies_in lies_in_posts post_place common_place is_folder_of days_from_civil day_count days_of_years days_of_months
 a_post = refl
 
 a_post_without_date : place_of bare false (codes "_posts/a.md") ≡ Nowhere

@@ -9,7 +9,8 @@ use Rattle.site_base.specs.Plain.{Plain, nil, text}
 use Rattle.site_base.specs.declared.faults.FaultKind.TheVariants as fault
 use Rattle.permalinks.specs.Dest.{dest}
 use Rattle.permalinks.specs.Slug.{slug}
-use Rattle.permalinks.specs.declared.parts.UrlParts.{UrlParts}
+use Rattle.permalinks.specs.declared.placeholder.Placeholder.{Placeholder}
+use Rattle.permalinks.specs.declared.placeholder.Placeholder.TheVariants as of
 use Rattle.site_config.specs.declared.collection.Collection.{Collection}
 use Rattle.site_config.specs.declared.config.Config.{Config}
 use Rattle.site_dates.specs.Format.{format_moment}
@@ -144,27 +145,25 @@ abbrev pub of_post : Kind → List ℕ → Option (List ℕ)
 of_post k s = if is_post k then Some s else None
 
 -- what the placeholders stand for, where the site's clocks show this offset
-abbrev pub parts : Config → Kind → List ℕ → List ℕ → Option ℤ → List ℕ → List (List ℕ) → UrlParts
-parts config k path ext moment slug_text categories = let date = date_part config.timezone moment in let name = stem (file_name path) in record {
-  year = date (codes "%Y");
-  month = date (codes "%m");
-  day = date (codes "%d");
-  i_month = date (codes "%-m");
-  i_day = date (codes "%-d");
-  short_year = date (codes "%y");
-  y_day = date (codes "%j");
-  hour = date (codes "%H");
-  minute = date (codes "%M");
-  second = date (codes "%S");
-  title = of_document k slug_text;
-  slug = of_document k (slug slug_text);
-  categories = of_post k (slashed categories);
-  name = Some (slug name);
-  basename = Some name;
-  path = Some (path_part config k path);
-  collection = of_document k (name_of (collection_of config k));
-  output_ext = Some ext;
-}
+abbrev pub stands_for : Config → Kind → List ℕ → List ℕ → Option ℤ → List ℕ → List (List ℕ) → Placeholder → Option (List ℕ)
+stands_for config k path ext moment slug_text categories of.Year = date_part config.timezone moment (codes "%Y")
+stands_for config k path ext moment slug_text categories of.Month = date_part config.timezone moment (codes "%m")
+stands_for config k path ext moment slug_text categories of.Day = date_part config.timezone moment (codes "%d")
+stands_for config k path ext moment slug_text categories of.IMonth = date_part config.timezone moment (codes "%-m")
+stands_for config k path ext moment slug_text categories of.IDay = date_part config.timezone moment (codes "%-d")
+stands_for config k path ext moment slug_text categories of.ShortYear = date_part config.timezone moment (codes "%y")
+stands_for config k path ext moment slug_text categories of.YDay = date_part config.timezone moment (codes "%j")
+stands_for config k path ext moment slug_text categories of.Hour = date_part config.timezone moment (codes "%H")
+stands_for config k path ext moment slug_text categories of.Minute = date_part config.timezone moment (codes "%M")
+stands_for config k path ext moment slug_text categories of.Second = date_part config.timezone moment (codes "%S")
+stands_for config k path ext moment slug_text categories of.Title = of_document k slug_text
+stands_for config k path ext moment slug_text categories of.Slug = of_document k (slug slug_text)
+stands_for config k path ext moment slug_text categories of.Categories = of_post k (slashed categories)
+stands_for config k path ext moment slug_text categories of.Name = Some (slug (stem (file_name path)))
+stands_for config k path ext moment slug_text categories of.Basename = Some (stem (file_name path))
+stands_for config k path ext moment slug_text categories of.Path = Some (path_part config k path)
+stands_for config k path ext moment slug_text categories of.Collection = of_document k (name_of (collection_of config k))
+stands_for config k path ext moment slug_text categories of.OutputExt = Some ext
 
 -- ---- the address
 

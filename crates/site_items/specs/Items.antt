@@ -8,11 +8,11 @@ use Rattle.site_base.specs.Path.{segments}
 use Rattle.site_base.specs.Plain.{Plain, nil, bool, text, list, Pairs, no_pairs, set, key_list}
 use Rattle.site_base.specs.Values.{value_text}
 use Rattle.site_base.specs.declared.faults.FaultKind.TheVariants as fault
-use Rattle.permalinks.specs.Url.{url}
+use Rattle.permalinks.specs.Url.{url_by}
 use Rattle.site_config.specs.declared.config.Config.{Config}
 use Rattle.site_config.specs.declared.scope.Scope.{Scope}
 use Rattle.site_files.specs.Names.{extension, file_name, is_slash, stem}
-use Rattle.site_items.specs.Addresses.{above_posts, collection_of, dest_of, found_url, is_page, is_post, name_of, parts, template}
+use Rattle.site_items.specs.Addresses.{above_posts, collection_of, dest_of, found_url, is_page, is_post, name_of, stands_for, template}
 use Rattle.site_items.specs.Dates.{date_value, given_date, name_date, name_title}
 use Rattle.site_items.specs.Defaults.{variable, variables}
 use Rattle.site_items.specs.Extensions.{output_ext}
@@ -152,7 +152,7 @@ item_at config k path moment vars text_body ext address = dest_of config k addre
 abbrev pub built_with : Config → Kind → List ℕ → Option ℤ → List ℕ → List ℕ → Pairs → Outcome (Option Item)
 built_with config k path moment text_body ext vars =
     template config ext (stem (file_name path)) k (variable (codes "permalink") vars)
-    >>= λ t. found_url (url t (parts config k path ext moment (slug_of vars) (key_list (categories k path vars))))
+    >>= λ t. found_url (url_by t (stands_for config k path ext moment (slug_of vars) (key_list (categories k path vars))))
     >>= item_at config k path moment vars text_body ext
 
 abbrev pub built_item : Config → Kind → List ℕ → Option ℤ → Pairs → List ℕ → Outcome (Option Item)

@@ -7,6 +7,5 @@ pub mod Items
 pub mod Labels
 pub mod Matter
 pub mod Outcomes
-pub mod Parts
 pub mod Seeking
 pub mod Titles

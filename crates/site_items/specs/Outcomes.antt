@@ -1,5 +1,5 @@
 -- What is found in a file: a value, or a fault with its line.
-use Rattle.std.specs.Prelude.{◌≡◌, ℕ, Result, Ok, Err}
+use Rattle.std.specs.Prelude.{◌≡◌, ℕ, Result, Err}
 use Rattle.site_base.specs.declared.faults.FaultKind.{FaultKind}
 use Rattle.site_items.specs.declared.item_error.ItemError.{ItemError}
 use Rattle.site_items.specs.declared.item_error.ItemError.TheVariants as item_error

@@ -1,14 +1,14 @@
 -- An item whose address is sought: the parts of its reading, by what is known of it.
 use Rattle.std.specs.Prelude.{ℕ, ℤ, List, Option, codes, map}
 use Rattle.site_base.specs.Chains.{◌>>=◌}
-use Rattle.permalinks.specs.Url.{url}
+use Rattle.permalinks.specs.Placeholders.{Values}
+use Rattle.permalinks.specs.Url.{url_by}
 use Rattle.site_base.specs.Plain.{Pairs, key_list}
 use Rattle.site_files.specs.Names.{file_name, stem}
-use Rattle.site_items.specs.Addresses.{found_url, template}
+use Rattle.site_items.specs.Addresses.{found_url, stands_for, template}
 use Rattle.site_items.specs.Defaults.{variable}
 use Rattle.site_items.specs.Items.{categories, dated_item, item, item_at, item_with, kind_variables, placed, slug_of, text_item}
 use Rattle.site_items.specs.Outcomes.{Outcome}
-use Rattle.site_items.specs.Parts.{sought_parts}
 use Rattle.site_items.specs.declared.addresses.Sought.{Sought}
 use Rattle.site_items.specs.declared.item.Item.{Item}
 use Rattle.site_items.specs.declared.item.Rules.{Rules}
@@ -17,8 +17,12 @@ use Rattle.site_items.specs.declared.kind.Kind.{Kind}
 abbrev pub template_of : Sought → Pairs → Outcome (List ℕ)
 template_of item vars = template item.config.now item.ext.now (stem (file_name item.path.now)) item.kind (variable (codes "permalink") vars)
 
+-- what the placeholders stand for
+abbrev pub placeholders : Sought → List ℕ → List (List ℕ) → Values
+placeholders item slug_text categories = stands_for item.config.now item.kind item.path.now item.ext.now item.moment slug_text categories
+
 abbrev pub address_of : Sought → List ℕ → Pairs → Outcome (List ℕ)
-address_of item t vars = found_url (url t (sought_parts item (slug_of vars) (key_list (categories item.kind item.path.now vars))))
+address_of item t vars = found_url (url_by t (placeholders item (slug_of vars) (key_list (categories item.kind item.path.now vars))))
 
 abbrev pub all_variables : Sought → List ℕ → Pairs → Pairs
 all_variables item address vars = kind_variables item.config.now item.kind item.path.now address item.moment (placed item.path.now address vars)

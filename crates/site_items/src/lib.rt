@@ -18,6 +18,7 @@ mod lookup;
 mod matter;
 mod names;
 mod placed_variables;
+mod placeholders;
 mod static_file;
 mod templates;
 mod titles;

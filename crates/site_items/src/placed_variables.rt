@@ -18,7 +18,12 @@ use std::alloc::Global;
 const NEIGHBOURS: usize = 2;
 
 /// Sets the variables that stand over the item's own.
-pub(crate) fn set_variables(alloc: Global, sought: &Sought, url: &Text, mut vars: Hash) -> Result<Hash, Memory>
+pub(crate) fn set_variables(
+    alloc: Global,
+    sought: &Sought,
+    url: &Text,
+    mut vars: Hash,
+) -> Result<Hash, Memory>
     requires offset { IsOffset sought.now.config.now.timezone }
     requires moment { IfSome sought.now.moment IsMoment }
     ensures { IfOk result (λ made. made ≡ all_variables sought.now url.now vars) }

@@ -113,7 +113,16 @@ pub(crate) fn scan_and_build<S: SourceTree, O: OutTree, K: ByteSink>(
     ensures sink_fault { result ≡ Status.SinkFault → Rose (K.failures sink.old) (K.failures sink.new) }
 {
     let mut session = Session::open(alloc, options.settings, moment);
-    let scanned = match do_line(alloc, options.why, &mut session, 1, Line::Scan, source, out, sink) {
+    let scanned = match do_line(
+        alloc,
+        options.why,
+        &mut session,
+        1,
+        Line::Scan,
+        source,
+        out,
+        sink,
+    ) {
         Ok(scanned) => scanned,
         Err(stop) => return stop.status(),
     };
@@ -121,7 +130,16 @@ pub(crate) fn scan_and_build<S: SourceTree, O: OutTree, K: ByteSink>(
         Reply::Scanned(_) => {}
         other => return status_of(other),
     }
-    match do_line(alloc, options.why, &mut session, 2, Line::Build, source, out, sink) {
+    match do_line(
+        alloc,
+        options.why,
+        &mut session,
+        2,
+        Line::Build,
+        source,
+        out,
+        sink,
+    ) {
         Ok(built) => status_of(built),
         Err(stop) => stop.status(),
     }

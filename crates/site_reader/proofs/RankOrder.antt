@@ -9,6 +9,8 @@ use Rattle.site_reader.specs.Ranks.{place_cmp, rank_cmp}
 use Rattle.site_reader.specs.declared.rank.GroupPlace.{GroupPlace}
 use Rattle.site_reader.specs.declared.rank.GroupPlace.TheVariants as place
 use Rattle.site_reader.specs.declared.rank.Rank.{Rank}
+use Rattle.site_reader.specs.contracts.rank.GroupPlaceOrd.TheImpl as places
+use Rattle.site_reader.specs.contracts.rank.RankOrd.TheImpl as ranks
 
 first : (a b : Ordering) → ordering_then a b ≡ Equal → a ≡ Equal
 first Less b e = e
@@ -45,6 +47,7 @@ then_equal Equal = refl
 then_equal Greater = refl
 
 by_keys : (a b : GroupPlace) → ordering_then (nat_cmp (kind_of a) (kind_of b)) (behind_kind a b) ≡ place_cmp a b
+unfolding kind_of behind_kind moment_of name_of
 by_keys (place.Dated a) (place.Dated b) = then_equal (int_cmp a b)
 by_keys (place.Dated a) place.Undated = refl
 by_keys (place.Dated a) (place.Page n) = refl
@@ -56,6 +59,7 @@ by_keys (place.Page m) place.Undated = refl
 by_keys (place.Page m) (place.Page n) = refl
 
 place_total : IsTotalOrder place_cmp
+unfolding behind_kind
 place_total =
     subst IsTotalOrder (λ i a b. by_keys a b i)
     (then_total (on_total kind_of nat_cmp_total) (then_total (on_total moment_of int_cmp_total) (on_total name_of nat_list_cmp_total)))
@@ -81,3 +85,18 @@ rank_same a b e =
     let place = place_same a.place b.place (first _ _ behind_group) in
     let path = slice_cmp-IsAntisymmetric nat_cmp-IsAntisymmetric a.path b.path (later (place_cmp a.place b.place) _ behind_group) in
     λ i. record { group = group i; place = place i; path = path i }
+
+-- the order that the code derives is this one
+place_derived : (a b : GroupPlace) → places.cmp-value.it a b ≡ place_cmp a b
+place_derived (place.Dated a) (place.Dated b) = refl
+place_derived (place.Dated a) place.Undated = refl
+place_derived (place.Dated a) (place.Page n) = refl
+place_derived place.Undated (place.Dated b) = refl
+place_derived place.Undated place.Undated = refl
+place_derived place.Undated (place.Page n) = refl
+place_derived (place.Page m) (place.Dated b) = refl
+place_derived (place.Page m) place.Undated = refl
+place_derived (place.Page m) (place.Page n) = refl
+
+pub rank_derived : ◌≡◌ {A = Rank → Rank → Ordering} ranks.cmp-value.it rank_cmp
+rank_derived = λ i a b. ordering_then (nat_cmp a.group b.group) (ordering_then (place_derived a.place b.place i) (slice_cmp nat_cmp a.path b.path))

@@ -2,9 +2,10 @@
 use Rattle.std.proofs.Common.{◌≡◌, true, leb-true}
 use Rattle.std.specs.Prelude.{ℤ, pos, negsuc}
 use lib.Dec.{le→leb}
+use Rattle.site_base.specs.Limits.{last_moment}
 use Rattle.site_dates.specs.Moment.{IsMoment}
 use Rattle.site_script.specs.Line.{is_moment}
 
 pub moment : (m : ℤ) → is_moment m ≡ true → IsMoment m
-moment (pos n) e = (record { le = tt }, record { le = le→leb n 253402214399 (leb-true n 253402214399 e) })
+moment (pos n) e = (record { le = tt }, record { le = le→leb n last_moment (leb-true n last_moment e) })
 moment (negsuc n) e = absurd (cc (e))

@@ -11,8 +11,8 @@ use Rattle.site_reader.specs.Sites.{site}
 use Rattle.site_reader.specs.declared.site.Site.{Site}
 use Rattle.site_reader.specs.declared.site_item.SiteItem.{SiteItem}
 use Rattle.page_render.specs.Thin.{outcome}
-use Rattle.page_render.specs.declared.outcome.Outcome.{Outcome}
-use Rattle.page_render.specs.declared.outcome.Outcome.TheVariants.{Done, Fault}
+use Rattle.read_record.specs.declared.outcome.Outcome.{Outcome}
+use Rattle.read_record.specs.declared.outcome.Outcome.TheVariants.{Done, Fault}
 use Rattle.site_session.specs.declared.group.Group.{Group}
 use Rattle.site_session.specs.declared.group.Group.TheVariants.{Pages, Documents}
 use Rattle.site_session.specs.declared.output.Output.{Output}

@@ -4,7 +4,8 @@ ghost use Rattle.site_reader.specs.Found.{IsFirst};
 ghost use Rattle.site_session.specs.Full.{fault_of, made, made_by, rendered, seen};
 ghost use Rattle.source_tree.specs.Limits.{most_files};
 
-use page_render::{Outcome, render_thin};
+use page_render::render_thin;
+use read_record::Outcome;
 use site_base::{Memory, SharedBytes, SiteFault};
 use site_reader::{Site, SiteError, SiteItem};
 use std::alloc::Global;

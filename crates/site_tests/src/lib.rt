@@ -4,7 +4,7 @@
 mod scenario;
 mod scenario_error;
 
-pub use scenario::{Ends, Outcome, Scenario};
+pub use scenario::{Ends, RunEnd, Scenario};
 pub use scenario_error::ScenarioError;
 
 #[cfg(test)]

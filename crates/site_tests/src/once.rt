@@ -1,5 +1,5 @@
 // Worked runs of `once`.
-use crate::scenario::{Outcome, Scenario};
+use crate::scenario::{RunEnd, Scenario};
 use crate::seen::{NEW_YEAR, PLAIN, Row, check, replies_are};
 use site_program::Status;
 use site_words::UsageKind;
@@ -177,7 +177,7 @@ const WRONG_WORDS: &[(&[&str], i64, UsageKind, &str)] = &[
 
 const SITE: &[(&str, &str)] = &[("a.txt", "x")];
 
-fn is_usage(outcome: &Outcome, kind: UsageKind) -> bool {
+fn is_usage(outcome: &RunEnd, kind: UsageKind) -> bool {
     match &outcome.status {
         Status::Usage(other) => *other == kind && outcome.status.number() == 2,
         _ => false,

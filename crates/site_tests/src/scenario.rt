@@ -72,7 +72,7 @@ impl<'a> Scenario<'a> {
     }
 
     /// A run of `once` or `check` at a moment, in seconds from the beginning of 1970.
-    pub fn run(&self, alloc: Global, moment: i64) -> Result<Outcome, ScenarioError>
+    pub fn run(&self, alloc: Global, moment: i64) -> Result<RunEnd, ScenarioError>
         // Of `once`: how it ends, what the output then has, and what the sink took.
         ensures once { (settings : Settings) → once_order (word_list self.now.words.now) moment ≡ Ok (order.Once settings) → IfOk result (λ outcome.
             Ended (after_scan (given_of self.now) (start settings moment)) (Some (files_of self.now.outputs.now)) (Some outcome.ends.out.files) outcome.status) }
@@ -100,7 +100,7 @@ impl<'a> Scenario<'a> {
             &mut ends.out,
             &mut ends.sink,
         );
-        Ok(Outcome { status, ends })
+        Ok(RunEnd { status, ends })
     }
 
     /// A run of `build` or `session` at a moment, in seconds from the beginning of 1970.
@@ -109,7 +109,7 @@ impl<'a> Scenario<'a> {
         rt: &impl Wait,
         alloc: Global,
         moment: i64,
-    ) -> Result<Outcome, ScenarioError>
+    ) -> Result<RunEnd, ScenarioError>
         // Of `build`: how it ends, what the output then has, what the sink took, and that the input is left alone.
         ensures build { (options : Options) → jobs_order (word_list self.now.words.now) moment ≡ Ok (order.Build options) → IfOk result (λ outcome.
             Ended (after_scan (given_of self.now) (start options.settings moment)) (Some (files_of self.now.outputs.now)) (Some outcome.ends.out.files) outcome.status) }
@@ -135,7 +135,7 @@ impl<'a> Scenario<'a> {
             &mut ends.input,
             &mut ends.sink,
         );
-        Ok(Outcome { status, ends })
+        Ok(RunEnd { status, ends })
     }
 
     /// The ends before a run: each holds what the scenario gives it and fails at the calls that are its own.
@@ -194,7 +194,7 @@ impl Ends {
 
 /// What came of a run: how it ended, and how it left its ends.
 #[derive(Drop)]
-pub struct Outcome {
+pub struct RunEnd {
     pub status: Status,
     pub ends: Ends,
 }

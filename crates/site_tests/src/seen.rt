@@ -1,5 +1,5 @@
 // What is seen of a run.
-use crate::scenario::{Outcome, Scenario};
+use crate::scenario::{RunEnd, Scenario};
 use crate::scenario_error::ScenarioError;
 use std::alloc::Global;
 use std::process::Abort;
@@ -40,7 +40,7 @@ fn is_for_jobs(words: &[&str]) -> bool {
 }
 
 // Runs what is given with the top call that knows its command.
-fn run(rt: &impl Wait, alloc: Global, given: &Scenario<'_>) -> Result<Outcome, ScenarioError> {
+fn run(rt: &impl Wait, alloc: Global, given: &Scenario<'_>) -> Result<RunEnd, ScenarioError> {
     if is_for_jobs(given.words) {
         given.run_jobs(rt, alloc, NEW_YEAR)
     } else {
@@ -49,7 +49,7 @@ fn run(rt: &impl Wait, alloc: Global, given: &Scenario<'_>) -> Result<Outcome, S
 }
 
 // Whether the output has exactly these files.
-pub(crate) fn has_outputs(alloc: Global, outcome: &Outcome, outputs: &[(&str, &str)]) -> bool {
+pub(crate) fn has_outputs(alloc: Global, outcome: &RunEnd, outputs: &[(&str, &str)]) -> bool {
     match outcome.ends.have(alloc, outputs) {
         Ok(have) => have,
         Err(_) => false,
@@ -57,11 +57,11 @@ pub(crate) fn has_outputs(alloc: Global, outcome: &Outcome, outputs: &[(&str, &s
 }
 
 // Whether the replies are these.
-pub(crate) fn replies_are(outcome: &Outcome, replies: &str) -> bool {
+pub(crate) fn replies_are(outcome: &RunEnd, replies: &str) -> bool {
     outcome.ends.sink.bytes() == replies.as_bytes()
 }
 
-fn is_seen(alloc: Global, outcome: &Outcome, row: &Row) -> bool {
+fn is_seen(alloc: Global, outcome: &RunEnd, row: &Row) -> bool {
     outcome.status.number() == row.status
         && replies_are(outcome, row.replies)
         && has_outputs(alloc, outcome, row.outputs)

@@ -1,5 +1,5 @@
 // Worked runs of `session` and `build`.
-use crate::scenario::{Outcome, Scenario};
+use crate::scenario::{RunEnd, Scenario};
 use crate::seen::{NEW_YEAR, PLAIN, Row, check, replies_are};
 use std::alloc::Global;
 use std::sync::Wait;
@@ -340,7 +340,7 @@ fn edits_go_on_from_the_build_before(rt: HostRuntime) {
     check(&rt, rt.alloc(), EDITS);
 }
 
-fn ends_with(outcome: &Outcome, status: u8, replies: &str) -> bool {
+fn ends_with(outcome: &RunEnd, status: u8, replies: &str) -> bool {
     outcome.status.number() == status && replies_are(outcome, replies)
 }
 
@@ -367,7 +367,7 @@ const TWO_BUILDS: &str =
     "put index.html 44\n---\ntitle: Hi\n---\n<h1>{{ page.title }}</h1>\nbuild\nbuild\nend\nbuild\n";
 
 // Whether there were one list and one write, and what follows `end` stays unread.
-fn is_called_once(outcome: &Outcome) -> bool {
+fn is_called_once(outcome: &RunEnd) -> bool {
     outcome.ends.out.calls() == 2 && outcome.ends.input.len() == 6
 }
 

@@ -2,7 +2,7 @@
 use Rattle.std.proofs.Common.{Bool, None, Some, [], codes, not, refl, true, ℕ, ◌&&◌, ◌||◌, ◌∷◌, ◌≡◌}
 use Rattle.std.specs.List.{list_all, range_with_len}
 use Rattle.markdown_grammar.specs.Blocks.{blocks_of}
-use Rattle.markdown_grammar.specs.Bytes.{is_punct}
+use Rattle.site_text.specs.Bytes.{is_punct}
 use Rattle.markdown_grammar.specs.Columns.{own_line}
 use Rattle.markdown_grammar.specs.Containers.{block_quote, list_item}
 use Rattle.markdown_grammar.specs.Definitions.{front_definition}

@@ -1,5 +1,5 @@
 use Rattle.std.proofs.Common.{◌≡◌, drop}
-use Rattle.markdown_grammar.specs.Fronts.{has_one}
+use Rattle.site_text.specs.Fronts.{has_one}
 use Rattle.cm_blocks.specs.LineCuts.{is_nul}
 use Rattle.cm_blocks.proofs.lines.has_nul.Given as goal
 

@@ -1,5 +1,5 @@
 use Rattle.std.proofs.Common.{◌≡◌, ◌+◌, ◌-◌, ◌≤◌, drop, length}
-use Rattle.markdown_grammar.specs.Fronts.{run_len}
+use Rattle.site_text.specs.Fronts.{run_len}
 use Rattle.cm_blocks.specs.LineCuts.{is_plain}
 use Rattle.cm_blocks.proofs.lines.plain_len.Given as goal
 

@@ -1,7 +1,7 @@
 use Rattle.std.proofs.Common.{◌≡◌, not, IsUtf8, chars}
 use Rattle.std.specs.Str.Iter.{chars_rest}
-use Rattle.markdown_grammar.specs.Bytes.{is_white}
-use Rattle.markdown_grammar.specs.Fronts.{has_one}
+use Rattle.site_text.specs.Bytes.{is_white}
+use Rattle.site_text.specs.Fronts.{has_one}
 use Rattle.cm_links.proofs.label.has_other.Given as goal
 
 abbrev pub invariant-loop-c : goal.invariant-loop-c

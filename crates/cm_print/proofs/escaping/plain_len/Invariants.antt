@@ -1,5 +1,5 @@
 use Rattle.std.proofs.Common.{length, ◌-◌, ◌≡◌, ◌+◌, ◌≤◌, drop}
-use Rattle.markdown_grammar.specs.Fronts.{run_len}
+use Rattle.site_text.specs.Fronts.{run_len}
 use Rattle.cm_print.specs.Escapes.{is_plain}
 use Rattle.cm_print.proofs.escaping.plain_len.Given as goal
 

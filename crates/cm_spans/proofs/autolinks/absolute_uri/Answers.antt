@@ -2,8 +2,8 @@ use Rattle.std.proofs.Common.{drop, length, take, codes, ◌-◌}
 use Rattle.markdown_grammar.specs.Autolinks.{scheme}
 use Rattle.markdown_grammar.specs.Readers.{at_least, exactly, ◌then◌}
 use Rattle.cm_starts.proofs.Repeats.{rest_is, then_some}
-use Rattle.cm_links.specs.Classes.{is_in}
-use Rattle.cm_links.specs.declared.classes.Class.TheVariants.{Address}
+use Rattle.site_text.specs.Classes.{is_in}
+use Rattle.site_text.specs.declared.classes.Class.TheVariants.{Address}
 use Rattle.cm_spans.proofs.autolinks.absolute_uri.Goals as goal
 
 pub returns-clause-value : goal.returns-clause-value

@@ -1,5 +1,5 @@
 use Rattle.std.proofs.Common.{◌≡◌, drop, not}
-use Rattle.markdown_grammar.specs.Fronts.{has_one}
+use Rattle.site_text.specs.Fronts.{has_one}
 use Rattle.cm_spans.specs.Code.{is_blank}
 use Rattle.cm_spans.proofs.code.has_other.Given as goal
 

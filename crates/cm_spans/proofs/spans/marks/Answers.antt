@@ -1,5 +1,5 @@
 use Rattle.std.proofs.Common.{arith, drop, reverse, subst, take, ℕ, ◌==◌, ◌≡◌}
-use Rattle.markdown_grammar.specs.Fronts.{run_len}
+use Rattle.site_text.specs.Fronts.{run_len}
 use Rattle.cm_spans.specs.Pieces.{mark_byte}
 use Rattle.cm_spans.proofs.Runs.{marks_are, marks_end}
 use Rattle.cm_spans.proofs.spans.marks.Goals as goal

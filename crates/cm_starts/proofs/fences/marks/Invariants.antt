@@ -1,5 +1,5 @@
 use Rattle.std.proofs.Common.{◌≡◌, ◌==◌, ◌+◌, ◌-◌, ◌≤◌, drop, length}
-use Rattle.markdown_grammar.specs.Fronts.{run_len}
+use Rattle.site_text.specs.Fronts.{run_len}
 use Rattle.cm_starts.proofs.fences.marks.Given as goal
 
 abbrev pub invariant-loop-i : goal.invariant-loop-i

@@ -1,5 +1,5 @@
 use Rattle.std.proofs.Common.{◌≡◌, length, map}
-use Rattle.markdown_grammar.specs.Bytes.{lowered}
+use Rattle.site_text.specs.Bytes.{lowered}
 use Rattle.markdown_grammar.specs.HtmlStarts as grammar
 use Rattle.cm_starts.proofs.names.is_among.Given as goal
 

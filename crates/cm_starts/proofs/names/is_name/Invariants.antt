@@ -1,5 +1,5 @@
 use Rattle.std.proofs.Common.{◌≡◌, ◌-◌, drop, length}
-use Rattle.markdown_grammar.specs.Bytes.{lowered}
+use Rattle.site_text.specs.Bytes.{lowered}
 use Rattle.markdown_grammar.specs.Fronts.{same_bytes}
 use Rattle.cm_starts.proofs.names.is_name.Given as goal
 

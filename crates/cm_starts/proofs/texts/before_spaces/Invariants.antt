@@ -1,6 +1,6 @@
 use Rattle.std.proofs.Common.{length, ◌≡◌, ◌≤◌, reverse, take}
 use Rattle.std.specs.Str.{IsCharBoundary}
-use Rattle.markdown_grammar.specs.Bytes.{is_space}
+use Rattle.site_text.specs.Bytes.{is_space}
 use Rattle.cm_starts.specs.Runs.{behind_run}
 use Rattle.cm_starts.proofs.texts.before_spaces.Given as goal
 

@@ -1,5 +1,5 @@
 use Rattle.std.proofs.Common.{◌≡◌, ◌==◌, drop}
-use Rattle.markdown_grammar.specs.Fronts.{has_one}
+use Rattle.site_text.specs.Fronts.{has_one}
 use Rattle.cm_starts.proofs.texts.has_byte.Given as goal
 
 abbrev pub invariant-loop-b : goal.invariant-loop-b

@@ -1,9 +1,10 @@
 use Rattle.std.proofs.Common.{◌≡◌, ◌==◌, true, get_or, arith}
-use Rattle.cm_links.proofs.Boundaries.{boundary_start, boundary_byte, run_more}
+use Rattle.std.proofs.lemmas.Str.{IsCharBoundary-start}
+use Rattle.site_text.proofs.Runs.{boundary_byte, run_more}
 use Rattle.cm_starts.proofs.texts.run.Goals as goal
 
 pub loop-i-init : goal.loop-i-init
-loop-i-init c = record { within = omega arith; cut = boundary_start _ c.as_bytes-bytes.ensures.utf8; so_far = omega arith }
+loop-i-init c = record { within = omega arith; cut = IsCharBoundary-start _ c.as_bytes-bytes.ensures.utf8; so_far = omega arith }
 
 pub loop-i-preserved : goal.loop-i-preserved
 loop-i-preserved c =

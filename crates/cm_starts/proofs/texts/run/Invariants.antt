@@ -1,6 +1,6 @@
 use Rattle.std.proofs.Common.{length, ◌-◌, ◌≡◌, ◌+◌, ◌≤◌, ◌==◌, drop}
 use Rattle.std.specs.Str.{IsCharBoundary}
-use Rattle.markdown_grammar.specs.Fronts.{run_len}
+use Rattle.site_text.specs.Fronts.{run_len}
 use Rattle.cm_starts.proofs.texts.run.Given as goal
 
 abbrev pub invariant-loop-i : goal.invariant-loop-i

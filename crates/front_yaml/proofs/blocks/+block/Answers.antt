@@ -1,14 +1,16 @@
 use Rattle.std.proofs.Common.{◌≡◌, ◌+◌, ◌<◌, ◌∷◌, ap, sym, ◌∙◌, subst, Ok, true, false, arith, drop}
 use Rattle.std.proofs.lemmas.List.{drop_more, drop_all}
+use Rattle.site_base.specs.Chains.{◌>>=◌}
 use Rattle.site_base.specs.Plain.{list, hash}
 use Rattle.site_base.specs.View.{plain}
 use Rattle.site_base.specs.declared.faults.YamlKind.TheVariants as kind
 use Rattle.front_yaml.specs.declared.faults.YamlError.{YamlError}
 use Rattle.front_yaml.specs.declared.faults.YamlError.TheVariants as yaml_error
-use Rattle.front_yaml.specs.Reading.{◌>>=◌}
 use Rattle.front_yaml.specs.TextLines.{inside}
 use Rattle.front_yaml.specs.Given.{Gives, FailsLines}
-use Rattle.front_yaml.specs.Blocks.{leaf_lines, block, sequence, all_entries, mapping_pairs, is_pair, is_item}
+use Rattle.front_yaml.specs.LineRuns.{is_pair, is_item}
+use Rattle.front_yaml.specs.LineLeaves.{leaf_lines}
+use Rattle.front_yaml.specs.Blocks.{block, sequence, all_entries, mapping_pairs}
 use Rattle.front_yaml.specs.Keys.{starts_block, is_dash}
 use Rattle.front_yaml.proofs.BlockCases.{block-leaf, block-deep, block-sequence, block-mapping, fails-on}
 use Rattle.front_yaml.proofs.Entries.{item_more, item_fails_by, items_end, pair_more, pair_fails_by, pairs_end, first_item, first_pair, items_from, pairs_from, with_items, with_pairs}
@@ -57,19 +59,19 @@ pub mapping-returns-in-Err : goal.mapping-returns-in-Err
 mapping-returns-in-Err t c =
     let d = c.args.depth in
     let n = c.indent-indent.result in
-    let k = c.idle_pairs-more.result in
+    let k = c.before_pair-more.result in
     let rest = c.loop-pair.rest.now in
     let h = subst (λ xs. FailsLines c.in-Err.error (first_pair d (block d) n (is_pair n) c.loop-pair.first.now xs)) c.first_lines.ensures c.in-Err.ensures in
-    subst (λ m. FailsLines c.in-Err.error (mapping_pairs c.args.depth (block c.args.depth) m c.args.head.now c.args.body.now)) c.indent-indent.ensures.value (pair_fails_by d (block d) n (is_pair n) c.loop-pair.first.now rest k c.loop-pair.pairs c.in-Err.error _ c.idle_pairs-more.ensures.value c.loop-pair.invariant.told h)
+    subst (λ m. FailsLines c.in-Err.error (mapping_pairs c.args.depth (block c.args.depth) m c.args.head.now c.args.body.now)) c.indent-indent.ensures.value (pair_fails_by d (block d) n (is_pair n) c.loop-pair.first.now rest k c.loop-pair.pairs c.in-Err.error _ c.before_pair-more.ensures.value c.loop-pair.invariant.told h)
 
 pub mapping-returns-then-more-rest : goal.mapping-returns-then-more-rest
 mapping-returns-then-more-rest t c =
     let d = c.args.depth in
     let n = c.indent-indent.result in
-    let k = c.idle_pairs-more.result in
+    let k = c.before_pair-more.result in
     let rest = c.loop-pair.rest.now in
     let h = subst (λ xs. first_pair d (block d) n (is_pair n) c.loop-pair.first.now xs ≡ Ok (c.in-Ok.pair.0, plain c.in-Ok.pair.1)) c.first_lines.ensures c.in-Ok.ensures in
-    let told = pair_more d (block d) n (is_pair n) c.loop-pair.first.now rest k c.loop-pair.pairs (c.in-Ok.pair.0) (plain c.in-Ok.pair.1) _ c.idle_pairs-more.ensures.value c.loop-pair.invariant.told h in
+    let told = pair_more d (block d) n (is_pair n) c.loop-pair.first.now rest k c.loop-pair.pairs (c.in-Ok.pair.0) (plain c.in-Ok.pair.1) _ c.before_pair-more.ensures.value c.loop-pair.invariant.told h in
     let new = subst (λ x. with_pairs x (pairs_from d (block d) n (is_pair n) (drop k rest)) ≡ mapping_pairs c.args.depth (block c.args.depth) n c.args.head.now c.args.body.now) (sym c.in_ok-put.ensures) told in
     subst (λ m. mapping_pairs c.args.depth (block c.args.depth) m c.args.head.now c.args.body.now ≡ Ok c.finish.result) c.indent-indent.ensures.value (pairs_end d (block d) n (is_pair n) (drop k rest) c.put.new.pairs _ (drop_all k rest c.if-more-rest.true) new ∙ ap (λ ps. Ok ps) (sym c.finish.ensures))
 
@@ -77,10 +79,10 @@ pub mapping-loop-pair-preserved : goal.mapping-loop-pair-preserved
 mapping-loop-pair-preserved t c =
     let d = c.args.depth in
     let n = c.indent-indent.result in
-    let k = c.idle_pairs-more.result in
+    let k = c.before_pair-more.result in
     let rest = c.loop-pair.rest.now in
     let h = subst (λ xs. first_pair d (block d) n (is_pair n) c.loop-pair.first.now xs ≡ Ok (c.in-Ok.pair.0, plain c.in-Ok.pair.1)) c.first_lines.ensures c.in-Ok.ensures in
-    let told = pair_more d (block d) n (is_pair n) c.loop-pair.first.now rest k c.loop-pair.pairs (c.in-Ok.pair.0) (plain c.in-Ok.pair.1) _ c.idle_pairs-more.ensures.value c.loop-pair.invariant.told h in
+    let told = pair_more d (block d) n (is_pair n) c.loop-pair.first.now rest k c.loop-pair.pairs (c.in-Ok.pair.0) (plain c.in-Ok.pair.1) _ c.before_pair-more.ensures.value c.loop-pair.invariant.told h in
     let new = subst (λ x. with_pairs x (pairs_from d (block d) n (is_pair n) (drop k rest)) ≡ mapping_pairs c.args.depth (block c.args.depth) n c.args.head.now c.args.body.now) (sym c.in_ok-put.ensures) told in
     let place : drop k rest ≡ c.index-rest-more.result ∷ c.lines_after-rest.result.now =
     drop_more rest k c.index-rest-more.result c.if-more-rest.false ∙ ap (λ x. x ∷ drop (k + 1) rest) (sym c.index-rest-more.is) ∙ ap (λ xs. c.index-rest-more.result ∷ xs) (sym c.lines_after-rest.ensures) in
@@ -93,19 +95,19 @@ pub sequence-returns-in-Err : goal.sequence-returns-in-Err
 sequence-returns-in-Err t c =
     let d = c.args.depth in
     let n = c.indent-indent.result in
-    let k = c.idle_len-more.result in
+    let k = c.before_item-more.result in
     let rest = c.loop-value.rest.now in
     let h = subst (λ xs. FailsLines c.in-Err.error (first_item d (block d) n (is_item n) c.loop-value.first.now xs)) c.first_lines.ensures c.in-Err.ensures in
-    subst (λ m. FailsLines c.in-Err.error (sequence c.args.depth (block c.args.depth) m (all_entries (is_item m) c.args.head.now c.args.body.now))) c.indent-indent.ensures.value (item_fails_by d (block d) n (is_item n) c.loop-value.first.now rest k c.loop-value.items c.in-Err.error _ c.idle_len-more.ensures.value c.loop-value.invariant.told h)
+    subst (λ m. FailsLines c.in-Err.error (sequence c.args.depth (block c.args.depth) m (all_entries (is_item m) c.args.head.now c.args.body.now))) c.indent-indent.ensures.value (item_fails_by d (block d) n (is_item n) c.loop-value.first.now rest k c.loop-value.items c.in-Err.error _ c.before_item-more.ensures.value c.loop-value.invariant.told h)
 
 pub sequence-returns-then-more-rest : goal.sequence-returns-then-more-rest
 sequence-returns-then-more-rest t c =
     let d = c.args.depth in
     let n = c.indent-indent.result in
-    let k = c.idle_len-more.result in
+    let k = c.before_item-more.result in
     let rest = c.loop-value.rest.now in
     let h = subst (λ xs. first_item d (block d) n (is_item n) c.loop-value.first.now xs ≡ Ok (plain c.in-Ok.value)) c.first_lines.ensures c.in-Ok.ensures in
-    let told = item_more d (block d) n (is_item n) c.loop-value.first.now rest k c.loop-value.items (plain c.in-Ok.value) _ c.idle_len-more.ensures.value c.loop-value.invariant.told h in
+    let told = item_more d (block d) n (is_item n) c.loop-value.first.now rest k c.loop-value.items (plain c.in-Ok.value) _ c.before_item-more.ensures.value c.loop-value.invariant.told h in
     let new = subst (λ x. with_items x (items_from d (block d) n (is_item n) (drop k rest)) ≡ sequence c.args.depth (block c.args.depth) n (all_entries (is_item n) c.args.head.now c.args.body.now)) (sym c.in_ok-push.ensures.ok) told in
     subst (λ m. sequence c.args.depth (block c.args.depth) m (all_entries (is_item m) c.args.head.now c.args.body.now) ≡ Ok c.push.new.self) c.indent-indent.ensures.value (items_end d (block d) n (is_item n) (drop k rest) c.push.new.self _ (drop_all k rest c.if-more-rest.true) new)
 
@@ -113,10 +115,10 @@ pub sequence-loop-value-preserved : goal.sequence-loop-value-preserved
 sequence-loop-value-preserved t c =
     let d = c.args.depth in
     let n = c.indent-indent.result in
-    let k = c.idle_len-more.result in
+    let k = c.before_item-more.result in
     let rest = c.loop-value.rest.now in
     let h = subst (λ xs. first_item d (block d) n (is_item n) c.loop-value.first.now xs ≡ Ok (plain c.in-Ok.value)) c.first_lines.ensures c.in-Ok.ensures in
-    let told = item_more d (block d) n (is_item n) c.loop-value.first.now rest k c.loop-value.items (plain c.in-Ok.value) _ c.idle_len-more.ensures.value c.loop-value.invariant.told h in
+    let told = item_more d (block d) n (is_item n) c.loop-value.first.now rest k c.loop-value.items (plain c.in-Ok.value) _ c.before_item-more.ensures.value c.loop-value.invariant.told h in
     let new = subst (λ x. with_items x (items_from d (block d) n (is_item n) (drop k rest)) ≡ sequence c.args.depth (block c.args.depth) n (all_entries (is_item n) c.args.head.now c.args.body.now)) (sym c.in_ok-push.ensures.ok) told in
     let place : drop k rest ≡ c.index-rest-more.result ∷ c.lines_after-rest.result.now =
     drop_more rest k c.index-rest-more.result c.if-more-rest.false ∙ ap (λ x. x ∷ drop (k + 1) rest) (sym c.index-rest-more.is) ∙ ap (λ xs. c.index-rest-more.result ∷ xs) (sym c.lines_after-rest.ensures) in

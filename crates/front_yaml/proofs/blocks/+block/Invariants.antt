@@ -1,6 +1,7 @@
 use Rattle.std.proofs.Common.{length, ◌*◌, ◌≡◌, ◌+◌}
 use Rattle.front_yaml.specs.TextLines.{indent}
-use Rattle.front_yaml.specs.Blocks.{sequence, mapping, mapping_pairs, block, all_entries, is_item, is_pair}
+use Rattle.front_yaml.specs.LineRuns.{is_item, is_pair}
+use Rattle.front_yaml.specs.Blocks.{sequence, mapping, mapping_pairs, block, all_entries}
 use Rattle.front_yaml.proofs.Entries.{with_items, with_pairs}
 use Rattle.front_yaml.proofs.blocks.+block.Given as goal
 
@@ -21,12 +22,6 @@ decreases-pair l = 10 * l.depth + 6
 
 abbrev pub decreases-item_at : goal.decreases-item_at
 decreases-item_at l = 10 * l.depth + 5
-
-abbrev pub decreases-pair_at : goal.decreases-pair_at
-decreases-pair_at l = 10 * l.depth + 5
-
-abbrev pub decreases-pair_value : goal.decreases-pair_value
-decreases-pair_value l = 10 * l.depth + 4
 
 abbrev pub decreases-entry_value : goal.decreases-entry_value
 decreases-entry_value l = 10 * l.depth + 3

@@ -1,11 +1,11 @@
-use Rattle.std.proofs.Common.{◌+◌, drop, length, length-drop, subst, sym, ap, ◌∙◌, arith, Ok, Err}
+use Rattle.std.proofs.Common.{ℕ, List, ◌+◌, drop, length, length-drop, subst, sym, ap, ◌∙◌, arith, Ok, Err}
 use Rattle.site_base.specs.View.{plain}
 use Rattle.front_yaml.specs.declared.faults.PlaceError.{PlaceError}
 use Rattle.front_yaml.specs.declared.faults.PlaceError.TheVariants as place_error
 use Rattle.front_yaml.specs.declared.faults.PlaceFault.{PlaceFault}
-use Rattle.front_yaml.specs.declared.flow_values.ItemPart.{ItemPart}
-use Rattle.front_yaml.specs.declared.flow_values.PairPart.{PairPart}
-use Rattle.front_yaml.specs.Given.{FailsAt, ReadsSized, ReadsItem, ReadsPair, ItemFits, PairFits}
+use Rattle.front_yaml.specs.declared.flow_parts.Part.{Part}
+use Rattle.site_base.specs.declared.value.Value.{Value}
+use Rattle.front_yaml.specs.Given.{FailsAt, ReadsSized, ReadsItem, ReadsPair, PartFits}
 use Rattle.front_yaml.specs.Flow.{node, part, items, pairs, entry, hash_pairs, collection}
 use Rattle.front_yaml.proofs.FlowLaws.{too_deep, is_list, is_hash, with_items, items_shut, items_last, items_more, items_fault, items_end, with_pairs, pairs_shut, pairs_last, pairs_more, pairs_fault, pairs_end}
 use Rattle.front_yaml.proofs.flow_values.+flow.Goals as goal
@@ -26,7 +26,7 @@ items-returns-in-Ok-Shut-clause-value t c =
     let child = node (collection c.args.depth) in
     let s = c.args.text.now in
     let n = c.loop-n.n in
-    let h = subst (λ (x : ItemPart). ReadsItem (Ok x) (part 93 child c.tail.result.now)) c.in-Ok-Shut.field-0-is c.in-Ok-Shut.ensures.value in
+    let h = subst (λ (x : Part Value). ReadsItem (Ok x) (part 93 child c.tail.result.now)) c.in-Ok-Shut.field-0-is c.in-Ok-Shut.ensures.value in
     items_shut child n c.in-Ok-Shut.len c.loop-n.items s _ c.loop-n-test.true c.loop-n.invariant.told (ap (part 93 child) (sym c.tail.ensures) ∙ h)
 
 pub items-returns-in-Ok-Last-clause-value : goal.items-returns-in-Ok-Last-clause-value
@@ -34,7 +34,7 @@ items-returns-in-Ok-Last-clause-value t c =
     let child = node (collection c.args.depth) in
     let s = c.args.text.now in
     let n = c.loop-n.n in
-    let h = subst (λ (x : ItemPart). ReadsItem (Ok x) (part 93 child c.tail.result.now)) c.in-Ok-Last.field-0-is c.in-Ok-Last.ensures.value in
+    let h = subst (λ (x : Part Value). ReadsItem (Ok x) (part 93 child c.tail.result.now)) c.in-Ok-Last.field-0-is c.in-Ok-Last.ensures.value in
     items_last child n c.in-Ok-Last.len (plain c.in-Ok-Last.value) c.loop-n.items s _ c.loop-n-test.true c.loop-n.invariant.told (ap (part 93 child) (sym c.tail.ensures) ∙ h) ∙ ap (λ x. Ok (x, n + c.in-Ok-Last.len + 1)) (sym c.in_ok-push-in-Ok-Last.ensures.ok)
 
 pub items-loop-n-preserved : goal.items-loop-n-preserved
@@ -43,8 +43,8 @@ items-loop-n-preserved t c =
     let s = c.args.text.now in
     let n = c.loop-n.n in
     let m = n + (c.in-Ok-More.len + 1) in
-    let h = subst (λ (x : ItemPart). ReadsItem (Ok x) (part 93 child c.tail.result.now)) c.in-Ok-More.field-0-is c.in-Ok-More.ensures.value in
-    let w = subst (λ (x : ItemPart). ItemFits (length c.tail.result.now) (Ok x)) c.in-Ok-More.field-0-is c.in-Ok-More.ensures.within in
+    let h = subst (λ (x : Part Value). ReadsItem (Ok x) (part 93 child c.tail.result.now)) c.in-Ok-More.field-0-is c.in-Ok-More.ensures.value in
+    let w = subst (λ (x : Part Value). PartFits (length c.tail.result.now) (Ok x)) c.in-Ok-More.field-0-is c.in-Ok-More.ensures.within in
     record {
       within = omega (arith, w, ap length c.tail.ensures, length-drop n s);
       told = ap (λ x. with_items m x (items child (drop m s))) c.in_ok-push-in-Ok-More.ensures.ok ∙ items_more child n c.in-Ok-More.len m (plain c.in-Ok-More.value) c.loop-n.items s _ (omega arith) c.loop-n-test.true c.loop-n.invariant.told (ap (part 93 child) (sym c.tail.ensures) ∙ h);
@@ -71,7 +71,7 @@ pairs-returns-in-Ok-Shut-clause-value t c =
     let child = node (collection c.args.depth) in
     let s = c.args.text.now in
     let n = c.loop-n.n in
-    let h = subst (λ (x : PairPart). ReadsPair (Ok x) (part 125 (entry child) c.tail.result.now)) c.in-Ok-Shut.field-0-is c.in-Ok-Shut.ensures.value in
+    let h = subst (λ (x : Part (List ℕ × Value)). ReadsPair (Ok x) (part 125 (entry child) c.tail.result.now)) c.in-Ok-Shut.field-0-is c.in-Ok-Shut.ensures.value in
     pairs_shut child n c.in-Ok-Shut.len c.loop-n.pairs s _ c.loop-n-test.true c.loop-n.invariant.told (ap (part 125 (entry child)) (sym c.tail.ensures) ∙ h) ∙ ap (λ x. Ok (x, n + c.in-Ok-Shut.len + 1)) (sym c.finish.ensures)
 
 pub pairs-returns-in-Ok-Last-clause-value : goal.pairs-returns-in-Ok-Last-clause-value
@@ -79,8 +79,8 @@ pairs-returns-in-Ok-Last-clause-value t c =
     let child = node (collection c.args.depth) in
     let s = c.args.text.now in
     let n = c.loop-n.n in
-    let h = subst (λ (x : PairPart). ReadsPair (Ok x) (part 125 (entry child) c.tail.result.now)) c.in-Ok-Last.field-0-is c.in-Ok-Last.ensures.value in
-    pairs_last child n c.in-Ok-Last.len c.in-Ok-Last.name (plain c.in-Ok-Last.value) c.loop-n.pairs s _ c.loop-n-test.true c.loop-n.invariant.told (ap (part 125 (entry child)) (sym c.tail.ensures) ∙ h) ∙ ap (λ x. Ok (x, n + c.in-Ok-Last.len + 1)) (sym c.in_ok-put-in-Ok-Last.ensures ∙ sym c.finish-in-Ok-Last.ensures)
+    let h = subst (λ (x : Part (List ℕ × Value)). ReadsPair (Ok x) (part 125 (entry child) c.tail.result.now)) c.in-Ok-Last.field-0-is c.in-Ok-Last.ensures.value in
+    pairs_last child n c.in-Ok-Last.len c.in-Ok-Last.pair.0 (plain c.in-Ok-Last.pair.1) c.loop-n.pairs s _ c.loop-n-test.true c.loop-n.invariant.told (ap (part 125 (entry child)) (sym c.tail.ensures) ∙ h) ∙ ap (λ x. Ok (x, n + c.in-Ok-Last.len + 1)) (sym c.in_ok-put-in-Ok-Last.ensures ∙ sym c.finish-in-Ok-Last.ensures)
 
 pub pairs-loop-n-preserved : goal.pairs-loop-n-preserved
 pairs-loop-n-preserved t c =
@@ -88,11 +88,11 @@ pairs-loop-n-preserved t c =
     let s = c.args.text.now in
     let n = c.loop-n.n in
     let m = n + (c.in-Ok-More.len + 1) in
-    let h = subst (λ (x : PairPart). ReadsPair (Ok x) (part 125 (entry child) c.tail.result.now)) c.in-Ok-More.field-0-is c.in-Ok-More.ensures.value in
-    let w = subst (λ (x : PairPart). PairFits (length c.tail.result.now) (Ok x)) c.in-Ok-More.field-0-is c.in-Ok-More.ensures.within in
+    let h = subst (λ (x : Part (List ℕ × Value)). ReadsPair (Ok x) (part 125 (entry child) c.tail.result.now)) c.in-Ok-More.field-0-is c.in-Ok-More.ensures.value in
+    let w = subst (λ (x : Part (List ℕ × Value)). PartFits (length c.tail.result.now) (Ok x)) c.in-Ok-More.field-0-is c.in-Ok-More.ensures.within in
     record {
       within = omega (arith, w, ap length c.tail.ensures, length-drop n s);
-      told = ap (λ x. with_pairs m x (pairs child (drop m s))) c.in_ok-put-in-Ok-More.ensures ∙ pairs_more child n c.in-Ok-More.len m c.in-Ok-More.name (plain c.in-Ok-More.value) c.loop-n.pairs s _ (omega arith) c.loop-n-test.true c.loop-n.invariant.told (ap (part 125 (entry child)) (sym c.tail.ensures) ∙ h);
+      told = ap (λ x. with_pairs m x (pairs child (drop m s))) c.in_ok-put-in-Ok-More.ensures ∙ pairs_more child n c.in-Ok-More.len m c.in-Ok-More.pair.0 (plain c.in-Ok-More.pair.1) c.loop-n.pairs s _ (omega arith) c.loop-n-test.true c.loop-n.invariant.told (ap (part 125 (entry child)) (sym c.tail.ensures) ∙ h);
     }
 
 pub pairs-returns-in-Err-Fault-clause-value : goal.pairs-returns-in-Err-Fault-clause-value

@@ -1,6 +1,7 @@
 use Rattle.std.proofs.Common.{length, ◌-◌, ◌≡◌, ◌≤◌, ◌+◌, drop}
+use Rattle.std.specs.Prelude.{take_while}
 use Rattle.site_base.specs.Lines.{lines}
-use Rattle.front_yaml.specs.Front.{lines_while, total, is_blank, IsCut}
+use Rattle.front_yaml.specs.Front.{total, is_blank, IsCut}
 use Rattle.front_yaml.proofs.front_matter.blank_end.Given as goal
 
 abbrev pub invariant-loop-at : goal.invariant-loop-at
@@ -8,7 +9,7 @@ invariant-loop-at l = record {
   order : l.from ≤ l.at;
   within : l.at ≤ length l.bytes;
   cut : IsCut l.bytes l.at;
-  rest : l.at + total (lines_while is_blank (lines (drop l.at l.bytes))) ≡ l.from + total (lines_while is_blank (lines (drop l.from l.bytes)));
+  rest : l.at + total (take_while is_blank (lines (drop l.at l.bytes))) ≡ l.from + total (take_while is_blank (lines (drop l.from l.bytes)));
 }
 
 abbrev pub decreases-loop-at : goal.decreases-loop-at

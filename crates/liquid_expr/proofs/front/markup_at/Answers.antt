@@ -13,7 +13,7 @@ pub returns-then-end-text-2 : goal.returns-then-end-text-2
 returns-then-end-text-2 c =
     let text = c.args.text.now in
     let place = first_place (begins (codes "%}")) (drop 2 text) in
-    let tag : begins (codes "{{") text ≡ false = sym c.begins.ensures ∙ c.if-begins.false in
+    let tag : begins (codes "{{") text ≡ false = sym c.begins.ensures.as_std ∙ c.if-begins.false in
     let lt : place < length (drop 2 text) = omega (arith, length-drop 2 text, c.find-end-else-begins.ensures) in
     let len : c.find-end-else-begins.result + 2 ≡ place + 4 = omega (arith, c.find-end-else-begins.ensures) in
     c.tag_at.ensures ∙ ap (tag_at text) len ∙ sym (markup_tag text tag lt)

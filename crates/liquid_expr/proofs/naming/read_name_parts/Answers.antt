@@ -57,4 +57,4 @@ returns c =
     let list = c.deref-piece-items.result.now in
     let closed : (cut_of text).unclosed ≡ None = ap (λ (x : Cut). x.unclosed) (sym c.in_ok-pieces.ensures) ∙ c.in-None.is in
     let told : with_parts c.loop-piece.parts.items (name_parts text None (drop c.loop-piece.piece-index list)) ≡ parts_of_cut text (cut_of text) = ap (λ u. with_parts c.loop-piece.parts.items (name_parts text u (drop c.loop-piece.piece-index list))) (sym closed) ∙ c.loop-piece.invariant in
-    some_text text (sym c.is_empty.ensures ∙ c.if-is_empty.false) ∙ parts_end text list (parts_of_cut text (cut_of text)) c.loop-piece.parts.items c.loop-piece.piece-index c.loop-piece-test.false told ∙ ap (λ x. Ok x) (sym c.from_vec.ensures)
+    some_text text (sym c.is_empty.ensures ∙ c.if-is_empty.false) ∙ parts_end text list (parts_of_cut text (cut_of text)) c.loop-piece.parts.items c.loop-piece.piece-index c.loop-piece-test.false told ∙ ap (λ x. Ok x) (sym c.fitted.ensures)

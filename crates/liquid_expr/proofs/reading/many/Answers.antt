@@ -48,4 +48,4 @@ returns-clause-value g c =
     let now = c.loop-list.list.items in
     let rest : tokens_of c.rest.result ≡ drop used ts = c.rest.ensures.seen in
     let last : next (tokens_of c.rest.result) ≡ stop = subst (λ f. IsMore (Ok f) (next (tokens_of c.rest.result))) c.in_default.is c.in_ok-item.ensures.value in
-    from_alone (many next ts) now used (ends next alone ts now used _ (ap next (sym rest) ∙ last) c.loop-list.invariant.told) ∙ ap (λ l. Some (l, used)) (sym c.from_vec.ensures)
+    from_alone (many next ts) now used (ends next alone ts now used _ (ap next (sym rest) ∙ last) c.loop-list.invariant.told) ∙ ap (λ l. Some (l, used)) (sym c.fitted.ensures)

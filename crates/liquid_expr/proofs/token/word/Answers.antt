@@ -1,6 +1,6 @@
 use Rattle.std.proofs.Common.{arith, ◌≡◌, ◌-◌, ◌<◌, ap, subst, slice_index}
 use Rattle.std.specs.List.{prefix_len}
-use Rattle.liquid_grammar.specs.Tokens.{is_name_byte}
+use Rattle.site_text.specs.Bytes.{is_name_byte}
 use Rattle.liquid_expr.proofs.TokenLaws.{name_some}
 use Rattle.liquid_expr.proofs.token.word.Goals as goal
 

@@ -6,6 +6,6 @@ use Rattle.permalinks.specs.Url.{both, parts_text, is_colon}
 use Rattle.permalinks.proofs.template.push_parts.Given as goal
 
 abbrev pub invariant-loop-part : goal.invariant-loop-part
-invariant-loop-part l =
-    both (Some (string_bytes l.text)) (parts_text l.parts (drop (length l.yielded) (slice_split is_colon l.rest)))
-    ≡ both (Some (string_bytes l.initial.text)) (parts_text l.parts (slice_split is_colon l.rest))
+invariant-loop-part g l =
+    both (Some (string_bytes l.text)) (parts_text (g.V.Values.stands_for l.values) (drop (length l.yielded) (slice_split is_colon l.rest)))
+    ≡ both (Some (string_bytes l.initial.text)) (parts_text (g.V.Values.stands_for l.values) (slice_split is_colon l.rest))

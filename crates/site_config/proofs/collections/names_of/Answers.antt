@@ -8,7 +8,7 @@ use Rattle.site_config.proofs.collections.names_of.Goals as goal
 
 pub loop-collection-preserved : goal.loop-collection-preserved
 loop-collection-preserved c =
-    let cs = c.deref-collection-items.result.now in
+    let cs = c.as_slice-collection-items.result.now in
     let i = c.loop-collection.collection-index in
     let item = c.collection-item.result in
     let new = c.insert.new.self in

@@ -12,6 +12,7 @@ returns-in-Some-clause-is c =
     let given_fits : FitsSigned w32 c.args.given = c.ranges.given in
     let zone : Some c.in-Some.offset ≡ written_zone c.args.given (drop time.len c.args.text.now) =
     simp to_z-of_z at (rw (take_rest c.args.text.now time.len) at c.in-Some.ensures.is) in
+    let day_fits : FitsSigned w32 c.args.day = c.ranges.day in
     let offset_fits : FitsSigned w32 c.in-Some.offset = search rules in
     let at : c.moment_at.result ≡ moment_at c.args.day time.seconds c.in-Some.offset = simp to_z-of_z at c.moment_at.ensures in
     let moment_fits : FitsSigned w64 c.moment_at.result = search rules in

@@ -9,8 +9,8 @@ pub returns-in-Ok : goal.returns-in-Ok
 returns-in-Ok c =
     let cases = c.in-Ok.ensures.cases in
     subst (λ (h : Head). IfOk c.read_form.result (λ head. head ≡ h))
-    (ap form_of cases.0 ∙ sym (text_head c.args.content.now c.if-content-gt-MAX_LINE.false cases.1))
+    (ap form_of cases.0 ∙ sym (text_head c.args.content.now c.if-content-gt-MOST_LINE_BYTES.false cases.1))
     c.read_form.ensures
 
 pub returns-in-Err : goal.returns-in-Err
-returns-in-Err c = no_text_head c.args.content.now c.if-content-gt-MAX_LINE.false c.in-Err.ensures.cases.0
+returns-in-Err c = no_text_head c.args.content.now c.if-content-gt-MOST_LINE_BYTES.false c.in-Err.ensures.cases.0

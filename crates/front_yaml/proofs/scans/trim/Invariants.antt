@@ -1,9 +1,0 @@
-use Rattle.std.proofs.Common.{length, ◌≡◌, ◌≤◌, take}
-use Rattle.front_yaml.specs.Bytes.{trim}
-use Rattle.front_yaml.proofs.scans.trim.Given as goal
-
-abbrev pub invariant-loop-end : goal.invariant-loop-end
-invariant-loop-end l = record { within : l.end ≤ length l.text; same : trim (take l.end l.text) ≡ trim l.text }
-
-abbrev pub decreases-loop-end : goal.decreases-loop-end
-decreases-loop-end l = l.end

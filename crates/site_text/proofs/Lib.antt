@@ -1,0 +1,4 @@
+pub mod Digits
+pub mod Runs
+pub mod Words
+pub mod Ascii

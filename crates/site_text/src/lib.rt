@@ -1,0 +1,18 @@
+//! What every reader of text needs: classes of ASCII bytes, the runs of them that a text begins with,
+//! words at its front, and the numbers that digits spell.
+#![tactic(auto)]
+
+mod bytes;
+mod classes;
+mod fronts;
+mod numbers;
+
+pub use bytes::{
+    is_alnum, is_letter, is_name_start, is_one_of, is_punctuation, is_space, is_white, lower,
+};
+pub use classes::{Class, class_len, class_run};
+pub use fronts::{begins, begins_in_lower_case, byte_at, starts_with_byte};
+pub use numbers::number;
+
+#[cfg(test)]
+mod tests;
