@@ -1,12 +1,12 @@
 -- Marks in a text, and what stands between them.
-use Rattle.std.proofs.Common.{◌≡◌, ℕ, zero, suc, ◌+◌, ◌<◌, ◌≤◌, Bool, true, false, cond, eqb, ◌&&◌, List, [], ◌∷◌, ◌++◌, length, take, drop, get_or, refl, sym, ap, ◌∙◌, append_assoc, arith, subst, Option, Some, None}
+use Rattle.std.proofs.Common.{◌≡◌, ℕ, zero, suc, ◌+◌, ◌<◌, Bool, true, false, cond, eqb, ◌&&◌, List, [], ◌∷◌, ◌++◌, length, take, drop, get_or, refl, sym, ap, ◌∙◌, append_assoc, arith, subst, Option, Some, None}
 use Rattle.std.specs.Str.{IsUtf8, IsCharBoundary}
 use Rattle.std.proofs.lemmas.Bool.{eqb-true}
 use Rattle.std.proofs.lemmas.Bool.Decides.{nat_tests}
 use Rattle.std.proofs.lemmas.List.{append-nil, drop_more, take_more, nil_from_length}
 use Rattle.std.proofs.lemmas.Str.{IsCharBoundary-after_ascii, IsCharBoundary-before_ascii}
 use Rattle.site_base.specs.Lines.{begins_lf}
-use Rattle.liquid_filters.specs.Marks.{Found, single, reference, escape, is_reference, escape_once, line_break, line_end, mark_at, marked_after}
+use Rattle.liquid_filters.specs.Marks.{Found, single, reference, is_reference, mark_at, marked_after}
 use Rattle.liquid_filters.specs.declared.marks.Mark.{Mark}
 use Rattle.liquid_filters.specs.declared.marks.Mark.TheVariants.{Escape, EscapeOnce, LineBreak, LineEnd}
 

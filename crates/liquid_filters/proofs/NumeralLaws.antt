@@ -5,7 +5,8 @@ use Rattle.std.specs.Str.Parse.{AllDigits, IsNumeral, without_leading_sign}
 use Rattle.std.specs.Char.{digit_value}
 use Rattle.std.proofs.lemmas.Bool.{lt-ltb}
 use Rattle.std.proofs.lemmas.Bool.Decides.{nat_tests}
-use Rattle.liquid_filters.specs.Numerals.{is_digit, is_digits, is_whole, is_dot, is_decimal}
+use Rattle.site_text.specs.Bytes.{is_digit}
+use Rattle.liquid_filters.specs.Numerals.{is_digits, is_whole, is_dot, is_decimal}
 
 both_true : (a b : Bool) → (a && b) ≡ true → (a ≡ true) × (b ≡ true)
 both_true true b e = (refl, e)

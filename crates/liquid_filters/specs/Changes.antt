@@ -1,4 +1,4 @@
--- The filters that change a text, without arguments.
+-- The filters that change a text, without arguments. After the reference of Liquid 4 (Shopify), "Filters"; which bytes stay in a URL: RFC 3986, section 2.3.
 use Rattle.std.specs.Prelude.{ℕ, ◌+◌, ◌-◌, ◌/◌, ◌%◌, ◌==◌, nat_lt, Bool, ◌&&◌, ◌||◌, List, [], ◌∷◌, length, drop, take, map, flat_map, codes, if◌then◌else◌, Result, Ok}
 use Rattle.std.specs.Char.{to_ascii_lowercase, to_ascii_uppercase}
 use Rattle.std.specs.List.{list_any, prefix_len, suffix_len}
@@ -7,8 +7,8 @@ use Rattle.site_base.specs.Plain.{Plain, text}
 use Rattle.site_base.specs.Values.{value_text}
 use Rattle.site_base.specs.declared.faults.FaultKind.{FaultKind}
 use Rattle.liquid_filters.specs.Arguments.{no_more}
-use Rattle.liquid_filters.specs.Marks.{is_letter, marked}
-use Rattle.liquid_filters.specs.Numerals.{is_digit}
+use Rattle.site_text.specs.Bytes.{is_digit, is_letter}
+use Rattle.liquid_filters.specs.Marks.{marked}
 use Rattle.liquid_filters.specs.declared.changes.TextChange.{TextChange}
 use Rattle.liquid_filters.specs.declared.changes.TextChange.TheVariants.{Capitalize, Downcase, Escape, EscapeOnce, Lstrip, NewlineToBr, Rstrip, Strip, StripNewlines, Upcase, UrlEncode}
 use Rattle.liquid_filters.specs.declared.marks.Mark.TheVariants as mark

@@ -1,4 +1,4 @@
--- What a filter of lists takes its input for.
+-- What a filter of lists takes its input for. After the reference of Liquid 4 (Shopify), "Filters".
 use Rattle.std.specs.Prelude.{ℕ, zero, suc, ◌+◌, ℤ, pos, ◌+ℤ◌, ◌-ℤ◌, unsigned_abs, nat_lt, if◌then◌else◌, Result, Ok, Err}
 use Rattle.std.specs.Int.RustNames.{int_le}
 use Rattle.site_base.specs.Chains.{◌>>=◌}

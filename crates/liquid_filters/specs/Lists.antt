@@ -1,4 +1,4 @@
--- The filters of lists that look nothing up.
+-- The filters of lists that look nothing up. After the reference of Liquid 4 (Shopify), "Filters".
 use Rattle.std.specs.Prelude.{ℕ, pos, Bool, true, false, not, List, [], ◌∷◌, ◌++◌, length, if◌then◌else◌, ◌==◌, Option, Some, None, Result, Ok, Err}
 use Rattle.std.specs.Str.{chars}
 use Rattle.site_base.specs.Chains.{◌>>=◌}

@@ -1,14 +1,11 @@
--- Texts in which something else stands for some marks.
-use Rattle.std.specs.Prelude.{ℕ, zero, suc, ◌==◌, nat_lt, Bool, false, ◌&&◌, ◌||◌, List, [], ◌∷◌, ◌++◌, drop, codes, if◌then◌else◌, Option, Some, None}
+-- Texts in which something else stands for some marks. After the reference of Liquid 4 (Shopify), "Filters": `escape`, `escape_once`, `newline_to_br`, `strip_newlines`.
+use Rattle.std.specs.Prelude.{ℕ, zero, suc, ◌==◌, nat_lt, Bool, false, ◌&&◌, List, [], ◌∷◌, ◌++◌, drop, codes, if◌then◌else◌, Option, Some, None}
 use Rattle.std.specs.Borrow.{Bor}
 use Rattle.std.specs.List.{prefix_len}
 use Rattle.site_base.specs.Lines.{begins_lf}
-use Rattle.liquid_filters.specs.Numerals.{is_digit}
+use Rattle.site_text.specs.Bytes.{is_digit, is_letter}
 use Rattle.liquid_filters.specs.declared.marks.Mark.{Mark}
 use Rattle.liquid_filters.specs.declared.marks.Mark.TheVariants.{Escape, EscapeOnce, LineBreak, LineEnd}
-
-abbrev pub is_letter : ℕ → Bool
-is_letter c = (nat_lt 64 c && nat_lt c 91) || (nat_lt 96 c && nat_lt c 123)
 
 -- how many bytes behind the first belong to a mark, and what stands for it
 abbrev pub Found : Type 0

@@ -1,4 +1,4 @@
--- The filters of numbers.
+-- The filters of numbers. After the reference of Liquid 4 (Shopify), "Filters".
 use Rattle.std.specs.Prelude.{ℤ, pos, int_lt, if◌then◌else◌, ◌+ℤ◌, ◌-ℤ◌, ◌*ℤ◌, neg_ℤ, unsigned_abs, List, Result, Ok, Err}
 use Rattle.std.specs.Int.{int_div_euclid, int_rem_euclid, int_max, int_min}
 use Rattle.site_base.specs.Chains.{◌>>=◌}

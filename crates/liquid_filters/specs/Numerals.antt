@@ -1,10 +1,11 @@
--- What a value counts as where a number is wanted.
-use Rattle.std.specs.Prelude.{ℕ, ◌==◌, ◌^◌, nat_lt, nat_le, ℤ, pos, negsuc, Bool, ◌&&◌, not, List, [], ◌∷◌, length, if◌then◌else◌, Result, Ok, Err}
+-- What a value counts as where a number is wanted. After the reference of Liquid 4 (Shopify), "Filters"; docs/PROFILE.md says which texts are numbers.
+use Rattle.std.specs.Prelude.{ℕ, ◌==◌, ◌^◌, nat_lt, ℤ, pos, negsuc, Bool, ◌&&◌, not, List, [], ◌∷◌, length, if◌then◌else◌, Result, Ok, Err}
 use Rattle.std.specs.List.{list_all, position_or_len, before_first, after_first}
 use Rattle.std.specs.Str.Parse.{signed_digits_value}
 use Rattle.site_base.specs.Plain.{Plain, nil, bool, int, text, list, hash, site_item, range}
 use Rattle.site_base.specs.declared.faults.FaultKind.{FaultKind}
 use Rattle.site_base.specs.declared.faults.FaultKind.TheVariants.{Overflow, Fraction}
+use Rattle.site_text.specs.Bytes.{is_digit}
 
 abbrev pub fits_i64 : ℤ → Bool
 fits_i64 (pos n) = nat_lt n (2 ^ 63)
@@ -13,9 +14,6 @@ fits_i64 (negsuc n) = nat_lt n (2 ^ 63)
 -- the number, where an i64 holds it
 abbrev pub fitting : ℤ → Result ℤ FaultKind
 fitting n = if fits_i64 n then Ok n else Err Overflow
-
-abbrev pub is_digit : ℕ → Bool
-is_digit c = nat_le 48 c && nat_le c 57
 
 abbrev pub is_digits : List ℕ → Bool
 is_digits t = not (length t == 0) && list_all is_digit t

@@ -1,4 +1,4 @@
--- The table of the filters: the name of each, and what it means.
+-- The table of the filters: the name of each, and what it means. After the reference of Liquid 4 (Shopify), "Filters".
 use Rattle.std.specs.Prelude.{ℕ, ℤ, List, [], ◌∷◌, codes, Option, Result, Ok}
 use Rattle.std.specs.Map.{lookup}
 use Rattle.std.specs.Str.{bytes_eq}

@@ -1,4 +1,4 @@
--- The filters of texts that take arguments.
+-- The filters of texts that take arguments. After the reference of Liquid 4 (Shopify), "Filters".
 use Rattle.std.specs.Prelude.{List, ◌++◌, Result, Ok}
 use Rattle.site_base.specs.Chains.{◌>>=◌}
 use Rattle.site_base.specs.Plain.{Plain, text}

@@ -3,9 +3,10 @@ ghost use Rattle.std.specs.Prelude.{◌≡◌, ◌<◌, ◌≤◌, ◌++◌, ◌
 ghost use Rattle.std.specs.List.{prefix_len};
 ghost use Rattle.std.specs.Str.{IsCharBoundary};
 ghost use Rattle.std.specs.String.{string_bytes};
-ghost use Rattle.liquid_filters.specs.Numerals.{is_digit};
-ghost use Rattle.liquid_filters.specs.Marks.{is_letter, escape, begins_semicolon, is_reference, escape_once, line_break, line_end, mark_at, marked_after, marked, found_of};
+ghost use Rattle.site_text.specs.Bytes.{is_digit, is_letter};
+ghost use Rattle.liquid_filters.specs.Marks.{escape, begins_semicolon, is_reference, escape_once, line_break, line_end, mark_at, marked_after, marked, found_of};
 
+use site_text::{Class, class_run, is_letter};
 use std::alloc::{AllocError, Global};
 
 /// What something else stands for.
@@ -124,12 +125,6 @@ fn is_reference(text: &[u8]) -> bool
     }
 }
 
-fn is_letter(byte: u8) -> bool
-    ensures { result ≡ is_letter byte }
-{
-    64 < byte && byte < 91 || 96 < byte && byte < 123
-}
-
 fn letters_len(text: &[u8]) -> usize
     ensures value { result ≡ prefix_len is_letter text.now }
     ensures within { result ≤ length text.now }
@@ -137,17 +132,11 @@ fn letters_len(text: &[u8]) -> usize
     text.iter().take_while(|byte| is_letter(**byte)).count()
 }
 
-fn is_digit(byte: u8) -> bool
-    ensures { result ≡ is_digit byte }
-{
-    48 <= byte && byte <= 57
-}
-
 fn digits_len(text: &[u8]) -> usize
     ensures value { result ≡ prefix_len is_digit text.now }
     ensures within { result ≤ length text.now }
 {
-    text.iter().take_while(|byte| is_digit(**byte)).count()
+    class_run(Class::Digit, text)
 }
 
 // Whether there are some bytes at the front, and `;` stands behind them.

@@ -3,7 +3,8 @@ ghost use Rattle.std.specs.Prelude.{◌≡◌};
 ghost use Rattle.std.specs.List.{list_all};
 ghost use Rattle.std.specs.Str.Parse.{IsNumeral, without_leading_sign, signed_digits_value};
 ghost use Rattle.site_base.specs.View.{plain};
-ghost use Rattle.liquid_filters.specs.Numerals.{fitting, is_digit, is_digits, without_dash, is_whole, is_decimal, text_number, num};
+ghost use Rattle.site_text.specs.Bytes.{is_digit};
+ghost use Rattle.liquid_filters.specs.Numerals.{fitting, is_digits, without_dash, is_whole, is_decimal, text_number, num};
 
 use site_base::{FaultKind, Value};
 

@@ -1,4 +1,4 @@
-use Rattle.std.proofs.Common.{◌≡◌, ◌∙◌, ap, sym}
+use Rattle.std.proofs.Common.{◌∙◌, ap, sym}
 use Rattle.std.specs.String.{string_bytes}
 use Rattle.liquid_filters.specs.Marks.{mark_at}
 use Rattle.liquid_filters.proofs.MarkLaws.{Fits, mark_fits, cut_after, pushed_mark}
