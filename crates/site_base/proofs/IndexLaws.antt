@@ -1,5 +1,5 @@
--- The index of a hash that grows.
-use Rattle.std.proofs.Common.{◌≡◌, ℕ, suc, ◌+◌, ◌<◌, ◌≤◌, ◌==◌, cond, List, [], ◌∷◌, ◌++◌, length, get_or, refl, ap, arith, Some, None, nat_lt, sym, ◌∙◌, true, zero, take, rules, eq-eqb}
+-- The index of a hash of many pairs.
+use Rattle.std.proofs.Common.{◌≡◌, ℕ, suc, ◌+◌, ◌<◌, ◌≤◌, ◌==◌, cond, List, [], ◌∷◌, ◌++◌, length, get_or, refl, ap, arith, Some, None, nat_lt, sym, ◌∙◌, Bool, true, false, IsTrue, ◌↔◌, zero, take, rules, eq-eqb}
 use Rattle.std.specs.Option.{option_or}
 use Rattle.std.specs.List.{position, position_or_len}
 use Rattle.std.specs.Str.{bytes_eq}
@@ -58,6 +58,11 @@ pub first_has_key : (key : List ℕ) (ps : List Pair) (i : ℕ) (d : Pair) → S
 first_has_key key ps i d e same =
     let back : bytes_eq key (get_or ps i d).key ≡ true = search (rules, bytes_eq-Decides) in
     present (print_place (fingerprint key) ps) (length ps) (place key ps) i e (λ lt. place_upto key ps i d lt back) (print_before key ps)
+
+-- where the map has entries
+pub some_noted : (b : Bool) (n : ℕ) → IsTrue b ↔ (n ≡ 0) → b ≡ false → 0 < n
+some_noted b zero e f = absurd (cc (e.1 refl, f))
+some_noted b (suc n) e f = omega arith
 
 -- the index of one pair more
 pub index_more : (ps : List Pair) (i : ℕ) (d : Pair) (m n : BTreeMap ℕ ℕ) → i < length ps → IsIndex (take i ps) m

@@ -74,19 +74,19 @@ items_end : (vs : List Value) (i : ℕ) (s : Option (List ℕ)) → length vs �
 items_end vs i s le = rw (drop_all i vs le) (sym (past_nothing s))
 
 -- what is past a whole list: a head, and its items one after another
-pub past_list : (vs : List Value) (is : Items) (us : List Value) (i n : ℕ) (bytes head rest : Option (List ℕ)) → items_of vs ≡ is → us ≡ vs → n ≡ count is
+pub past_list : (is : Items) (us : List Value) (i n : ℕ) (bytes head rest : Option (List ℕ)) → items_of us ≡ is → n ≡ count is
     → head ≡ past (108 ∷ (decimal n ++ 58 ∷ [])) bytes → length us ≤ i → past (items_code (items_of (drop i us))) rest ≡ past (items_code (items_of us)) head
     → rest ≡ past (code (list is)) bytes
-past_list vs is us i n bytes head rest view same counted begun done kept =
+past_list is us i n bytes head rest seen counted begun done kept =
     items_end us i rest done ∙ kept ∙ ap (past (items_code (items_of us))) (begun ∙ ap (λ m. past (108 ∷ (decimal m ++ 58 ∷ [])) bytes) counted)
-    ∙ ap (λ js. past (items_code js) (past (108 ∷ (decimal (count is) ++ 58 ∷ [])) bytes)) (ap items_of same ∙ view) ∙ past_parts 108 (decimal (count is)) (items_code is) bytes
+    ∙ ap (λ js. past (items_code js) (past (108 ∷ (decimal (count is) ++ 58 ∷ [])) bytes)) seen ∙ past_parts 108 (decimal (count is)) (items_code is) bytes
 
 pairs_end : (ps : List Pair) (i : ℕ) (s : Option (List ℕ)) → length ps ≤ i → s ≡ past (pairs_code (pairs_of (drop i ps))) s
 pairs_end ps i s le = rw (drop_all i ps le) (sym (past_nothing s))
 
-pub past_hash : (vs : List Pair) (is : Pairs) (us : List Pair) (i n : ℕ) (bytes head rest : Option (List ℕ)) → pairs_of vs ≡ is → us ≡ vs → n ≡ count_pairs is
+pub past_hash : (is : Pairs) (us : List Pair) (i n : ℕ) (bytes head rest : Option (List ℕ)) → pairs_of us ≡ is → n ≡ count_pairs is
     → head ≡ past (104 ∷ (decimal n ++ 58 ∷ [])) bytes → length us ≤ i → past (pairs_code (pairs_of (drop i us))) rest ≡ past (pairs_code (pairs_of us)) head
     → rest ≡ past (code (hash is)) bytes
-past_hash vs is us i n bytes head rest view same counted begun done kept =
+past_hash is us i n bytes head rest seen counted begun done kept =
     pairs_end us i rest done ∙ kept ∙ ap (past (pairs_code (pairs_of us))) (begun ∙ ap (λ m. past (104 ∷ (decimal m ++ 58 ∷ [])) bytes) counted)
-    ∙ ap (λ js. past (pairs_code js) (past (104 ∷ (decimal (count_pairs is) ++ 58 ∷ [])) bytes)) (ap pairs_of same ∙ view) ∙ past_parts 104 (decimal (count_pairs is)) (pairs_code is) bytes
+    ∙ ap (λ js. past (pairs_code js) (past (104 ∷ (decimal (count_pairs is) ++ 58 ∷ [])) bytes)) seen ∙ past_parts 104 (decimal (count_pairs is)) (pairs_code is) bytes

@@ -1,5 +1,5 @@
 -- What a value is: the plain tree that every contract sees in its place.
-use Rattle.std.specs.Prelude.{ℕ, suc, ◌+◌, ℤ, Bool, List, [], ◌∷◌, Option, Some, None, is_some, if◌then◌else◌}
+use Rattle.std.specs.Prelude.{ℕ, suc, ◌+◌, ◌*◌, ℤ, Bool, List, [], ◌∷◌, Option, Some, None, is_some, if◌then◌else◌}
 use Rattle.std.specs.Str.{bytes_eq}
 
 mutual
@@ -83,3 +83,14 @@ abbrev mutual
   pub pairs_weight : Pairs → ℕ
   pairs_weight no_pairs = 1
   pairs_weight (pair k v ps) = weight v + pairs_weight ps + 1
+
+-- and through what holds them: a hash is larger than its body, which has the same pairs
+
+abbrev pub list_size : Items → ℕ
+list_size is = 2 * items_weight is + 1
+
+abbrev pub body_size : Pairs → ℕ
+body_size ps = 2 * pairs_weight ps
+
+abbrev pub hash_size : Pairs → ℕ
+hash_size ps = 2 * pairs_weight ps + 1

@@ -1,26 +1,29 @@
 // Values, as front matter, data and templates have them.
+mod body;
 mod coding;
-mod copies;
 mod equality;
-mod growing;
 mod growth;
+mod index;
 mod lookups;
 mod matching;
 mod room;
+mod sharing;
 mod writing;
 
 pub use coding::code;
-pub use copies::copy;
 pub use equality::{Unlike, compare, equals, is_true};
-pub use growing::GrowingHash;
 pub use matching::same_code;
+pub use sharing::share;
 pub use writing::value_text;
 
 #[cfg(test)]
 mod tests;
 
 use crate::{ItemName, Text};
+use std::alloc::Global;
+use std::collections::BTreeMap;
 use std::marker::Model;
+use std::sync::Arc;
 
 /// A value. Contracts see it as its plain tree.
 #[derive(Drop)]
@@ -38,11 +41,22 @@ pub enum Value {
     Range(i64, i64),
 }
 
-/// A list of values.
+/// A list of values. Of one that was made by `into_shared` further holders take little more.
 #[derive(Drop)]
 #[cycle(value)]
 pub struct List {
-    items: Vec<Value>,
+    place: ListPlace,
+    alloc: Global,
+}
+
+// Where the values of a list stand.
+#[derive(Drop)]
+#[cycle(value)]
+enum ListPlace {
+    Nowhere,
+    Own(Box<Vec<Value>>),
+    // With other holders, perhaps.
+    Shared(Arc<Vec<Value>>),
 }
 
 /// A key of a hash, with its value.
@@ -53,12 +67,35 @@ pub struct Pair {
     pub value: Value,
 }
 
-/// Values by key, in an order.
+/// Values by key, in an order. Where there are many that were set one by one, a look-up takes hardly longer than where there are
+/// few, as long as few keys share a fingerprint. Of a hash that was made by `into_shared` further holders take little more.
 #[derive(Drop)]
 #[cycle(value)]
 pub struct Hash {
-    pairs: Vec<Pair>,
+    place: HashPlace,
+    alloc: Global,
 }
+
+// Where the pairs of a hash stand.
+#[derive(Drop)]
+#[cycle(value)]
+enum HashPlace {
+    Nowhere,
+    Own(Box<HashBody>),
+    // With other holders, perhaps.
+    Shared(Arc<HashBody>),
+}
+
+// The pairs of a hash, and what finds one where many were set.
+#[derive(Drop)]
+#[cycle(value)]
+pub(crate) struct HashBody {
+    pairs: Vec<Pair>,
+    // Nothing, or the place of the first pair with each fingerprint of a key.
+    places: BTreeMap<u64, usize>,
+}
+
+const _: () = prove!(size_of::<List>() == 16 && size_of::<Hash>() == 16);
 
 const _: () = prove!(size_of::<Value>() == 32);
 
@@ -72,16 +109,41 @@ impl Model for List {
 
     ghost coded = { flat_items };
 
-    ghost use Rattle.site_base.specs.Plain.{items_weight};
-    ghost use Rattle.site_base.specs.View.{items_of};
+    ghost use Rattle.site_base.specs.View.{items_at};
 
-    ghost view = { λ l. items_of l.items.items };
+    ghost view = { λ l. items_at l.place };
 
-    ghost size = { items_weight };
+    ghost use Rattle.site_base.specs.Plain.{list_size};
 
-    ghost use Rattle.site_base.specs.Sizes.{items_fall};
+    ghost size = { list_size };
 
-    ghost size_decreases = { λ a h. items_fall a.items.items };
+    ghost use Rattle.site_base.specs.Sizes.{list_falls};
+
+    ghost size_decreases = { λ a h. list_falls a.place };
+}
+
+impl Model for HashBody {
+    ghost use Rattle.site_base.specs.Plain.{Pairs};
+    ghost use Rattle.site_base.specs.Flat.{flat_pairs};
+
+    ghost Value = { Pairs };
+
+    ghost coded = { flat_pairs };
+
+    ghost use Rattle.site_base.specs.View.{pairs_of};
+    ghost use Rattle.site_base.specs.Fingerprints.{IsIndexed};
+
+    ghost view = { λ b. pairs_of b.pairs.items };
+
+    ghost invariant = { λ b. IsIndexed b.pairs.items b.places };
+
+    ghost use Rattle.site_base.specs.Plain.{body_size};
+
+    ghost size = { body_size };
+
+    ghost use Rattle.site_base.specs.Sizes.{body_falls};
+
+    ghost size_decreases = { λ a h. body_falls a.pairs.items };
 }
 
 impl Model for Hash {
@@ -92,14 +154,15 @@ impl Model for Hash {
 
     ghost coded = { flat_pairs };
 
-    ghost use Rattle.site_base.specs.Plain.{pairs_weight};
-    ghost use Rattle.site_base.specs.View.{pairs_of};
+    ghost use Rattle.site_base.specs.View.{pairs_at};
 
-    ghost view = { λ h. pairs_of h.pairs.items };
+    ghost view = { λ h. pairs_at h.place };
 
-    ghost size = { pairs_weight };
+    ghost use Rattle.site_base.specs.Plain.{hash_size};
 
-    ghost use Rattle.site_base.specs.Sizes.{pairs_fall};
+    ghost size = { hash_size };
 
-    ghost size_decreases = { λ a h. pairs_fall a.pairs.items };
+    ghost use Rattle.site_base.specs.Sizes.{hash_falls};
+
+    ghost size_decreases = { λ a h. hash_falls a.place };
 }

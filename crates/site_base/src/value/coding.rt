@@ -81,7 +81,7 @@ impl List {
         out.push_str("l")?;
         push_decimal(self.len(), out)?;
         out.push_str(":")?;
-        for value in &self.items {
+        for value in self.as_slice() {
             push_code(value, out)?;
         }
         Ok(())
@@ -96,7 +96,7 @@ impl Hash {
         out.push_str("h")?;
         push_decimal(self.len(), out)?;
         out.push_str(":")?;
-        for pair in &self.pairs {
+        for pair in self.as_slice() {
             push_text(pair.key.as_str(), out)?;
             push_code(&pair.value, out)?;
         }

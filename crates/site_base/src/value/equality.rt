@@ -59,7 +59,7 @@ impl List {
     fn is_same(&self, other: &List) -> bool
         ensures { IsTrue result ↔ (self.now ≡ other.now) }
     {
-        are_same(self.items.as_slice(), other.items.as_slice())
+        are_same(self.as_slice(), other.as_slice())
     }
 }
 
@@ -68,7 +68,7 @@ impl Hash {
     fn is_same(&self, other: &Hash) -> bool
         ensures { IsTrue result ↔ (self.now ≡ other.now) }
     {
-        are_same_pairs(self.pairs.as_slice(), other.pairs.as_slice())
+        are_same_pairs(self.as_slice(), other.as_slice())
     }
 }
 

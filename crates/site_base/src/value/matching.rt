@@ -42,7 +42,7 @@ impl List {
         ensures { option_copied result ≡ past (code (list self.now)) (option_copied bytes.entry) }
     {
         let mut rest = past_head(b'l', self.len(), bytes);
-        for value in &self.items {
+        for value in self.as_slice() {
             rest = past_value(value, rest);
         }
         rest
@@ -55,7 +55,7 @@ impl Hash {
         ensures { option_copied result ≡ past (code (hash self.now)) (option_copied bytes.entry) }
     {
         let mut rest = past_head(b'h', self.len(), bytes);
-        for pair in &self.pairs {
+        for pair in self.as_slice() {
             rest = past_value(&pair.value, past_text(pair.key.as_str(), rest));
         }
         rest

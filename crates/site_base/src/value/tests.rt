@@ -1,7 +1,7 @@
 // What the calls on values answer for rows of them.
 use crate::{
-    GrowingHash, Hash, ItemName, List, SitePath, Text, Unlike, Value, code, compare, copy, equals,
-    is_true, same_code, value_text,
+    Hash, ItemName, List, SitePath, Text, Unlike, Value, code, compare, equals, is_true, same_code,
+    share, value_text,
 };
 use std::alloc::Global;
 use std::cmp::Ordering;
@@ -52,39 +52,49 @@ fn sets_and_gets_by_key(rt: HostRuntime) {
     assert!(rt; first_key(&hash) == "a" && number(hash.get("a")) == Some(1));
 }
 
-fn grow(alloc: Global, growing: &mut GrowingHash, turn: i64) -> Option<()> {
-    for number in 0..40 {
+fn set_keys(alloc: Global, hash: &mut Hash, turn: i64) -> Option<()> {
+    for number in 0..100 {
         let key = format!(in alloc; "key {number}").ok()?;
-        growing
-            .set(Text::from_string(key).ok()?, Value::Int(turn))
+        hash.set(Text::from_string(key).ok()?, Value::Int(turn))
             .ok()?;
     }
     Some(())
 }
 
-// Forty keys, each set twice, so that the later half of them has an index.
-fn grown(alloc: Global) -> Option<Hash> {
-    let mut growing = GrowingHash::new(alloc);
-    grow(alloc, &mut growing, 0)?;
-    grow(alloc, &mut growing, 1)?;
-    Some(growing.finish())
+// A hundred keys, each set twice, so that the later of them are found by an index.
+fn hash_of_many(alloc: Global) -> Option<Hash> {
+    let mut hash = Hash::new(alloc);
+    set_keys(alloc, &mut hash, 0)?;
+    set_keys(alloc, &mut hash, 1)?;
+    Some(hash)
+}
+
+fn takes_once(hash: &mut Hash, key: &str) -> bool {
+    let Ok(taken) = hash.take(key) else {
+        return false;
+    };
+    number(taken.as_ref()) == Some(1) && matches!(hash.get(key), Some(Value::Nil))
 }
 
 #[test]
-fn grows_by_many_keys(rt: HostRuntime) {
-    match grown(rt.alloc()) {
-        Some(hash) => {
-            assert!(rt; hash.len() == 40);
-            assert!(rt; number(hash.get("key 39")) == Some(1));
+fn finds_one_of_many_keys(rt: HostRuntime) {
+    match hash_of_many(rt.alloc()) {
+        Some(mut hash) => {
+            assert!(rt; hash.len() == 100);
+            assert!(rt; number(hash.get("key 99")) == Some(1));
             assert!(rt; number(hash.get("key 7")) == Some(1));
+            assert!(rt; hash.get("key 100").is_none());
+            assert!(rt; takes_once(&mut hash, "key 42") && hash.len() == 100);
         }
         None => assert!(rt; false, "no hash"),
     }
 }
 
 fn takes(hash: &mut Hash, key: &str, want: &str) -> bool {
-    let taken = hash.take(key);
-    shown(taken.as_ref()) == want
+    match hash.take(key) {
+        Ok(taken) => shown(taken.as_ref()) == want,
+        Err(_) => false,
+    }
 }
 
 #[test]
@@ -121,6 +131,39 @@ fn adds_at_the_end(rt: HostRuntime) {
     }
 }
 
+// A shared list that one holder adds to, and the other.
+fn pushes_alone(alloc: Global) -> Option<bool> {
+    let Some(Value::List(list)) = list_of_three(alloc) else {
+        return None;
+    };
+    let mut changed = list.into_shared().ok()?;
+    let other = changed.share(alloc).ok()?;
+    changed.push(text(alloc, "b")?).ok()?;
+    Some(changed.len() == 4 && last(&changed) == "b" && other.len() == 3 && last(&other) == "a")
+}
+
+// A shared hash of which one holder sets a key and takes one, and the other.
+fn changes_alone(alloc: Global) -> Option<bool> {
+    let mut changed = hash_of_many(alloc)?.into_shared().ok()?;
+    let other = changed.share(alloc).ok()?;
+    changed
+        .set(Text::copy(alloc, "key 3").ok()?, Value::Int(2))
+        .ok()?;
+    let taken = changed.take("key 5").ok()?;
+    changed
+        .push(Text::copy(alloc, "key 100").ok()?, Value::Int(3))
+        .ok()?;
+    let kept = number(other.get("key 3")) == Some(1) && number(other.get("key 5")) == Some(1);
+    let set = number(changed.get("key 3")) == Some(2) && number(changed.get("key 100")) == Some(3);
+    Some(kept && set && number(taken.as_ref()) == Some(1) && other.len() == 100)
+}
+
+#[test]
+fn changes_of_one_holder_leave_the_others(rt: HostRuntime) {
+    assert!(rt; pushes_alone(rt.alloc()) == Some(true));
+    assert!(rt; changes_alone(rt.alloc()) == Some(true));
+}
+
 // A list of a hash with a list in it, of a truth, and of an item.
 fn sample(alloc: Global) -> Option<Value> {
     let mut hash = Hash::new(alloc);
@@ -148,9 +191,16 @@ fn has_code(alloc: Global, value: &Value, want: &[u8]) -> bool {
     }
 }
 
-fn is_copied(alloc: Global, value: &Value) -> bool {
-    match copy(alloc, value) {
-        Ok(copy) => equals(value, &copy),
+// A share of a value, and one of what it is once it can be shared.
+fn is_shared(alloc: Global, value: &Value) -> bool {
+    let Ok(owned) = share(alloc, value) else {
+        return false;
+    };
+    let Ok(holder) = owned.into_shared() else {
+        return false;
+    };
+    match share(alloc, &holder) {
+        Ok(other) => equals(value, &holder) && equals(value, &other),
         Err(_) => false,
     }
 }
@@ -163,7 +213,7 @@ fn is_written(alloc: Global, value: Option<Value>, shown: &str, written: &str) -
         && has_code(alloc, &value, written.as_bytes())
         && same_code(&value, written.as_bytes())
         && !same_code(&value, b"n;")
-        && is_copied(alloc, &value)
+        && is_shared(alloc, &value)
 }
 
 #[test]

@@ -38,7 +38,7 @@ impl List {
     fn push_text(&self, out: &mut String) -> Result<(), Memory>
         ensures { OnOk result (string_bytes out.new ≡ string_bytes out.old ++ items_text self.now) }
     {
-        for value in &self.items {
+        for value in self.as_slice() {
             push_text(value, out)?;
         }
         Ok(())

@@ -5,7 +5,7 @@ use Rattle.site_base.specs.Plain.{get}
 use Rattle.site_base.specs.View.{plain}
 use Rattle.site_base.specs.declared.value.Pair.{Pair}
 use Rattle.site_base.proofs.ValueLaws.{get_found, get_missing}
-use Rattle.site_base.proofs.value.Hash.get.Goals as goal
+use Rattle.site_base.proofs.value.HashBody.get.Goals as goal
 
 pub returns-in-Some : goal.returns-in-Some
 returns-in-Some c =

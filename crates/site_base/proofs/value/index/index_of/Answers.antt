@@ -5,7 +5,7 @@ use Rattle.std.specs.BTreeMap.{get}
 use Rattle.site_base.specs.Fingerprints.{fingerprint}
 use Rattle.site_base.specs.declared.value.Pair.{Pair}
 use Rattle.site_base.proofs.IndexLaws.{index_more}
-use Rattle.site_base.proofs.value.growing.note_all.Goals as goal
+use Rattle.site_base.proofs.value.index.index_of.Goals as goal
 
 pub loop-place-preserved : goal.loop-place-preserved
 loop-place-preserved c =

@@ -1,6 +1,6 @@
 use Rattle.std.proofs.Common.{take}
 use Rattle.site_base.specs.Fingerprints.{IsIndex}
-use Rattle.site_base.proofs.value.growing.note_all.Given as goal
+use Rattle.site_base.proofs.value.index.index_of.Given as goal
 
 abbrev pub invariant-loop-place : goal.invariant-loop-place
 invariant-loop-place l = IsIndex (take l.place l.pairs) l.places

@@ -1,5 +1,5 @@
 use Rattle.site_base.specs.Fingerprints.{fingerprint}
-use Rattle.site_base.proofs.value.growing.fingerprint.Goals as goal
+use Rattle.site_base.proofs.value.index.fingerprint.Goals as goal
 
 pub returns : goal.returns
 unfolding fingerprint

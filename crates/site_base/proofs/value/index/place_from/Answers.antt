@@ -1,7 +1,7 @@
 use Rattle.std.proofs.Common.{ap, sym, ◌∙◌}
 use Rattle.std.specs.Str.{bytes_eq}
 use Rattle.site_base.proofs.IndexLaws.{first_has_key}
-use Rattle.site_base.proofs.value.growing.place_from.Goals as goal
+use Rattle.site_base.proofs.value.index.place_from.Goals as goal
 
 pub returns-then-eq : goal.returns-then-eq
 returns-then-eq c =

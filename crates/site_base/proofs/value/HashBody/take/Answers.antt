@@ -7,7 +7,7 @@ use Rattle.site_base.specs.View.{plain, pairs_of}
 use Rattle.site_base.specs.declared.value.Pair.{Pair}
 use Rattle.site_base.specs.declared.value.Value.{Value}
 use Rattle.site_base.proofs.ValueLaws.{pair_of, get_found, get_missing, taken_found, taken_missing}
-use Rattle.site_base.proofs.value.Hash.take.Goals as goal
+use Rattle.site_base.proofs.value.HashBody.take.Goals as goal
 
 pub returns-in-Some-clause-value : goal.returns-in-Some-clause-value
 returns-in-Some-clause-value c =
