@@ -15,7 +15,7 @@ use crate::line_leaves::{leaf_lines, scalar_lines};
 use crate::line_runs::{before_item, before_pair, belonging, first_lines, idle_lines, lines_after};
 use crate::scans::{dash_len, is_dash, is_empty, starts, tail, white_len};
 use crate::text_lines::TextLine;
-use site_base::{GrowingHash, Hash, List, Text, Value, YamlKind};
+use site_base::{Hash, List, Text, Value, YamlKind};
 use std::alloc::Global;
 
 // The value of lines whose first carries something; the other lines have the indent `floor` at least, if they carry
@@ -90,7 +90,7 @@ fn mapping<'l, 'a>(
     ensures { ReadsLines result (mapping_pairs depth (block depth) (indent head.now) head.now body.now) }
 {
     let indent = head.indent();
-    let mut pairs = GrowingHash::new(alloc);
+    let mut pairs = Hash::new(alloc);
     let mut first = head;
     let mut rest = body;
     loop {
@@ -101,7 +101,7 @@ fn mapping<'l, 'a>(
         };
         put(&mut pairs, name, value)?;
         if more >= rest.len() {
-            return Ok(pairs.finish());
+            return Ok(pairs);
         }
         first = &rest[more];
         rest = lines_after(rest, more + 1);

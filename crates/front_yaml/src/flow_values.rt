@@ -11,7 +11,7 @@ use crate::flow_scalars::{key, scalar};
 use crate::gaps::skip;
 use crate::growth::put;
 use crate::scans::{starts, tail};
-use site_base::{GrowingHash, Hash, List, Text, Value, YamlKind};
+use site_base::{Hash, List, Text, Value, YamlKind};
 use std::alloc::Global;
 
 // The value at the front, in which some more lists and hashes may nest, and its bytes.
@@ -130,14 +130,14 @@ fn pairs(alloc: Global, depth: u32, text: &[u8]) -> Result<(Hash, usize), PlaceE
     ensures value { ReadsAt result (hash_pairs (node (collection depth)) text.now) }
     ensures within { Fits (length text.now) result }
 {
-    let mut pairs = GrowingHash::new(alloc);
+    let mut pairs = Hash::new(alloc);
     let mut n = 0;
     while n < text.len() {
         match pair_part(alloc, depth, tail(text, n)) {
-            Ok(Part::Shut(len)) => return Ok((pairs.finish(), n + len + 1)),
+            Ok(Part::Shut(len)) => return Ok((pairs, n + len + 1)),
             Ok(Part::Last(pair, len)) => {
                 put(&mut pairs, pair.0, pair.1)?;
-                return Ok((pairs.finish(), n + len + 1));
+                return Ok((pairs, n + len + 1));
             }
             Ok(Part::More(pair, len)) => {
                 put(&mut pairs, pair.0, pair.1)?;

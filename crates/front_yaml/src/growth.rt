@@ -4,7 +4,7 @@ ghost use Rattle.site_base.specs.Plain.{set};
 ghost use Rattle.site_base.specs.View.{plain};
 ghost use Rattle.front_yaml.specs.Bytes.{repeated};
 
-use site_base::{GrowingHash, Memory, Text, Value};
+use site_base::{Hash, Memory, Text, Value};
 use std::alloc::Global;
 
 /// Adds bytes at the end.
@@ -29,7 +29,7 @@ pub(crate) fn append_repeated(out: &mut Vec<u8>, times: usize, byte: u8) -> Resu
 }
 
 /// Gives a key this value, in place of one that it has.
-pub(crate) fn put(pairs: &mut GrowingHash, key: Text, value: Value) -> Result<(), Memory>
+pub(crate) fn put(pairs: &mut Hash, key: Text, value: Value) -> Result<(), Memory>
     ensures { OnOk result (pairs.new ≡ set key (plain value) pairs.old) }
 {
     pairs.set(key, value)

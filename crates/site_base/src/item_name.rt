@@ -12,6 +12,8 @@ pub struct ItemName {
     pub part: u32,
 }
 
+const _: () = prove!(size_of::<ItemName>() == 16);
+
 impl ItemName {
     pub fn copy(&self, alloc: Global) -> Result<ItemName, Memory>
         ensures { IfOk result (λ name. name ≡ self.now) }

@@ -1,7 +1,9 @@
 // Paths of a site.
 ghost use Rattle.std.specs.Prelude.{◌≡◌, ◌⊎◌, List, ℕ, MatchResult, Some, None, IfOk};
 ghost use Rattle.std.specs.Prelude.{nat_eq};
+ghost use Rattle.std.specs.Arc.{arc_value};
 ghost use Rattle.std.specs.Ordering.{nat_cmp};
+ghost use Rattle.std.specs.String.{string_bytes};
 ghost use Rattle.std.specs.Cmp.{partial_equiv_from_equiv};
 ghost use Rattle.std.specs.Cmp.Lexicographic.{pointwise, slice_cmp, nat_list_eq_equiv, nat_list_cmp_total, texts_ties, texts_po};
 ghost use Rattle.std.proofs.Common.{rules};
@@ -11,6 +13,7 @@ use crate::{Memory, Text};
 use std::alloc::Global;
 use std::cmp::Ordering;
 use std::marker::Model;
+use std::sync::Arc;
 use thiserror::Error;
 
 /// Why a text is no path. The reasons are tested in this order.
@@ -32,21 +35,25 @@ pub enum PathError {
     Memory,
 }
 
-/// A relative path of segments between `/`, which clauses see as its bytes.
+/// A relative path of segments between `/`, which clauses see as its bytes. It has eight bytes; its holders share what it points to.
 #[derive(Drop)]
 pub struct SitePath {
-    text: Text,
+    text: Arc<String>,
 }
 
+const _: () = prove!(size_of::<SitePath>() == 8);
+
 impl Model for SitePath {
+    ghost use Rattle.std.specs.Arc.{arc_value};
     ghost use Rattle.std.specs.Prelude.{List, ℕ};
+    ghost use Rattle.std.specs.String.{string_bytes};
     ghost use Rattle.site_base.specs.Path.{IsSitePath};
 
     ghost Value = { List ℕ };
 
-    ghost view = { λ a. a.text };
+    ghost view = { λ a. string_bytes (arc_value a.text) };
 
-    ghost invariant = { λ a. IsSitePath a.text };
+    ghost invariant = { λ a. IsSitePath (string_bytes (arc_value a.text)) };
 }
 
 impl SitePath {
@@ -60,17 +67,17 @@ impl SitePath {
         if let Some(refusal) = refusal(text.as_bytes()) {
             return Err(refusal);
         }
-        match Text::shared(alloc, text) {
+        match shared(alloc, text) {
             Ok(text) => Ok(SitePath { text }),
             Err(Memory) => Err(PathError::Memory),
         }
     }
 
-    /// The path as a text that can be shared.
-    pub fn as_text(&self) -> &Text
-        ensures { result.now ≡ self.now }
+    /// The path as a text, which is a further holder of it.
+    pub fn to_text(&self, alloc: Global) -> Result<Text, Memory>
+        ensures { IfOk result (λ text. text ≡ self.now) }
     {
-        &self.text
+        Ok(Text::from_holder(alloc, self.text.clone()?))
     }
 
     pub fn text(&self) -> &str
@@ -86,14 +93,13 @@ impl SitePath {
         self.text.as_bytes()
     }
 
-    /// A further holder of the path. Where it has more than 14 bytes, they are not copied.
-    pub fn copy(&self, alloc: Global) -> Result<SitePath, Memory>
+    /// A further holder of the path. Nothing is copied.
+    pub fn copy(&self, _alloc: Global) -> Result<SitePath, Memory>
         ensures { IfOk result (λ path. path ≡ self.now) }
     {
-        match self.text.share(alloc) {
-            Ok(text) => Ok(SitePath { text }),
-            Err(Memory) => Err(Memory),
-        }
+        Ok(SitePath {
+            text: self.text.clone()?,
+        })
     }
 }
 
@@ -133,6 +139,13 @@ impl Ord for SitePath {
     fn cmp(&self, other: &Self) -> Ordering {
         self.as_bytes().cmp(other.as_bytes())
     }
+}
+
+// A text that can have further holders.
+fn shared(alloc: Global, text: &str) -> Result<Arc<String>, Memory>
+    ensures { IfOk result (λ shared. string_bytes (arc_value shared) ≡ text.now) }
+{
+    Ok(Arc::new(alloc, String::from_str(alloc, text)?)?)
 }
 
 fn refusal(text: &[u8]) -> Option<PathError>

@@ -1,5 +1,6 @@
 // Texts, of which most are short.
 ghost use Rattle.std.specs.Prelude.{◌≡◌, ◌≤◌, ◌+◌, ◌↔◌, IsTrue, ◌++◌, [], IfOk, OnOk, OnErr, drop, length};
+ghost use Rattle.std.specs.Arc.{arc_value};
 ghost use Rattle.std.specs.String.{string_bytes};
 ghost use Rattle.site_base.specs.Texts.{text_at};
 
@@ -112,6 +113,16 @@ impl Text {
             place: Place::copy(alloc, text)?,
             alloc,
         })
+    }
+
+    /// The text of which this is a holder.
+    pub(crate) fn from_holder(alloc: Global, text: Arc<String>) -> Text
+        ensures { result ≡ string_bytes (arc_value text) }
+    {
+        Text {
+            place: Place::Shared(text),
+            alloc,
+        }
     }
 
     /// A copy that further holders can share.

@@ -97,9 +97,9 @@ pub(crate) struct HashBody {
 
 const _: () = prove!(size_of::<List>() == 16 && size_of::<Hash>() == 16);
 
-const _: () = prove!(size_of::<Value>() == 32);
+const _: () = prove!(size_of::<Value>() == 24);
 
-const _: () = prove!(size_of::<Pair>() == 48);
+const _: () = prove!(size_of::<Pair>() == 40);
 
 impl Model for List {
     ghost use Rattle.site_base.specs.Plain.{Items};

@@ -143,7 +143,7 @@ pub(crate) fn copy_hash(alloc: Global, value: Option<&Value>) -> Result<Hash, Me
     ensures { IfOk result (λ hash. hash ≡ pairs_in (given value.entry)) }
 {
     match value {
-        Some(Value::Hash(hash)) => hash.copy(alloc),
+        Some(Value::Hash(hash)) => hash.share(alloc),
         _ => Ok(Hash::new(alloc)),
     }
 }

@@ -3,7 +3,7 @@ ghost use Rattle.std.specs.Prelude.{◌≡◌, ◌≤◌, IfOk, OnOk, length, ma
 ghost use Rattle.std.specs.List.{position_or_len};
 ghost use Rattle.site_items.specs.Defaults.{by_strength, fits, is_for_path, is_for_type, is_stronger, set_all, strength, variables};
 
-use site_base::{GrowingHash, Hash, Memory, Text, copy};
+use site_base::{Hash, Memory, share};
 use site_config::Scope;
 use site_files::{covers, without_slash};
 use std::alloc::Global;
@@ -52,24 +52,21 @@ pub fn variables(
 ) -> Result<Hash, Memory>
     ensures { IfOk result (λ made. made ≡ variables (map (λ s. s.now) ordered.now) path.now type_name.now own.now) }
 {
-    let mut made = GrowingHash::new(alloc);
+    let mut made = Hash::new(alloc);
     for scope in ordered {
         if fits(scope, path, type_name) {
-            set_copies(alloc, &mut made, &scope.values)?;
+            set_shares(alloc, &mut made, &scope.values)?;
         }
     }
-    set_copies(alloc, &mut made, own)?;
-    Ok(made.finish())
+    set_shares(alloc, &mut made, own)?;
+    Ok(made)
 }
 
-fn set_copies(alloc: Global, under: &mut GrowingHash, values: &Hash) -> Result<(), Memory>
+fn set_shares(alloc: Global, under: &mut Hash, values: &Hash) -> Result<(), Memory>
     ensures { OnOk result (under.new ≡ set_all values.now under.old) }
 {
     for pair in values.as_slice() {
-        under.set(
-            Text::copy(alloc, pair.key.as_str())?,
-            copy(alloc, &pair.value)?,
-        )?;
+        under.set(pair.key.share(alloc)?, share(alloc, &pair.value)?)?;
     }
     Ok(())
 }

@@ -9,7 +9,7 @@ ghost use Rattle.site_items.specs.Labels.{add_name};
 use crate::cuts::cut_at;
 use crate::kind::Kind;
 use crate::labels::add_name;
-use site_base::{GrowingHash, Memory, Text};
+use site_base::{Hash, Memory, Text};
 use site_config::Config;
 use site_files::{extension, file_name, folder};
 use std::alloc::Global;
@@ -73,7 +73,7 @@ pub fn without_extension(path: &str) -> &str
 /// Adds the names of the folders above the folder `_posts` of a post that is below one.
 pub(crate) fn add_folders(
     alloc: Global,
-    names: &mut GrowingHash,
+    names: &mut Hash,
     kind: Kind,
     path: &str,
 ) -> Result<(), Memory>
@@ -85,7 +85,7 @@ pub(crate) fn add_folders(
     }
 }
 
-fn add_above_posts(alloc: Global, names: &mut GrowingHash, path: &str) -> Result<(), Memory>
+fn add_above_posts(alloc: Global, names: &mut Hash, path: &str) -> Result<(), Memory>
     ensures { OnOk result (names.new ≡ fold add_name names.old (above_posts (segments path.now))) }
 {
     let mut rest = path;

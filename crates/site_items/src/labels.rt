@@ -8,16 +8,12 @@ ghost use Rattle.site_config.specs.Forms.{given};
 ghost use Rattle.site_items.specs.Labels.{add_name, is_white, names_of_many, names_of_one, text_items};
 
 use crate::cuts::cut_word;
-use site_base::{GrowingHash, Hash, List, Memory, Text, Value, value_text};
+use site_base::{Hash, List, Memory, Text, Value, value_text};
 use std::alloc::Global;
 
 /// Adds the names that a value is: a text is one name, a list has its values' texts, nothing is no name, and any other value
 /// is its text.
-pub(crate) fn add_one(
-    alloc: Global,
-    names: &mut GrowingHash,
-    value: Option<&Value>,
-) -> Result<(), Memory>
+pub(crate) fn add_one(alloc: Global, names: &mut Hash, value: Option<&Value>) -> Result<(), Memory>
     ensures { OnOk result (names.new ≡ fold add_name names.old (names_of_one (given value.entry))) }
 {
     match value {
@@ -28,11 +24,7 @@ pub(crate) fn add_one(
 }
 
 /// Adds the names that a value is, where a text is its words.
-pub(crate) fn add_many(
-    alloc: Global,
-    names: &mut GrowingHash,
-    value: Option<&Value>,
-) -> Result<(), Memory>
+pub(crate) fn add_many(alloc: Global, names: &mut Hash, value: Option<&Value>) -> Result<(), Memory>
     ensures { OnOk result (names.new ≡ fold add_name names.old (names_of_many (given value.entry))) }
 {
     match value {
@@ -41,7 +33,7 @@ pub(crate) fn add_many(
     }
 }
 
-fn add_texts(alloc: Global, names: &mut GrowingHash, list: &List) -> Result<(), Memory>
+fn add_texts(alloc: Global, names: &mut Hash, list: &List) -> Result<(), Memory>
     ensures { OnOk result (names.new ≡ fold add_name names.old (map value_text (item_list list.now))) }
 {
     for value in list.as_slice() {
@@ -50,14 +42,14 @@ fn add_texts(alloc: Global, names: &mut GrowingHash, list: &List) -> Result<(), 
     Ok(())
 }
 
-fn add_text(alloc: Global, names: &mut GrowingHash, value: &Value) -> Result<(), Memory>
+fn add_text(alloc: Global, names: &mut Hash, value: &Value) -> Result<(), Memory>
     ensures { OnOk result (names.new ≡ add_name names.old (value_text (plain value.now))) }
 {
     add_name(names, value_text(alloc, value)?)
 }
 
 // The words of a text.
-fn add_words(alloc: Global, names: &mut GrowingHash, text: &str) -> Result<(), Memory>
+fn add_words(alloc: Global, names: &mut Hash, text: &str) -> Result<(), Memory>
     ensures { OnOk result (names.new ≡ fold add_name names.old (slice_split is_white text.now)) }
 {
     let mut rest = text;
@@ -69,7 +61,7 @@ fn add_words(alloc: Global, names: &mut GrowingHash, text: &str) -> Result<(), M
 }
 
 /// Adds a name that is not empty, once.
-pub(crate) fn add_name(names: &mut GrowingHash, name: Text) -> Result<(), Memory>
+pub(crate) fn add_name(names: &mut Hash, name: Text) -> Result<(), Memory>
     ensures { OnOk result (names.new ≡ add_name names.old name) }
 {
     if name.is_empty() {

@@ -12,7 +12,7 @@ use crate::kind::Kind;
 use crate::labels::{add_many, add_one, name_list};
 use crate::lookup::variable;
 use crate::titles::title;
-use site_base::{GrowingHash, Hash, Memory, Text, Value, value_text};
+use site_base::{Hash, Memory, Text, Value, value_text};
 use std::alloc::Global;
 
 /// Gives a document a slug and a title where its variables have none.
@@ -69,21 +69,21 @@ pub(crate) fn slug_of(alloc: Global, vars: &Hash) -> Result<Text, Memory>
 pub(crate) fn categories(alloc: Global, kind: Kind, path: &str, vars: &Hash) -> Result<Hash, Memory>
     ensures { IfOk result (λ names. names ≡ categories kind path.now vars.now) }
 {
-    let mut names = GrowingHash::new(alloc);
+    let mut names = Hash::new(alloc);
     add_folders(alloc, &mut names, kind, path)?;
     add_one(alloc, &mut names, variable(vars, "category"))?;
     add_many(alloc, &mut names, variable(vars, "categories"))?;
-    Ok(names.finish())
+    Ok(names)
 }
 
 /// The tags of a document, each once.
 pub(crate) fn tags(alloc: Global, vars: &Hash) -> Result<Hash, Memory>
     ensures { IfOk result (λ names. names ≡ tags vars.now) }
 {
-    let mut names = GrowingHash::new(alloc);
+    let mut names = Hash::new(alloc);
     add_one(alloc, &mut names, variable(vars, "tag"))?;
     add_many(alloc, &mut names, variable(vars, "tags"))?;
-    Ok(names.finish())
+    Ok(names)
 }
 
 /// Names as a value.

@@ -42,9 +42,14 @@ pub(crate) fn set_variables(
 fn set_placed(alloc: Global, vars: &mut Hash, path: &SitePath, url: &Text) -> Result<(), Memory>
     ensures { OnOk result (vars.new ≡ placed path.now url.now vars.old) }
 {
-    set_shared(alloc, vars, "path", path.as_text())?;
-    set_shared(alloc, vars, "relative_path", path.as_text())?;
-    set_shared(alloc, vars, "url", url)?;
+    set(alloc, vars, "path", Value::Text(path.to_text(alloc)?))?;
+    set(
+        alloc,
+        vars,
+        "relative_path",
+        Value::Text(path.to_text(alloc)?),
+    )?;
+    set(alloc, vars, "url", Value::Text(url.share(alloc)?))?;
     set_text(alloc, vars, "ext", extension(file_name(path.text())))
 }
 
@@ -122,12 +127,6 @@ fn has_end(url: &str) -> bool
         return false;
     }
     url.ends_with("/")
-}
-
-fn set_shared(alloc: Global, vars: &mut Hash, name: &str, value: &Text) -> Result<(), Memory>
-    ensures { OnOk result (vars.new ≡ set name.now (text value.now) vars.old) }
-{
-    set(alloc, vars, name, Value::Text(value.share(alloc)?))
 }
 
 fn set_text(alloc: Global, vars: &mut Hash, name: &str, value: &str) -> Result<(), Memory>

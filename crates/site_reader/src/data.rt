@@ -93,7 +93,7 @@ fn put_value(alloc: Global, tree: &mut Hash, names: &str, value: Value) -> Resul
     match cut_at(names, '/') {
         None => set(alloc, tree, names, value),
         Some((folder, rest)) => {
-            let mut inside = take_hash(alloc, tree, folder);
+            let mut inside = take_hash(alloc, tree, folder)?;
             put_value(alloc, &mut inside, rest, value)?;
             set(alloc, tree, folder, Value::Hash(inside))
         }
@@ -107,12 +107,12 @@ fn set(alloc: Global, tree: &mut Hash, key: &str, value: Value) -> Result<(), Me
 }
 
 // Takes the hash at a key out, so that it is not copied; an empty one where another value or none is.
-fn take_hash(alloc: Global, tree: &mut Hash, key: &str) -> Hash
-    ensures taken { result ≡ pairs_or_none (get key.now tree.old) }
-    ensures left { tree.new ≡ taken key.now tree.old }
+fn take_hash(alloc: Global, tree: &mut Hash, key: &str) -> Result<Hash, Memory>
+    ensures taken { IfOk result (λ inside. inside ≡ pairs_or_none (get key.now tree.old)) }
+    ensures left { OnOk result (tree.new ≡ taken key.now tree.old) }
 {
-    match tree.take(key) {
-        Some(Value::Hash(inside)) => inside,
-        _ => Hash::new(alloc),
+    match tree.take(key)? {
+        Some(Value::Hash(inside)) => Ok(inside),
+        _ => Ok(Hash::new(alloc)),
     }
 }

@@ -5,7 +5,6 @@ ghost use Rattle.site_base.specs.Plain.{no_items, item, onto, no_pairs, pair, on
 ghost use Rattle.site_base.specs.View.{plain, items_of};
 
 use crate::value::room::add;
-use crate::value::sharing::boxed;
 use crate::value::{HashBody, HashPlace, ListPlace};
 use crate::{Hash, List, Memory, Text, Value};
 use std::alloc::Global;
@@ -26,7 +25,7 @@ impl List {
     pub fn with_capacity(alloc: Global, values: usize) -> Result<List, Memory>
         ensures { IfOk result (λ list. list ≡ no_items) }
     {
-        let items = boxed(alloc, Vec::with_capacity(alloc, values)?)?;
+        let items = Box::new(alloc, Vec::with_capacity(alloc, values)?)?;
         Ok(List {
             place: ListPlace::Own(items),
             alloc,
@@ -75,7 +74,7 @@ impl Hash {
     pub fn with_capacity(alloc: Global, pairs: usize) -> Result<Hash, Memory>
         ensures { IfOk result (λ hash. hash ≡ no_pairs) }
     {
-        let body = boxed(alloc, HashBody::with_capacity(alloc, pairs)?)?;
+        let body = Box::new(alloc, HashBody::with_capacity(alloc, pairs)?)?;
         Ok(Hash {
             place: HashPlace::Own(body),
             alloc,

@@ -1,6 +1,6 @@
 // Values with several holders.
 ghost use Rattle.std.specs.Prelude.{◌≡◌, IfOk, OnOk};
-ghost use Rattle.site_base.specs.View.{items_at, items_of, pairs_at, pairs_of};
+ghost use Rattle.site_base.specs.View.{items_of};
 
 use crate::value::index::index_of;
 use crate::value::{HashBody, HashPlace, ListPlace};
@@ -46,7 +46,7 @@ impl List {
     pub(crate) fn copied(&self, alloc: Global) -> Result<Box<Vec<Value>>, Memory>
         ensures { IfOk result (λ items. items_of items.value.items ≡ self.now) }
     {
-        boxed(alloc, shares(alloc, self.as_slice())?)
+        Ok(Box::new(alloc, shares(alloc, self.as_slice())?)?)
     }
 
     /// The list, which further holders can share now, as they can each of its values. Nothing is copied.
@@ -59,22 +59,11 @@ impl List {
             ListPlace::Own(items) => {
                 let mut items = Box::into_inner(items);
                 make_shared(items.as_mut_slice())?;
-                ListPlace::shared(alloc, items)?
+                ListPlace::Shared(Arc::new(alloc, items)?)
             }
             place => place,
         };
         Ok(List { place, alloc })
-    }
-}
-
-impl ListPlace {
-    fn shared(alloc: Global, items: Vec<Value>) -> Result<ListPlace, Memory>
-        ensures { IfOk result (λ place. items_at place ≡ items_of items.items) }
-    {
-        match Arc::new(alloc, items) {
-            Ok(items) => Ok(ListPlace::Shared(items)),
-            Err(_) => Err(Memory),
-        }
     }
 }
 
@@ -108,11 +97,12 @@ impl Hash {
     pub(crate) fn copied(&self, alloc: Global) -> Result<Box<HashBody>, Memory>
         ensures { IfOk result (λ body. body.value ≡ self.now) }
     {
-        match &self.place {
-            HashPlace::Nowhere => boxed(alloc, HashBody::with_capacity(alloc, 0)?),
-            HashPlace::Own(body) => boxed(alloc, body.copied(alloc)?),
-            HashPlace::Shared(body) => boxed(alloc, body.copied(alloc)?),
-        }
+        let body = match &self.place {
+            HashPlace::Nowhere => HashBody::with_capacity(alloc, 0)?,
+            HashPlace::Own(body) => body.copied(alloc)?,
+            HashPlace::Shared(body) => body.copied(alloc)?,
+        };
+        Ok(Box::new(alloc, body)?)
     }
 
     /// The hash, which further holders can share now, as they can each of its values. Nothing is copied.
@@ -123,22 +113,12 @@ impl Hash {
         let Hash { place, alloc } = self;
         let place = match place {
             HashPlace::Own(body) => {
-                HashPlace::shared(alloc, Box::into_inner(body).into_shared(alloc)?)?
+                let body = Box::into_inner(body).into_shared(alloc)?;
+                HashPlace::Shared(Arc::new(alloc, body)?)
             }
             place => place,
         };
         Ok(Hash { place, alloc })
-    }
-}
-
-impl HashPlace {
-    fn shared(alloc: Global, body: HashBody) -> Result<HashPlace, Memory>
-        ensures { IfOk result (λ place. pairs_at place ≡ body) }
-    {
-        match Arc::new(alloc, body) {
-            Ok(body) => Ok(HashPlace::Shared(body)),
-            Err(_) => Err(Memory),
-        }
     }
 }
 
@@ -239,14 +219,4 @@ fn make_pairs_shared(alloc: Global, pairs: &mut [Pair]) -> Result<(), Memory>
         *pair = mem::replace(pair, empty).into_shared()?;
     }
     Ok(())
-}
-
-/// A value on the heap.
-pub(crate) fn boxed<T: Drop>(alloc: Global, value: T) -> Result<Box<T>, Memory>
-    ensures { IfOk result (λ boxed. boxed.value ≡ value) }
-{
-    match Box::new(alloc, value) {
-        Ok(boxed) => Ok(boxed),
-        Err(_) => Err(Memory),
-    }
 }

@@ -73,7 +73,7 @@ mapping-returns-then-more-rest t c =
     let h = subst (λ xs. first_pair d (block d) n (is_pair n) c.loop-pair.first.now xs ≡ Ok (c.in-Ok.pair.0, plain c.in-Ok.pair.1)) c.first_lines.ensures c.in-Ok.ensures in
     let told = pair_more d (block d) n (is_pair n) c.loop-pair.first.now rest k c.loop-pair.pairs (c.in-Ok.pair.0) (plain c.in-Ok.pair.1) _ c.before_pair-more.ensures.value c.loop-pair.invariant.told h in
     let new = subst (λ x. with_pairs x (pairs_from d (block d) n (is_pair n) (drop k rest)) ≡ mapping_pairs c.args.depth (block c.args.depth) n c.args.head.now c.args.body.now) (sym c.in_ok-put.ensures) told in
-    subst (λ m. mapping_pairs c.args.depth (block c.args.depth) m c.args.head.now c.args.body.now ≡ Ok c.finish.result) c.indent-indent.ensures.value (pairs_end d (block d) n (is_pair n) (drop k rest) c.put.new.pairs _ (drop_all k rest c.if-more-rest.true) new ∙ ap (λ ps. Ok ps) (sym c.finish.ensures))
+    subst (λ m. mapping_pairs c.args.depth (block c.args.depth) m c.args.head.now c.args.body.now ≡ Ok c.put.new.pairs) c.indent-indent.ensures.value (pairs_end d (block d) n (is_pair n) (drop k rest) c.put.new.pairs _ (drop_all k rest c.if-more-rest.true) new)
 
 pub mapping-loop-pair-preserved : goal.mapping-loop-pair-preserved
 mapping-loop-pair-preserved t c =

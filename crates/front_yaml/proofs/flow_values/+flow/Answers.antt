@@ -72,7 +72,7 @@ pairs-returns-in-Ok-Shut-clause-value t c =
     let s = c.args.text.now in
     let n = c.loop-n.n in
     let h = subst (λ (x : Part (List ℕ × Value)). ReadsPair (Ok x) (part 125 (entry child) c.tail.result.now)) c.in-Ok-Shut.field-0-is c.in-Ok-Shut.ensures.value in
-    pairs_shut child n c.in-Ok-Shut.len c.loop-n.pairs s _ c.loop-n-test.true c.loop-n.invariant.told (ap (part 125 (entry child)) (sym c.tail.ensures) ∙ h) ∙ ap (λ x. Ok (x, n + c.in-Ok-Shut.len + 1)) (sym c.finish.ensures)
+    pairs_shut child n c.in-Ok-Shut.len c.loop-n.pairs s _ c.loop-n-test.true c.loop-n.invariant.told (ap (part 125 (entry child)) (sym c.tail.ensures) ∙ h)
 
 pub pairs-returns-in-Ok-Last-clause-value : goal.pairs-returns-in-Ok-Last-clause-value
 pairs-returns-in-Ok-Last-clause-value t c =
@@ -80,7 +80,7 @@ pairs-returns-in-Ok-Last-clause-value t c =
     let s = c.args.text.now in
     let n = c.loop-n.n in
     let h = subst (λ (x : Part (List ℕ × Value)). ReadsPair (Ok x) (part 125 (entry child) c.tail.result.now)) c.in-Ok-Last.field-0-is c.in-Ok-Last.ensures.value in
-    pairs_last child n c.in-Ok-Last.len c.in-Ok-Last.pair.0 (plain c.in-Ok-Last.pair.1) c.loop-n.pairs s _ c.loop-n-test.true c.loop-n.invariant.told (ap (part 125 (entry child)) (sym c.tail.ensures) ∙ h) ∙ ap (λ x. Ok (x, n + c.in-Ok-Last.len + 1)) (sym c.in_ok-put-in-Ok-Last.ensures ∙ sym c.finish-in-Ok-Last.ensures)
+    pairs_last child n c.in-Ok-Last.len c.in-Ok-Last.pair.0 (plain c.in-Ok-Last.pair.1) c.loop-n.pairs s _ c.loop-n-test.true c.loop-n.invariant.told (ap (part 125 (entry child)) (sym c.tail.ensures) ∙ h) ∙ ap (λ x. Ok (x, n + c.in-Ok-Last.len + 1)) (sym c.in_ok-put-in-Ok-Last.ensures)
 
 pub pairs-loop-n-preserved : goal.pairs-loop-n-preserved
 pairs-loop-n-preserved t c =
