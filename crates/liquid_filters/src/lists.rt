@@ -13,7 +13,7 @@ use crate::elements::{Elements, range_count};
 use crate::numerals::fit;
 use crate::stop::Stop;
 use crate::writer::Writer;
-use site_base::{FaultKind, List, Memory, Text, Value, share, value_text};
+use site_base::{FaultKind, List, Memory, Text, Value, copy, value_text};
 use std::alloc::Global;
 
 /// A filter of lists that looks nothing up.
@@ -78,7 +78,7 @@ fn push_copies(alloc: Global, list: &mut List, values: &[Value]) -> Result<(), M
     ensures { OnOk result (list.new ≡ onto list.old (items_of values.now)) }
 {
     for value in values {
-        list.push(share(alloc, value)?)?;
+        list.push(copy(alloc, value)?)?;
     }
     Ok(())
 }
@@ -87,9 +87,9 @@ fn default(alloc: Global, input: &Value, other: &Value) -> Result<Value, Stop>
     ensures { Makes (default (plain input.now) (plain other.now)) result }
 {
     if is_blank(input) {
-        Ok(share(alloc, other)?)
+        Ok(copy(alloc, other)?)
     } else {
-        Ok(share(alloc, input)?)
+        Ok(copy(alloc, input)?)
     }
 }
 
@@ -113,7 +113,7 @@ fn first(alloc: Global, input: &Value) -> Result<Value, Stop>
     let elements = Elements::of(alloc, input)?;
     match elements.as_slice() {
         [] => Ok(Value::Nil),
-        [value, ..] => Ok(share(alloc, value)?),
+        [value, ..] => Ok(copy(alloc, value)?),
     }
 }
 
@@ -129,7 +129,7 @@ fn last_of(alloc: Global, values: &[Value]) -> Result<Value, Memory>
 {
     match values {
         [] => Ok(Value::Nil),
-        [.., value] => share(alloc, value),
+        [.., value] => copy(alloc, value),
     }
 }
 
@@ -147,7 +147,7 @@ fn reversed(alloc: Global, values: &[Value]) -> Result<List, Memory>
     let mut place = values.len();
     while place > 0 {
         place -= 1;
-        list.push(share(alloc, &values[place])?)?;
+        list.push(copy(alloc, &values[place])?)?;
     }
     Ok(list)
 }
