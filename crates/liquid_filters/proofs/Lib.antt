@@ -1,5 +1,7 @@
 pub mod AnswerLaws
+pub mod CallLaws
 pub mod ChangeLaws
+pub mod EachLaws
 pub mod ItemLaws
 pub mod MarkLaws
 pub mod NestingLaws

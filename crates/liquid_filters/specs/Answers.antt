@@ -56,6 +56,11 @@ Stops ran (stop.Fault k) t = ran ≡ FailedAt k t
 Stops ran (stop.Needs j) t = ran ≡ WaitsFor j t
 Stops ran stop.Memory t = Unit {0}
 
+-- a call gives what a run comes to
+abbrev pub Finds : {A : Type 0} → Ran FaultKind A → Result A Stop → Trace → Type 0
+Finds ran (Ok a) t = ran ≡ RanTo a t
+Finds ran (Err e) t = Stops ran e t
+
 -- a call gives what the query comes to over a view, before its limits are tested, or stopped as it does once they are
 abbrev pub Gives : View → Trace → Query FaultKind Plain → Result Value Stop → Trace → Type 0
 Gives view old q (Ok v) new = run view old q ≡ RanTo (plain v) new

@@ -7,6 +7,7 @@ pub mod Lists
 pub mod Marks
 pub mod Numbers
 pub mod Numerals
+pub mod Properties
 pub mod Samples
 pub mod Table
 pub mod Taken

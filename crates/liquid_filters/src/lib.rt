@@ -11,6 +11,7 @@ mod lists;
 mod marks;
 mod numbers;
 mod numerals;
+mod properties;
 mod stop;
 mod texts;
 mod writer;

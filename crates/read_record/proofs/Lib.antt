@@ -1,3 +1,4 @@
+pub mod BindLaws
 pub mod KeyLaws
 pub mod SeenLaws
 pub mod QueryLaws
