@@ -1,9 +1,9 @@
 -- What a call that stands for a query tells of a query that begins with it.
-use Rattle.std.proofs.Common.{◌≡◌, ◌∙◌}
+use Rattle.std.proofs.Common.{◌≡◌, ◌∙◌, Result, Ok, subst, sym}
 use Rattle.site_base.specs.declared.faults.FaultKind.{FaultKind}
 use Rattle.read_record.specs.Queries.{Query, bind, View, Trace, Ran, RanTo, run}
 use Rattle.read_record.proofs.QueryLaws.{run_gave, run_failed, run_waits}
-use Rattle.liquid_filters.specs.Answers.{Stops}
+use Rattle.liquid_filters.specs.Answers.{Finds, Stops, made}
 use Rattle.liquid_filters.specs.declared.stop.Stop.{Stop}
 use Rattle.liquid_filters.specs.declared.stop.Stop.TheVariants as stop
 
@@ -25,3 +25,10 @@ module _ {A B : Type 0} where
   pub stops_then : (view : View) (t : Trace) (q : Query FaultKind A) (next : A → Query FaultKind B) (a : A) (u : Trace) (e : Stop) (s : Trace)
       → run view t q ≡ RanTo a u → Stops (run view u (next a)) e s → Stops (run view t (bind q next)) e s
   stops_then view t q next a u e s gave h = stops_at _ _ e s (run_gave view t q next a u gave) h
+
+  -- it goes on by what is found without a look-up
+  pub after_made : (view : View) (t s : Trace) (found : Result A FaultKind) (a : A) (next : A → Query FaultKind B) (r : Result B Stop) → found ≡ Ok a
+      → Finds (run view t (next a)) r s → Finds (run view t (bind (made found) next)) r s
+  after_made view t s found a next r is h = subst (λ (x : Result A FaultKind). Finds (run view t (bind (made x) next)) r s) (sym is) h
+
+pub ruleset binds = (run_gave, run_failed, run_waits, stops_bind, stops_then)

@@ -7,5 +7,6 @@ pub mod MarkLaws
 pub mod NestingLaws
 mod NumberRows
 pub mod NumeralLaws
+pub mod SelectionLaws
 pub mod TableLaws
 pub mod WritingLaws

@@ -27,6 +27,10 @@ abbrev pub seen_if : {E : Type 0} → Result (Option (Bor Value)) E → Result (
 seen_if (Ok x) = Ok (given x)
 seen_if (Err e) = Err e
 
+abbrev pub seen_two : {E : Type 0} → Result (Bor Value × Bor Value) E → Result (Plain × Plain) E
+seen_two (Ok x) = Ok (plain x.0.now, plain x.1.now)
+seen_two (Err e) = Err e
+
 -- ---- values
 
 abbrev pub in_plain : {E : Type 0} → Result Value E → Result Plain E

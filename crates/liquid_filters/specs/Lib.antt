@@ -2,6 +2,7 @@ pub mod Answers
 pub mod Arguments
 pub mod Changes
 pub mod Elements
+pub mod Keyed
 pub mod Limits
 pub mod Lists
 pub mod Marks
@@ -9,6 +10,7 @@ pub mod Numbers
 pub mod Numerals
 pub mod Properties
 pub mod Samples
+pub mod Selections
 pub mod Table
 pub mod Taken
 pub mod Texts

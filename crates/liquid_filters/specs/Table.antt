@@ -15,6 +15,8 @@ use Rattle.liquid_filters.specs.declared.changes.TextChange.TheVariants.{Capital
 use Rattle.liquid_filters.specs.Lists.{list_filter}
 use Rattle.liquid_filters.specs.declared.lists.ListFilter.{ListFilter}
 use Rattle.liquid_filters.specs.declared.lists.ListFilter.TheVariants.{Concat, Default, First, Join, Last, Reverse, Size}
+use Rattle.liquid_filters.specs.Selections.{select}
+use Rattle.liquid_filters.specs.declared.selections.Selection.TheVariants.{Compact, Map, Uniq, Where}
 use Rattle.liquid_filters.specs.Texts.{text_filter}
 use Rattle.liquid_filters.specs.declared.texts.TextFilter.{TextFilter}
 use Rattle.liquid_filters.specs.declared.texts.TextFilter.TheVariants.{Append, Prepend}
@@ -44,6 +46,7 @@ rows =
     ∷ (codes "at_most", number AtMost)
     ∷ (codes "capitalize", changing Capitalize)
     ∷ (codes "ceil", number Ceil)
+    ∷ (codes "compact", select Compact)
     ∷ (codes "concat", listing Concat)
     ∷ (codes "default", listing Default)
     ∷ (codes "divided_by", number DividedBy)
@@ -55,6 +58,7 @@ rows =
     ∷ (codes "join", listing Join)
     ∷ (codes "last", listing Last)
     ∷ (codes "lstrip", changing Lstrip)
+    ∷ (codes "map", select Map)
     ∷ (codes "minus", number Minus)
     ∷ (codes "modulo", number Modulo)
     ∷ (codes "newline_to_br", changing NewlineToBr)
@@ -67,8 +71,10 @@ rows =
     ∷ (codes "strip", changing Strip)
     ∷ (codes "strip_newlines", changing StripNewlines)
     ∷ (codes "times", number Times)
+    ∷ (codes "uniq", select Uniq)
     ∷ (codes "upcase", changing Upcase)
     ∷ (codes "url_encode", changing UrlEncode)
+    ∷ (codes "where", select Where)
     ∷ []
 
 -- the filter of this name
@@ -80,4 +86,5 @@ abbrev pub meaning_of : FilterName → Meaning
 meaning_of (family.Change change) = changing change
 meaning_of (family.List filter) = listing filter
 meaning_of (family.Number filter) = number filter
+meaning_of (family.Select selection) = select selection
 meaning_of (family.Text filter) = texting filter
