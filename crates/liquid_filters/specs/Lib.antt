@@ -11,6 +11,7 @@ pub mod Numerals
 pub mod Properties
 pub mod Samples
 pub mod Selections
+pub mod Sortings
 pub mod Table
 pub mod Taken
 pub mod Texts

@@ -69,8 +69,8 @@ uniq v p = bind (keyed (name_given p) v) (λ s. Give (list (first_of_each [] (en
 abbrev pub where_property : Plain → Plain → Plain → Query FaultKind Plain
 where_property v p w = bind (keyed (Some (value_text p)) v) (λ s. Give (list (chosen (is_wanted w) (entries s))))
 
-abbrev pub select : Selection → Plain → List Plain → Query FaultKind Plain
-select Compact v ws = bind (made (one_or_none ws)) (λ p. compact v p)
-select Map v ws = bind (made (one ws)) (λ p. map_property v p)
-select Uniq v ws = bind (made (one_or_none ws)) (λ p. uniq v p)
-select Where v ws = bind (made (two ws)) (λ p. where_property v p.0 p.1)
+abbrev pub selection_filter : Selection → Plain → List Plain → Query FaultKind Plain
+selection_filter Compact v ws = bind (made (one_or_none ws)) (λ p. compact v p)
+selection_filter Map v ws = bind (made (one ws)) (λ p. map_property v p)
+selection_filter Uniq v ws = bind (made (one_or_none ws)) (λ p. uniq v p)
+selection_filter Where v ws = bind (made (two ws)) (λ p. where_property v p.0 p.1)

@@ -6,6 +6,7 @@ use crate::changes::TextChange;
 use crate::lists::ListFilter;
 use crate::numbers::NumberFilter;
 use crate::selections::Selection;
+use crate::sortings::Sorting;
 use crate::texts::TextFilter;
 
 /// A filter, by the family that it belongs to.
@@ -15,11 +16,12 @@ pub enum FilterName {
     List(ListFilter),
     Number(NumberFilter),
     Select(Selection),
+    Sort(Sorting),
     Text(TextFilter),
 }
 
 // The table.
-const ROWS: [(&str, FilterName); 35] = [
+const ROWS: [(&str, FilterName); 37] = [
     ("abs", FilterName::Number(NumberFilter::Abs)),
     ("append", FilterName::Text(TextFilter::Append)),
     ("at_least", FilterName::Number(NumberFilter::AtLeast)),
@@ -48,6 +50,8 @@ const ROWS: [(&str, FilterName); 35] = [
     ("round", FilterName::Number(NumberFilter::Round)),
     ("rstrip", FilterName::Change(TextChange::Rstrip)),
     ("size", FilterName::List(ListFilter::Size)),
+    ("sort", FilterName::Sort(Sorting::Sort)),
+    ("sort_natural", FilterName::Sort(Sorting::SortNatural)),
     ("strip", FilterName::Change(TextChange::Strip)),
     (
         "strip_newlines",

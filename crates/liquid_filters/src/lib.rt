@@ -14,6 +14,7 @@ mod numbers;
 mod numerals;
 mod properties;
 mod selections;
+mod sortings;
 mod stop;
 mod texts;
 mod writer;
@@ -24,6 +25,7 @@ pub use filtering::filter;
 pub use lists::ListFilter;
 pub use numbers::NumberFilter;
 pub use selections::Selection;
+pub use sortings::Sorting;
 pub use stop::Filtered;
 pub use texts::TextFilter;
 

@@ -7,7 +7,7 @@ ghost use Rattle.site_base.specs.View.{plain, items_of};
 ghost use Rattle.read_record.specs.Queries.{run};
 ghost use Rattle.liquid_filters.specs.Answers.{Finds, Gives, given};
 ghost use Rattle.liquid_filters.specs.Keyed.{entries};
-ghost use Rattle.liquid_filters.specs.Selections.{any_has_text, chosen, compact, first_of_each, has_text, is_filled, is_wanted, item_if, map_property, mapped, select, shows_text, uniq, where_property};
+ghost use Rattle.liquid_filters.specs.Selections.{any_has_text, chosen, compact, first_of_each, has_text, is_filled, is_wanted, item_if, map_property, mapped, selection_filter, shows_text, uniq, where_property};
 ghost use Rattle.liquid_filters.specs.Taken.{entry_of, passes, source_of};
 
 use crate::arguments::{one, one_or_none, two};
@@ -38,7 +38,7 @@ pub(crate) enum Test {
     Shows(Text),
 }
 
-pub(crate) fn select<L: Look>(
+pub(crate) fn selection_filter<L: Look>(
     alloc: Global,
     selection: Selection,
     input: &Value,
@@ -46,7 +46,7 @@ pub(crate) fn select<L: Look>(
     look: &mut L,
 ) -> Result<Value, Stop>
     ensures same { L.view look.new ≡ L.view look.old }
-    ensures gives { Gives (L.view look.old) (L.trace look.old) (select selection (plain input.now) (map plain args.now)) result (L.trace look.new) }
+    ensures gives { Gives (L.view look.old) (L.trace look.old) (selection_filter selection (plain input.now) (map plain args.now)) result (L.trace look.new) }
 {
     match selection {
         Selection::Compact => compact(alloc, input, one_or_none(args)?, look),
