@@ -11,9 +11,9 @@ use Rattle.std.proofs.lemmas.Fn.{always_returns_same}
 use Rattle.std.proofs.lemmas.Cmp.{on_total, then_total, nat_cmp_total, int_cmp_total, nat_list_cmp_total}
 use Rattle.std.proofs.lemmas.List.Sorted.{ranks_by}
 use Rattle.site_base.specs.Plain.{Plain, int, text}
-use Rattle.liquid_filters.specs.Sortings.{key_order, rank, stable_sort}
-use Rattle.liquid_filters.specs.declared.sortings.NilPlace.{NilPlace}
-use Rattle.liquid_filters.specs.declared.sortings.NilPlace.TheVariants.{First, Last}
+use Rattle.liquid_filters.specs.KeyOrder.{key_order, rank, stable_sort}
+use Rattle.liquid_filters.specs.declared.key_order.NilPlace.{NilPlace}
+use Rattle.liquid_filters.specs.declared.key_order.NilPlace.TheVariants.{First, Last}
 use Rattle.liquid_filters.proofs.SortLaws.{sort_is}
 
 -- what of a key is compared

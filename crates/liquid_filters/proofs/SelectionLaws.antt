@@ -9,7 +9,7 @@ use Rattle.site_base.specs.Plain.{Plain, list, Items, no_items, onto}
 use Rattle.read_record.specs.Queries.{Give, bind, View, Trace, RanTo, run}
 use Rattle.read_record.proofs.QueryLaws.{run_gave}
 use Rattle.liquid_filters.specs.Keyed.{Source, Entry, keyed, values}
-use Rattle.liquid_filters.specs.Selections.{chosen, first_of_each, item_if, same_value}
+use Rattle.liquid_filters.specs.Choosing.{chosen, first_of_each, item_if, same_value}
 use Rattle.liquid_filters.proofs.ItemLaws.{onto_item, onto_nothing}
 
 -- what a filter makes of elements and keys

@@ -1,7 +1,9 @@
 pub mod Answers
 pub mod Arguments
 pub mod Changes
+pub mod Choosing
 pub mod Elements
+pub mod KeyOrder
 pub mod Keyed
 pub mod Limits
 pub mod Lists

@@ -1,74 +1,20 @@
 -- The filters that sort. After the reference of Liquid 4 (Shopify) and that of Jekyll 4, "Filters" (`sort`, `sort_natural`).
-use Rattle.std.specs.Prelude.{ℕ, Bool, true, List, [], ◌∷◌, map, codes, if◌then◌else◌, Option, Some, None, is_some, Result, Ok, Err}
+use Rattle.std.specs.Prelude.{ℕ, List, [], ◌∷◌, map, codes, if◌then◌else◌, Option, Some, None, Result, Ok, Err}
 use Rattle.std.specs.Char.{to_ascii_lowercase}
-use Rattle.std.specs.List.{filter, list_all}
-use Rattle.std.specs.Ordering.{nat_cmp, ordering_then, is_lt}
-use Rattle.std.specs.declared.cmp.Ordering.{Ordering}
-use Rattle.std.specs.declared.cmp.Ordering.TheVariants.{Equal}
 use Rattle.std.specs.Str.{bytes_eq}
-use Rattle.site_base.specs.Plain.{Plain, nil, int, text, list, hash, Items, no_items, item, item_list, Pairs, no_pairs, pair}
-use Rattle.site_base.specs.Values.{value_text, order}
+use Rattle.site_base.specs.Plain.{Plain, nil, text, list, hash, Items, no_items, item, Pairs, no_pairs, pair}
+use Rattle.site_base.specs.Values.{value_text}
 use Rattle.site_base.specs.declared.faults.FaultKind.{FaultKind}
 use Rattle.site_base.specs.declared.faults.FaultKind.TheVariants.{FilterArgument, Unlike}
 use Rattle.read_record.specs.Queries.{Query, Give, Fail, bind}
 use Rattle.liquid_filters.specs.Answers.{made}
 use Rattle.liquid_filters.specs.Arguments.{one_or_none}
-use Rattle.liquid_filters.specs.Keyed.{Source, Entry, entries, paired, source, values, name_given, keyed}
-use Rattle.liquid_filters.specs.Selections.{is_filled}
-use Rattle.liquid_filters.specs.declared.sortings.NilPlace.{NilPlace}
-use Rattle.liquid_filters.specs.declared.sortings.NilPlace.TheVariants.{First, Last}
+use Rattle.liquid_filters.specs.KeyOrder.{are_alike, sorted}
+use Rattle.liquid_filters.specs.Keyed.{Source, entries, paired, source, name_given, keyed}
+use Rattle.liquid_filters.specs.declared.key_order.NilPlace.{NilPlace}
+use Rattle.liquid_filters.specs.declared.key_order.NilPlace.TheVariants.{First, Last}
 use Rattle.liquid_filters.specs.declared.sortings.Sorting.{Sorting}
 use Rattle.liquid_filters.specs.declared.sortings.Sorting.TheVariants.{Sort, SortNatural}
-
--- ---- the order of keys
-
--- nil stands before all kinds, or behind them
-abbrev pub nil_rank : NilPlace → ℕ
-nil_rank First = 0
-nil_rank Last = 4
-
-abbrev pub rank : NilPlace → Plain → ℕ
-rank nils nil = nil_rank nils
-rank nils (int n) = 1
-rank nils (text t) = 2
-rank nils v = 3
-
-abbrev pub or_equal : Option Ordering → Ordering
-or_equal None = Equal
-or_equal (Some o) = o
-
--- by kind, and two numbers or two texts by their order
-abbrev pub key_order : NilPlace → Plain → Plain → Ordering
-key_order nils k l = ordering_then (nat_cmp (rank nils k) (rank nils l)) (or_equal (order k l))
-
--- whether each has an order with the first
-abbrev pub have_order : List Plain → Bool
-have_order [] = true
-have_order (k ∷ ks) = list_all (λ l. is_some (order k l)) ks
-
--- the keys but nil are numbers alone, or texts alone, or only one
-abbrev pub are_alike : Items → Bool
-are_alike ks = have_order (filter is_filled (item_list ks))
-
--- ---- stable sorting
-
-module _ {X : Type 0} (below : X → X → Bool) where
-  -- before the first that is not below it
-  abbrev pub inserted : X → List X → List X
-  inserted x [] = x ∷ []
-  inserted x (y ∷ ys) = if below y x then y ∷ inserted x ys else x ∷ y ∷ ys
-
-  abbrev pub stable_sort : List X → List X
-  stable_sort [] = []
-  stable_sort (x ∷ xs) = inserted x (stable_sort xs)
-
-abbrev pub key_below : NilPlace → Entry → Entry → Bool
-key_below nils d e = is_lt (key_order nils d.key e.key)
-
-abbrev pub sorted : NilPlace → List Entry → Items
-sorted nils es = values (stable_sort (key_below nils) es)
-
--- ---- the filters
 
 -- a hash as lists of a name and its value, by the names
 abbrev pub pair_list : List ℕ → Plain → Items

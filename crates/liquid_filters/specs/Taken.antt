@@ -4,19 +4,19 @@ use Rattle.site_base.specs.Plain.{Plain, Items}
 use Rattle.site_base.specs.View.{plain, items_of}
 use Rattle.site_base.specs.declared.faults.FaultKind.{FaultKind}
 use Rattle.liquid_filters.specs.declared.elements.Elements.{Elements}
-use Rattle.liquid_filters.specs.declared.elements.Elements.TheVariants.{Lent, Counted}
+use Rattle.liquid_filters.specs.declared.elements.Elements.TheVariants.{Lent, Made}
 use Rattle.liquid_filters.specs.Keyed as Keyed
 use Rattle.liquid_filters.specs.declared.keyed.Entry.{Entry}
 use Rattle.liquid_filters.specs.declared.keyed.Source.{Source}
-use Rattle.liquid_filters.specs.Selections.{is_filled, shows_text}
-use Rattle.liquid_filters.specs.declared.selections.Test.{Test}
-use Rattle.liquid_filters.specs.declared.selections.Test.TheVariants.{Filled, Empty, Shows}
+use Rattle.liquid_filters.specs.Choosing.{is_filled, shows_text}
+use Rattle.liquid_filters.specs.declared.choosing.Test.{Test}
+use Rattle.liquid_filters.specs.declared.choosing.Test.TheVariants.{Filled, Empty, Shows}
 use Rattle.liquid_filters.specs.declared.stop.Stop.{Stop}
 use Rattle.liquid_filters.specs.declared.stop.Stop.TheVariants as stop
 
 abbrev pub item_values : Elements → Items
 item_values (Lent vs) = items_of vs.now
-item_values (Counted is) = is
+item_values (Made is) = is
 
 abbrev pub MakesElements : Result Items FaultKind → Result Elements Stop → Type 0
 MakesElements found (Ok es) = found ≡ Ok (item_values es)

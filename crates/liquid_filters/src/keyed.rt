@@ -84,7 +84,7 @@ impl<'a> Source<'a> {
         ensures { source_of result ≡ source elements keys }
     {
         Source {
-            elements: Elements::Counted(elements),
+            elements: Elements::Made(elements),
             keys: Some(keys),
         }
     }

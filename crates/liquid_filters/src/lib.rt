@@ -3,9 +3,11 @@
 
 mod arguments;
 mod changes;
+mod choosing;
 mod elements;
 mod filter_name;
 mod filtering;
+mod key_order;
 mod keyed;
 mod limits;
 mod lists;

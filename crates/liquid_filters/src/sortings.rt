@@ -1,40 +1,29 @@
 // The filters that sort.
 #![tactic(auto, using(crate::proofs::CallLaws::binds))]
 
-ghost use Rattle.std.specs.Prelude.{◌≡◌, IfOk, is_some, map};
+ghost use Rattle.std.specs.Prelude.{◌≡◌, IfOk, map};
 ghost use Rattle.std.specs.Char.{to_ascii_lowercase};
-ghost use Rattle.std.specs.List.{filter, list_all};
-ghost use Rattle.site_base.specs.Plain.{item_list};
-ghost use Rattle.site_base.specs.Values.{order, value_text};
+ghost use Rattle.site_base.specs.Values.{value_text};
 ghost use Rattle.site_base.specs.View.{plain, items_of, pairs_of};
 ghost use Rattle.read_record.specs.Queries.{run};
 ghost use Rattle.liquid_filters.specs.Answers.{Finds, Gives, Makes, given};
-ghost use Rattle.liquid_filters.specs.Keyed.{source, values};
-ghost use Rattle.liquid_filters.specs.Selections.{is_filled};
-ghost use Rattle.liquid_filters.specs.Sortings.{are_alike, key_order, named_place, names, natural, natural_items, naturally_sorted, nil_place, nil_rank, or_equal, ordered, pair_list, pair_lists, rank, sort, sort_by_arguments, sort_natural, sort_source, sorted, sort_filter};
-ghost use Rattle.liquid_filters.specs.Taken.{entry_of, found_source, source_of};
+ghost use Rattle.liquid_filters.specs.Keyed.{source};
+ghost use Rattle.liquid_filters.specs.Sortings.{named_place, names, natural, natural_items, naturally_sorted, nil_place, ordered, pair_list, pair_lists, sort, sort_by_arguments, sort_filter, sort_natural, sort_source};
+ghost use Rattle.liquid_filters.specs.Taken.{found_source, source_of};
 
 use crate::arguments::one_or_none;
-use crate::keyed::{Entry, Source, name_given, paired};
-use crate::selections::is_filled;
+use crate::key_order::{NilPlace, are_alike, sorted};
+use crate::keyed::{Source, name_given, paired};
 use crate::stop::Stop;
 use read_record::Look;
-use site_base::{FaultKind, List, Memory, Pair, Text, Value, compare, copy, value_text};
+use site_base::{FaultKind, List, Memory, Pair, Text, Value, copy, value_text};
 use std::alloc::Global;
-use std::cmp::Ordering;
 
 /// A filter that sorts.
 #[derive(Clone, Copy, Debug, PartialEq, Eq)]
 pub enum Sorting {
     Sort,
     SortNatural,
-}
-
-/// Where nil stands among the keys.
-#[derive(Clone, Copy, Debug, PartialEq, Eq)]
-pub(crate) enum NilPlace {
-    First,
-    Last,
 }
 
 pub(crate) fn sort_filter<L: Look>(
@@ -169,88 +158,6 @@ fn ordered(alloc: Global, nils: NilPlace, source: &Source<'_>) -> Result<Value, 
         Ok(Value::List(sorted(alloc, nils, entries)?))
     } else {
         Err(Stop::Fault(FaultKind::Unlike))
-    }
-}
-
-// Whether the keys but nil are numbers alone, or texts alone, or only one.
-fn are_alike(keys: &[Value]) -> bool
-    ensures { result ≡ are_alike (items_of keys.now) }
-{
-    for (place, key) in keys.iter().enumerate() {
-        if is_filled(key) {
-            return all_ordered(key, &keys[place + 1..]);
-        }
-    }
-    true
-}
-
-// Whether each key but nil has an order with this one.
-fn all_ordered(first: &Value, keys: &[Value]) -> bool
-    ensures { result ≡ list_all (λ key. is_some (order (plain first.now) key)) (filter is_filled (item_list (items_of keys.now))) }
-{
-    for key in keys {
-        if is_filled(key) && compare(first, key).is_err() {
-            return false;
-        }
-    }
-    true
-}
-
-// The elements by their keys; those whose keys tie stand as before.
-fn sorted(alloc: Global, nils: NilPlace, mut entries: Vec<Entry<'_>>) -> Result<List, Memory>
-    ensures { IfOk result (λ list. list ≡ sorted nils (map entry_of entries.entry.items)) }
-{
-    entries.sort_by(|left, right| key_order(nils, left.key, right.key))?;
-    values(alloc, entries.as_slice())
-}
-
-fn values(alloc: Global, entries: &[Entry<'_>]) -> Result<List, Memory>
-    ensures { IfOk result (λ list. list ≡ values (map entry_of entries.entry.now)) }
-{
-    let mut list = List::with_capacity(alloc, entries.len())?;
-    for entry in entries {
-        list.push(copy(alloc, entry.value)?)?;
-    }
-    Ok(list)
-}
-
-// By kind, and two numbers or two texts by their order.
-fn key_order(nils: NilPlace, left: &Value, right: &Value) -> Ordering
-    ensures { result ≡ key_order nils (plain left.now) (plain right.now) }
-{
-    match rank(nils, left).cmp(&rank(nils, right)) {
-        Ordering::Equal => order_or_equal(left, right),
-        unequal => unequal,
-    }
-}
-
-fn rank(nils: NilPlace, key: &Value) -> u8
-    ensures { result ≡ rank nils (plain key.now) }
-{
-    match key {
-        Value::Nil => nil_rank(nils),
-        Value::Int(_) => 1,
-        Value::Text(_) => 2,
-        _ => 3,
-    }
-}
-
-// Before all kinds, or behind them.
-fn nil_rank(nils: NilPlace) -> u8
-    ensures { result ≡ nil_rank nils }
-{
-    match nils {
-        NilPlace::First => 0,
-        NilPlace::Last => 4,
-    }
-}
-
-fn order_or_equal(left: &Value, right: &Value) -> Ordering
-    ensures { result ≡ or_equal (order (plain left.now) (plain right.now)) }
-{
-    match compare(left, right) {
-        Ok(ordering) => ordering,
-        Err(_) => Ordering::Equal,
     }
 }
 

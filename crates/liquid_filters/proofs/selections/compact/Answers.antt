@@ -1,7 +1,7 @@
 use Rattle.site_base.specs.View.{plain}
 use Rattle.liquid_filters.specs.Answers.{given}
 use Rattle.liquid_filters.specs.Keyed.{entries, name_given}
-use Rattle.liquid_filters.specs.Selections.{chosen, is_filled}
+use Rattle.liquid_filters.specs.Choosing.{chosen, is_filled}
 use Rattle.liquid_filters.specs.Taken.{source_of}
 use Rattle.liquid_filters.proofs.SelectionLaws.{selected}
 use Rattle.liquid_filters.proofs.selections.compact.Goals as goal

@@ -2,7 +2,7 @@ use Rattle.std.proofs.Common.{[]}
 use Rattle.site_base.specs.View.{plain}
 use Rattle.liquid_filters.specs.Answers.{given}
 use Rattle.liquid_filters.specs.Keyed.{entries, name_given}
-use Rattle.liquid_filters.specs.Selections.{first_of_each}
+use Rattle.liquid_filters.specs.Choosing.{first_of_each}
 use Rattle.liquid_filters.specs.Taken.{source_of}
 use Rattle.liquid_filters.proofs.SelectionLaws.{selected}
 use Rattle.liquid_filters.proofs.selections.uniq.Goals as goal

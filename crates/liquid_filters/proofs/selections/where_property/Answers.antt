@@ -2,7 +2,7 @@ use Rattle.std.proofs.Common.{Some, ap}
 use Rattle.site_base.specs.Values.{value_text}
 use Rattle.site_base.specs.View.{plain}
 use Rattle.liquid_filters.specs.Keyed.{entries}
-use Rattle.liquid_filters.specs.Selections.{chosen, is_wanted}
+use Rattle.liquid_filters.specs.Choosing.{chosen, is_wanted}
 use Rattle.liquid_filters.specs.Taken.{source_of}
 use Rattle.liquid_filters.proofs.SelectionLaws.{selected}
 use Rattle.liquid_filters.proofs.selections.where_property.Goals as goal

@@ -2,12 +2,12 @@ use Rattle.std.proofs.Common.{List, ◌∙◌, ap, map, rules}
 use Rattle.std.proofs.lemmas.Result.{IfOk-weaker}
 use Rattle.site_base.specs.View.{plain}
 use Rattle.liquid_filters.specs.Keyed.{values}
-use Rattle.liquid_filters.specs.Sortings.{key_below}
+use Rattle.liquid_filters.specs.KeyOrder.{key_below}
 use Rattle.liquid_filters.specs.Taken.{entry_of}
 use Rattle.liquid_filters.specs.declared.keyed.Entry.{Entry}
 use Rattle.liquid_filters.proofs.KeyOrderLaws.{sorted_by}
 use Rattle.liquid_filters.proofs.SortLaws.{seen_sorted}
-use Rattle.liquid_filters.proofs.sortings.sorted.Goals as goal
+use Rattle.liquid_filters.proofs.key_order.sorted.Goals as goal
 
 pub returns : goal.returns
 returns c =

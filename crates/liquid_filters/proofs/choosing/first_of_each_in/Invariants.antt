@@ -4,10 +4,10 @@ use Rattle.std.specs.HashSet as bag
 use Rattle.std.specs.Str.{bytes_eq}
 use Rattle.std.specs.Prelude.{ℕ}
 use Rattle.site_base.specs.Plain.{Plain, onto}
-use Rattle.liquid_filters.specs.Selections.{first_of_each}
+use Rattle.liquid_filters.specs.Choosing.{first_of_each}
 use Rattle.liquid_filters.specs.Taken.{entry_of}
 use Rattle.liquid_filters.proofs.SelectionLaws.{has_code}
-use Rattle.liquid_filters.proofs.selections.first_of_each_in.Given as goal
+use Rattle.liquid_filters.proofs.choosing.first_of_each_in.Given as goal
 
 abbrev pub invariant-loop-entry : goal.invariant-loop-entry
 invariant-loop-entry l = record {

@@ -3,10 +3,10 @@ use Rattle.std.specs.HashSet as bag
 use Rattle.std.specs.Str.{bytes_eq}
 use Rattle.site_base.specs.Plain.{Items, onto}
 use Rattle.site_base.specs.View.{plain}
-use Rattle.liquid_filters.specs.Selections.{first_of_each}
+use Rattle.liquid_filters.specs.Choosing.{first_of_each}
 use Rattle.liquid_filters.specs.Taken.{entry_of}
 use Rattle.liquid_filters.proofs.SelectionLaws.{first_more, first_end, is_new, one_more}
-use Rattle.liquid_filters.proofs.selections.first_of_each_in.Goals as goal
+use Rattle.liquid_filters.proofs.choosing.first_of_each_in.Goals as goal
 
 pub loop-entry-preserved : goal.loop-entry-preserved
 loop-entry-preserved c =

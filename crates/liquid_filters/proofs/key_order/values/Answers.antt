@@ -5,7 +5,7 @@ use Rattle.liquid_filters.specs.Keyed.{values}
 use Rattle.liquid_filters.specs.Taken.{entry_of}
 use Rattle.liquid_filters.specs.declared.keyed.Entry.{Entry}
 use Rattle.liquid_filters.proofs.ItemLaws.{made_more, made_end}
-use Rattle.liquid_filters.proofs.sortings.values.Goals as goal
+use Rattle.liquid_filters.proofs.key_order.values.Goals as goal
 
 abbrev shown : List Entry → Items
 shown es = values (map entry_of es)

@@ -1,9 +1,9 @@
 use Rattle.std.proofs.Common.{ap, ◌∙◌, ◌+◌, drop, map, arith}
 use Rattle.site_base.specs.Plain.{Items, onto}
-use Rattle.liquid_filters.specs.Selections.{chosen}
+use Rattle.liquid_filters.specs.Choosing.{chosen}
 use Rattle.liquid_filters.specs.Taken.{entry_of, passes}
 use Rattle.liquid_filters.proofs.SelectionLaws.{chosen_more, chosen_end}
-use Rattle.liquid_filters.proofs.selections.chosen_of.Goals as goal
+use Rattle.liquid_filters.proofs.choosing.chosen_of.Goals as goal
 
 pub loop-entry-preserved : goal.loop-entry-preserved
 loop-entry-preserved c =
