@@ -27,6 +27,10 @@ abbrev pub seen_if : {E : Type 0} → Result (Option (Bor Value)) E → Result (
 seen_if (Ok x) = Ok (given x)
 seen_if (Err e) = Err e
 
+abbrev pub seen_two : {E : Type 0} → Result (Bor Value × Bor Value) E → Result (Plain × Plain) E
+seen_two (Ok x) = Ok (plain x.0.now, plain x.1.now)
+seen_two (Err e) = Err e
+
 -- ---- values
 
 abbrev pub in_plain : {E : Type 0} → Result Value E → Result Plain E
@@ -55,6 +59,11 @@ abbrev pub Stops : {A : Type 0} → Ran FaultKind A → Stop → Trace → Type 
 Stops ran (stop.Fault k) t = ran ≡ FailedAt k t
 Stops ran (stop.Needs j) t = ran ≡ WaitsFor j t
 Stops ran stop.Memory t = Unit {0}
+
+-- a call gives what a run comes to
+abbrev pub Finds : {A : Type 0} → Ran FaultKind A → Result A Stop → Trace → Type 0
+Finds ran (Ok a) t = ran ≡ RanTo a t
+Finds ran (Err e) t = Stops ran e t
 
 -- a call gives what the query comes to over a view, before its limits are tested, or stopped as it does once they are
 abbrev pub Gives : View → Trace → Query FaultKind Plain → Result Value Stop → Trace → Type 0

@@ -15,6 +15,10 @@ use Rattle.liquid_filters.specs.declared.changes.TextChange.TheVariants.{Capital
 use Rattle.liquid_filters.specs.Lists.{list_filter}
 use Rattle.liquid_filters.specs.declared.lists.ListFilter.{ListFilter}
 use Rattle.liquid_filters.specs.declared.lists.ListFilter.TheVariants.{Concat, Default, First, Join, Last, Reverse, Size}
+use Rattle.liquid_filters.specs.Selections.{selection_filter}
+use Rattle.liquid_filters.specs.declared.selections.Selection.TheVariants.{Compact, Map, Uniq, Where}
+use Rattle.liquid_filters.specs.Sortings.{sort_filter}
+use Rattle.liquid_filters.specs.declared.sortings.Sorting.TheVariants.{Sort, SortNatural}
 use Rattle.liquid_filters.specs.Texts.{text_filter}
 use Rattle.liquid_filters.specs.declared.texts.TextFilter.{TextFilter}
 use Rattle.liquid_filters.specs.declared.texts.TextFilter.TheVariants.{Append, Prepend}
@@ -44,6 +48,7 @@ rows =
     ∷ (codes "at_most", number AtMost)
     ∷ (codes "capitalize", changing Capitalize)
     ∷ (codes "ceil", number Ceil)
+    ∷ (codes "compact", selection_filter Compact)
     ∷ (codes "concat", listing Concat)
     ∷ (codes "default", listing Default)
     ∷ (codes "divided_by", number DividedBy)
@@ -55,6 +60,7 @@ rows =
     ∷ (codes "join", listing Join)
     ∷ (codes "last", listing Last)
     ∷ (codes "lstrip", changing Lstrip)
+    ∷ (codes "map", selection_filter Map)
     ∷ (codes "minus", number Minus)
     ∷ (codes "modulo", number Modulo)
     ∷ (codes "newline_to_br", changing NewlineToBr)
@@ -64,11 +70,15 @@ rows =
     ∷ (codes "round", number Round)
     ∷ (codes "rstrip", changing Rstrip)
     ∷ (codes "size", listing Size)
+    ∷ (codes "sort", sort_filter Sort)
+    ∷ (codes "sort_natural", sort_filter SortNatural)
     ∷ (codes "strip", changing Strip)
     ∷ (codes "strip_newlines", changing StripNewlines)
     ∷ (codes "times", number Times)
+    ∷ (codes "uniq", selection_filter Uniq)
     ∷ (codes "upcase", changing Upcase)
     ∷ (codes "url_encode", changing UrlEncode)
+    ∷ (codes "where", selection_filter Where)
     ∷ []
 
 -- the filter of this name
@@ -80,4 +90,6 @@ abbrev pub meaning_of : FilterName → Meaning
 meaning_of (family.Change change) = changing change
 meaning_of (family.List filter) = listing filter
 meaning_of (family.Number filter) = number filter
+meaning_of (family.Select selection) = selection_filter selection
+meaning_of (family.Sort filter) = sort_filter filter
 meaning_of (family.Text filter) = texting filter

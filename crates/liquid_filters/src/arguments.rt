@@ -1,8 +1,8 @@
 // How many arguments a filter takes.
 ghost use Rattle.std.specs.Prelude.{◌≡◌, map};
 ghost use Rattle.site_base.specs.View.{plain};
-ghost use Rattle.liquid_filters.specs.Answers.{seen, seen_if};
-ghost use Rattle.liquid_filters.specs.Arguments.{no_more, one, one_or_none};
+ghost use Rattle.liquid_filters.specs.Answers.{seen, seen_if, seen_two};
+ghost use Rattle.liquid_filters.specs.Arguments.{no_more, one, one_or_none, two};
 
 use site_base::{FaultKind, Value};
 
@@ -30,6 +30,15 @@ pub(crate) fn one_or_none(args: &[Value]) -> Result<Option<&Value>, FaultKind>
     match args {
         [] => Ok(None),
         [only] => Ok(Some(only)),
+        _ => Err(FaultKind::FilterArgument),
+    }
+}
+
+pub(crate) fn two(args: &[Value]) -> Result<(&Value, &Value), FaultKind>
+    ensures { seen_two result ≡ two (map plain args.now) }
+{
+    match args {
+        [first, second] => Ok((first, second)),
         _ => Err(FaultKind::FilterArgument),
     }
 }

@@ -15,7 +15,7 @@ use std::slice;
 #[derive(Drop)]
 pub(crate) enum Elements<'a> {
     Lent(&'a [Value]),
-    Counted(List),
+    Made(List),
 }
 
 impl<'a> Elements<'a> {
@@ -37,7 +37,7 @@ impl<'a> Elements<'a> {
         ensures { MakesElements (elements (range first last)) result }
     {
         let count = range_count(first, last)?;
-        Ok(Elements::Counted(counted(alloc, first, count)?))
+        Ok(Elements::Made(counted(alloc, first, count)?))
     }
 
     pub(crate) fn as_slice(&self) -> &[Value]
@@ -45,7 +45,7 @@ impl<'a> Elements<'a> {
     {
         match self {
             Elements::Lent(values) => values,
-            Elements::Counted(list) => list.as_slice(),
+            Elements::Made(list) => list.as_slice(),
         }
     }
 }

@@ -10,6 +10,8 @@ use crate::changes::change_filter;
 use crate::limits::fitted;
 use crate::lists::list_filter;
 use crate::numbers::number_filter;
+use crate::selections::selection_filter;
+use crate::sortings::sort_filter;
 use crate::stop::{Filtered, Stop};
 use crate::texts::text_filter;
 use read_record::Look;
@@ -67,6 +69,8 @@ impl FilterName {
             FilterName::Change(change) => change_filter(alloc, change, input, args),
             FilterName::List(filter) => list_filter(alloc, filter, input, args),
             FilterName::Number(filter) => number(number_filter(filter, input, args)),
+            FilterName::Select(selection) => selection_filter(alloc, selection, input, args, look),
+            FilterName::Sort(filter) => sort_filter(alloc, filter, input, args, look),
             FilterName::Text(filter) => text_filter(alloc, filter, input, args),
         }
     }

@@ -1,4 +1,6 @@
 // What filters give, as texts of codes of values.
+mod keyed;
+
 use crate::{Filtered, filter};
 use read_record::{Answer, Key, Look};
 use site_base::{FaultKind, List, Memory, Text, Value, same_code};
@@ -76,6 +78,7 @@ fn fault_text(kind: FaultKind) -> &'static str {
         FaultKind::Overflow => "F16",
         FaultKind::Fraction => "F17",
         FaultKind::RangeTooLong => "F19",
+        FaultKind::Unlike => "F23",
         _ => "another fault",
     }
 }
