@@ -9,4 +9,5 @@ mod NumberRows
 pub mod NumeralLaws
 pub mod SelectionLaws
 pub mod TableLaws
+pub mod WhiteLaws
 pub mod WritingLaws

@@ -8,7 +8,7 @@ use Rattle.site_base.specs.View.{plain}
 use Rattle.site_base.specs.declared.faults.FaultKind.{FaultKind}
 use Rattle.site_base.specs.declared.value.Value.{Value}
 use Rattle.read_record.specs.Queries.{Query, Give, Fail, bind, View, Trace, Ran, RanTo, FailedAt, WaitsFor, run}
-use Rattle.liquid_filters.specs.Limits.{fits}
+use Rattle.liquid_filters.specs.Limits.{excess, fits}
 use Rattle.liquid_filters.specs.declared.stop.Stop.{Stop}
 use Rattle.liquid_filters.specs.declared.stop.Stop.TheVariants as stop
 use Rattle.liquid_filters.specs.declared.stop.Filtered.{Filtered}
@@ -70,14 +70,18 @@ abbrev pub Gives : View → Trace → Query FaultKind Plain → Result Value Sto
 Gives view old q (Ok v) new = run view old q ≡ RanTo (plain v) new
 Gives view old q (Err e) new = Stops (run view old (limited q)) e new
 
-abbrev pub answered : Result Value FaultKind → Filtered
-answered (Ok v) = filtered.Value v
-answered (Err k) = filtered.Fault k
-
 abbrev pub stopped : Stop → Filtered
 stopped (stop.Fault k) = filtered.Fault k
 stopped (stop.Needs j) = filtered.Needs j
 stopped stop.Memory = filtered.Memory
+
+-- what is answered for a value: itself, where it is within the limits
+abbrev pub fitted : Value → Filtered
+fitted v = elim (excess (plain v)) [ Some k ↦ filtered.Fault k | None ↦ filtered.Value v ]
+
+abbrev pub finished : Result Value Stop → Filtered
+finished (Ok v) = fitted v
+finished (Err e) = stopped e
 
 -- a call answers by a run
 abbrev pub Replies : Ran FaultKind Plain → Filtered → Trace → Type 0

@@ -1,6 +1,7 @@
 pub mod Answers
 pub mod Arguments
 pub mod Changes
+pub mod Dates
 pub mod Elements
 pub mod Keyed
 pub mod Limits
@@ -14,4 +15,6 @@ pub mod Selections
 pub mod Table
 pub mod Taken
 pub mod Texts
+pub mod Urls
+pub mod White
 pub mod Writing

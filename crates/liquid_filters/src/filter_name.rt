@@ -12,6 +12,7 @@ use crate::texts::TextFilter;
 #[derive(Clone, Copy, Debug, PartialEq, Eq)]
 pub enum FilterName {
     Change(TextChange),
+    Date,
     List(ListFilter),
     Number(NumberFilter),
     Select(Selection),
@@ -19,7 +20,7 @@ pub enum FilterName {
 }
 
 // The table.
-const ROWS: [(&str, FilterName); 35] = [
+const ROWS: [(&str, FilterName); 36] = [
     ("abs", FilterName::Number(NumberFilter::Abs)),
     ("append", FilterName::Text(TextFilter::Append)),
     ("at_least", FilterName::Number(NumberFilter::AtLeast)),
@@ -28,6 +29,7 @@ const ROWS: [(&str, FilterName); 35] = [
     ("ceil", FilterName::Number(NumberFilter::Ceil)),
     ("compact", FilterName::Select(Selection::Compact)),
     ("concat", FilterName::List(ListFilter::Concat)),
+    ("date", FilterName::Date),
     ("default", FilterName::List(ListFilter::Default)),
     ("divided_by", FilterName::Number(NumberFilter::DividedBy)),
     ("downcase", FilterName::Change(TextChange::Downcase)),

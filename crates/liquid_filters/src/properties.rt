@@ -12,7 +12,7 @@ use site_base::{ItemName, List, Memory, Text, Value, copy};
 use std::alloc::Global;
 
 /// The property of each value, in their order; each is asked once.
-pub(crate) fn properties<L: Look>(
+pub fn properties<L: Look>(
     alloc: Global,
     name: &str,
     values: &[Value],
@@ -71,7 +71,7 @@ fn property_key(alloc: Global, item: &ItemName, name: &str) -> Result<Key, Memor
 }
 
 /// One look-up.
-pub(crate) fn ask<L: Look>(alloc: Global, key: &Key, look: &mut L) -> Result<Value, Stop>
+pub fn ask<L: Look>(alloc: Global, key: &Key, look: &mut L) -> Result<Value, Stop>
     ensures same { L.view look.new ≡ L.view look.old }
     ensures gives { Finds (run (L.view look.old) (L.trace look.old) (Ask key.now Give)) (in_plain result) (L.trace look.new) }
 {

@@ -17,9 +17,9 @@ pub enum Filtered {
     Memory,
 }
 
-/// Why there is no value.
+/// Why a filter gives no value.
 #[derive(Clone, Copy, Debug, PartialEq, Eq)]
-pub(crate) enum Stop {
+pub enum Stop {
     Fault(FaultKind),
     /// This item has to be done first.
     Needs(u32),
