@@ -13,7 +13,7 @@ use Rattle.read_record.proofs.BindLaws.{bind-assoc, bind-give}
 use Rattle.read_record.proofs.QueryLaws.{run_gave}
 use Rattle.liquid_filters.specs.Answers.{Finds, Stops}
 use Rattle.liquid_filters.specs.Properties.{each, property, property_key}
-use Rattle.liquid_filters.specs.declared.stop.Stop.{Stop}
+use Rattle.liquid_filters.specs.Stops.{Stop}
 use Rattle.liquid_filters.proofs.CallLaws.{stops_bind}
 use Rattle.liquid_filters.proofs.ItemLaws.{onto_item, onto_nothing}
 

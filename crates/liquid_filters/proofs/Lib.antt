@@ -11,4 +11,5 @@ pub mod NumeralLaws
 pub mod SelectionLaws
 pub mod SortLaws
 pub mod TableLaws
+pub mod WhiteLaws
 pub mod WritingLaws

@@ -2,6 +2,7 @@ pub mod Answers
 pub mod Arguments
 pub mod Changes
 pub mod Choosing
+pub mod Dates
 pub mod Elements
 pub mod KeyOrder
 pub mod Keyed
@@ -14,7 +15,10 @@ pub mod Properties
 pub mod Samples
 pub mod Selections
 pub mod Sortings
+pub mod Stops
 pub mod Table
 pub mod Taken
 pub mod Texts
+pub mod Urls
+pub mod White
 pub mod Writing

@@ -12,6 +12,7 @@ use Rattle.liquid_filters.specs.declared.numbers.NumberFilter.TheVariants.{Abs, 
 use Rattle.liquid_filters.specs.Changes.{change_filter}
 use Rattle.liquid_filters.specs.declared.changes.TextChange.{TextChange}
 use Rattle.liquid_filters.specs.declared.changes.TextChange.TheVariants.{Capitalize, Downcase, Escape, EscapeOnce, Lstrip, NewlineToBr, Rstrip, Strip, StripNewlines, Upcase, UrlEncode}
+use Rattle.liquid_filters.specs.Dates.{date}
 use Rattle.liquid_filters.specs.Lists.{list_filter}
 use Rattle.liquid_filters.specs.declared.lists.ListFilter.{ListFilter}
 use Rattle.liquid_filters.specs.declared.lists.ListFilter.TheVariants.{Concat, Default, First, Join, Last, Reverse, Size}
@@ -50,6 +51,7 @@ rows =
     ∷ (codes "ceil", number Ceil)
     ∷ (codes "compact", selection_filter Compact)
     ∷ (codes "concat", listing Concat)
+    ∷ (codes "date", date)
     ∷ (codes "default", listing Default)
     ∷ (codes "divided_by", number DividedBy)
     ∷ (codes "downcase", changing Downcase)
@@ -88,6 +90,7 @@ filter_named name = lookup (bytes_eq name) rows
 -- what the code's own name of a filter stands for
 abbrev pub meaning_of : FilterName → Meaning
 meaning_of (family.Change change) = changing change
+meaning_of family.Date = date
 meaning_of (family.List filter) = listing filter
 meaning_of (family.Number filter) = number filter
 meaning_of (family.Select selection) = selection_filter selection

@@ -11,8 +11,8 @@ use Rattle.liquid_filters.specs.declared.keyed.Source.{Source}
 use Rattle.liquid_filters.specs.Choosing.{is_filled, shows_text}
 use Rattle.liquid_filters.specs.declared.choosing.Test.{Test}
 use Rattle.liquid_filters.specs.declared.choosing.Test.TheVariants.{Filled, Empty, Shows}
-use Rattle.liquid_filters.specs.declared.stop.Stop.{Stop}
-use Rattle.liquid_filters.specs.declared.stop.Stop.TheVariants as stop
+use Rattle.liquid_filters.specs.Stops.{Stop}
+use Rattle.read_record.specs.declared.stop.Stop.TheVariants as stop
 
 abbrev pub item_values : Elements → Items
 item_values (Lent vs) = items_of vs.now

@@ -13,14 +13,14 @@ use std::slice;
 
 /// The values of a list, or the numbers of a range.
 #[derive(Drop)]
-pub(crate) enum Elements<'a> {
+pub enum Elements<'a> {
     Lent(&'a [Value]),
     Made(List),
 }
 
 impl<'a> Elements<'a> {
     /// Those of a list, the numbers of a range, none of nil, and any other value by itself.
-    pub(crate) fn of(alloc: Global, input: &'a Value) -> Result<Elements<'a>, Stop>
+    pub fn of(alloc: Global, input: &'a Value) -> Result<Elements<'a>, Stop>
         ensures { MakesElements (elements (plain input.now)) result }
     {
         match input {
@@ -40,7 +40,8 @@ impl<'a> Elements<'a> {
         Ok(Elements::Made(counted(alloc, first, count)?))
     }
 
-    pub(crate) fn as_slice(&self) -> &[Value]
+    /// The values themselves.
+    pub fn as_slice(&self) -> &[Value]
         ensures { items_of result.now ≡ item_values self.now }
     {
         match self {

@@ -13,6 +13,7 @@ use crate::texts::TextFilter;
 #[derive(Clone, Copy, Debug, PartialEq, Eq)]
 pub enum FilterName {
     Change(TextChange),
+    Date,
     List(ListFilter),
     Number(NumberFilter),
     Select(Selection),
@@ -21,7 +22,7 @@ pub enum FilterName {
 }
 
 // The table.
-const ROWS: [(&str, FilterName); 37] = [
+const ROWS: [(&str, FilterName); 38] = [
     ("abs", FilterName::Number(NumberFilter::Abs)),
     ("append", FilterName::Text(TextFilter::Append)),
     ("at_least", FilterName::Number(NumberFilter::AtLeast)),
@@ -30,6 +31,7 @@ const ROWS: [(&str, FilterName); 37] = [
     ("ceil", FilterName::Number(NumberFilter::Ceil)),
     ("compact", FilterName::Select(Selection::Compact)),
     ("concat", FilterName::List(ListFilter::Concat)),
+    ("date", FilterName::Date),
     ("default", FilterName::List(ListFilter::Default)),
     ("divided_by", FilterName::Number(NumberFilter::DividedBy)),
     ("downcase", FilterName::Change(TextChange::Downcase)),

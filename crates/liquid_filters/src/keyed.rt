@@ -18,7 +18,7 @@ use std::alloc::Global;
 
 /// The elements of an input, and the keys of all of them.
 #[derive(Drop)]
-pub(crate) struct Source<'a> {
+pub struct Source<'a> {
     elements: Elements<'a>,
     // None where the elements are their own keys.
     keys: Option<List>,
@@ -26,9 +26,9 @@ pub(crate) struct Source<'a> {
 
 /// One element with its key.
 #[derive(Clone, Copy)]
-pub(crate) struct Entry<'a> {
-    pub(crate) key: &'a Value,
-    pub(crate) value: &'a Value,
+pub struct Entry<'a> {
+    pub key: &'a Value,
+    pub value: &'a Value,
 }
 
 /// The name of a property, where an argument gives one: nil does not.
@@ -44,7 +44,7 @@ pub(crate) fn name_given(alloc: Global, argument: Option<&Value>) -> Result<Opti
 
 impl<'a> Source<'a> {
     /// The elements of an input. Their keys are their properties of the name, or where there is none the elements themselves.
-    pub(crate) fn keyed<L: Look>(
+    pub fn keyed<L: Look>(
         alloc: Global,
         input: &'a Value,
         name: Option<Text>,
@@ -105,7 +105,7 @@ impl<'a> Source<'a> {
     }
 
     /// Each element with its key.
-    pub(crate) fn entries(&self, alloc: Global) -> Result<Vec<Entry<'_>>, Memory>
+    pub fn entries(&self, alloc: Global) -> Result<Vec<Entry<'_>>, Memory>
         ensures { IfOk result (λ made. map entry_of made.items ≡ entries (source_of self.now)) }
     {
         paired(alloc, self.elements(), self.keys())

@@ -74,7 +74,8 @@ fn concat(alloc: Global, input: &Value, other: &Value) -> Result<Value, Stop>
     }
 }
 
-fn push_copies(alloc: Global, list: &mut List, values: &[Value]) -> Result<(), Memory>
+/// Adds copies of values at the end of a list.
+pub fn push_copies(alloc: Global, list: &mut List, values: &[Value]) -> Result<(), Memory>
     ensures { OnOk result (list.new ≡ onto list.old (items_of values.now)) }
 {
     for value in values {

@@ -2,17 +2,17 @@
 ghost use Rattle.std.specs.Prelude.{◌≡◌, IfOk};
 ghost use Rattle.std.specs.Option.{option_map, option_copied};
 ghost use Rattle.site_base.specs.View.{plain, items_of};
-ghost use Rattle.read_record.specs.Queries.{Ask, Give, run};
+ghost use Rattle.read_record.specs.Queries.{run};
 ghost use Rattle.liquid_filters.specs.Answers.{Finds, given, in_plain};
 ghost use Rattle.liquid_filters.specs.Properties.{or_nil, property_key, property, properties};
 
 use crate::stop::Stop;
-use read_record::{Answer, Key, Look};
+use read_record::{Key, Look, ask};
 use site_base::{ItemName, List, Memory, Text, Value, copy};
 use std::alloc::Global;
 
 /// The property of each value, in their order; each is asked once.
-pub(crate) fn properties<L: Look>(
+pub fn properties<L: Look>(
     alloc: Global,
     name: &str,
     values: &[Value],
@@ -67,17 +67,5 @@ fn property_key(alloc: Global, item: &ItemName, name: &str) -> Result<Key, Memor
         Ok(Key::Output(item))
     } else {
         Ok(Key::Var(item, Text::copy(alloc, name)?))
-    }
-}
-
-/// One look-up.
-pub(crate) fn ask<L: Look>(alloc: Global, key: &Key, look: &mut L) -> Result<Value, Stop>
-    ensures same { L.view look.new ≡ L.view look.old }
-    ensures gives { Finds (run (L.view look.old) (L.trace look.old) (Ask key.now Give)) (in_plain result) (L.trace look.new) }
-{
-    match look.look(alloc, key) {
-        Answer::Seen(value) => Ok(value),
-        Answer::Needs(item) => Err(Stop::Needs(item)),
-        Answer::Memory => Err(Stop::Memory),
     }
 }

@@ -1,6 +1,6 @@
 // Why a text has no HTML.
 ghost use Rattle.std.specs.Prelude.{◌≡◌};
-ghost use Rattle.cm_print.specs.declared.error.HtmlError.TheVariants as html_error;
+ghost use Rattle.markdown_grammar.specs.declared.html_error.HtmlError.TheVariants as html_error;
 
 use site_base::Memory;
 use std::alloc::{AllocError, AllocFailed};
