@@ -51,7 +51,7 @@ impl Key {
             Key::Var(name, variable) => Ok(Key::Var(name.copy(alloc)?, variable.share(alloc)?)),
             Key::Paginator(name) => Ok(Key::Paginator(name.copy(alloc)?)),
             Key::SiteVar(variable) => Ok(Key::SiteVar(variable.share(alloc)?)),
-            Key::Data(keys) => Ok(Key::Data(keys.copy(alloc)?)),
+            Key::Data(keys) => Ok(Key::Data(keys.share(alloc)?)),
             Key::Layout(name) => Ok(Key::Layout(name.share(alloc)?)),
             Key::Include(name) => Ok(Key::Include(name.share(alloc)?)),
             Key::File(path) => Ok(Key::File(path.copy(alloc)?)),
