@@ -6,12 +6,11 @@ use Rattle.site_config.specs.declared.scope.Scope.{Scope}
 use Rattle.site_items.specs.Items.{item}
 use Rattle.site_items.specs.declared.item.Item.{Item}
 use Rattle.site_items.specs.declared.kind.Kind.{Kind}
-use Rattle.site_items.specs.declared.kind.Kind.TheVariants as kind
 use Rattle.site_items.specs.declared.static_file.StaticFile.{StaticFile}
 use Rattle.site_reader.specs.Found.{each, in_file}
 use Rattle.site_reader.specs.Neighbours.{site_items}
 use Rattle.site_reader.specs.Placing.{File, Placed, as_copy, as_item, placed}
-use Rattle.site_reader.specs.Ranks.{Ranked, group_of, rank, rank_cmp, with_item}
+use Rattle.site_reader.specs.Ranks.{Ranked, rank, rank_cmp, with_item}
 use Rattle.site_reader.specs.Sites as sites
 use Rattle.site_reader.specs.declared.rank.Rank.{Rank}
 use Rattle.site_reader.specs.declared.site_item.SiteItem.{SiteItem}

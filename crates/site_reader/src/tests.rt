@@ -421,6 +421,31 @@ const IN_FOLDERS: &[DataRow] = &[
         ],
         "h1:s1:ah2:s1:bh1:s1:ci3;s1:yi2;",
     ),
+    // More than sixteen, of which two have one name.
+    (
+        &[
+            ("_data/a/k01.json", "1"),
+            ("_data/a/k02.json", "2"),
+            ("_data/a/k03.json", "3"),
+            ("_data/a/k04.json", "4"),
+            ("_data/a/k05.json", "5"),
+            ("_data/a/k06.json", "6"),
+            ("_data/a/k07.json", "7"),
+            ("_data/a/k08.json", "8"),
+            ("_data/a/k09.json", "9"),
+            ("_data/a/k10.json", "10"),
+            ("_data/a/k11.json", "11"),
+            ("_data/a/k12.json", "12"),
+            ("_data/a/k13.json", "13"),
+            ("_data/a/k14.json", "14"),
+            ("_data/a/k15.json", "15"),
+            ("_data/a/k16.json", "16"),
+            ("_data/a/k17.json", "17"),
+            ("_data/a/k17.yml", "70"),
+            ("_data/a/k18.json", "18"),
+        ],
+        "h1:s1:ah18:s3:k01i1;s3:k02i2;s3:k03i3;s3:k04i4;s3:k05i5;s3:k06i6;s3:k07i7;s3:k08i8;s3:k09i9;s3:k10i10;s3:k11i11;s3:k12i12;s3:k13i13;s3:k14i14;s3:k15i15;s3:k16i16;s3:k17i70;s3:k18i18;",
+    ),
     // Hidden files and other kinds are no data.
     (
         &[

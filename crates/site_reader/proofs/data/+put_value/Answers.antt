@@ -14,11 +14,11 @@ returns-in-None t c = rw c.in-None.ensures.parts c.set.ensures
 pub returns-in_ok-put_value-in-Some : goal.returns-in_ok-put_value-in-Some
 returns-in_ok-put_value-in-Some t c =
     let folder = c.in-Some.folder.now in
-    let made : with_value (segments c.in-Some.rest.now) (plain c.args.value) c.take_hash-inside.result ≡ c.put_value.new.tree = sym c.in_ok-put_value-in-Some.ensures in
-    let whole : set folder (hash c.put_value.new.tree) c.take_hash-inside.new.tree ≡ with_value (segments c.args.names.now) (plain c.args.value) c.args.tree.now =
-    ap (set folder (hash c.put_value.new.tree)) c.take_hash-inside.ensures.left
+    let made : with_value (segments c.in-Some.rest.now) (plain c.args.value) c.in_ok-inside-in-Some.inside ≡ c.put_value.new.tree = sym c.in_ok-put_value-in-Some.ensures in
+    let whole : set folder (hash c.put_value.new.tree) c.take_hash.new.tree ≡ with_value (segments c.args.names.now) (plain c.args.value) c.args.tree.now =
+    ap (set folder (hash c.put_value.new.tree)) c.in_ok-inside-in-Some.ensures.left
     ∙ set_taken folder (hash c.put_value.new.tree) c.args.tree.now
-    ∙ ap (λ (ps : Pairs). set folder (hash ps) c.args.tree.now) (sym made ∙ ap (with_value (segments c.in-Some.rest.now) (plain c.args.value)) c.take_hash-inside.ensures.taken)
+    ∙ ap (λ (ps : Pairs). set folder (hash ps) c.args.tree.now) (sym made ∙ ap (with_value (segments c.in-Some.rest.now) (plain c.args.value)) c.in_ok-inside-in-Some.ensures.taken)
     ∙ sym (in_folder folder c.in-Some.rest.now (plain c.args.value) c.args.tree.now)
     ∙ ap (λ ns. with_value ns (plain c.args.value) c.args.tree.now) (sym c.in-Some.ensures.parts) in
     subst (λ ps. OnOk c.set-in-Some.result (c.set-in-Some.new.tree ≡ ps)) whole c.set-in-Some.ensures
