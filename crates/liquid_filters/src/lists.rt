@@ -112,9 +112,16 @@ fn first(alloc: Global, input: &Value) -> Result<Value, Stop>
     ensures { Makes (first (plain input.now)) result }
 {
     let elements = Elements::of(alloc, input)?;
-    match elements.as_slice() {
+    Ok(first_of(alloc, elements.as_slice())?)
+}
+
+/// The first of some values; nil where there is none.
+pub fn first_of(alloc: Global, values: &[Value]) -> Result<Value, Memory>
+    ensures { IfOk result (λ value. plain value ≡ first_item (items_of values.now)) }
+{
+    match values {
         [] => Ok(Value::Nil),
-        [value, ..] => Ok(copy(alloc, value)?),
+        [value, ..] => copy(alloc, value),
     }
 }
 
@@ -125,7 +132,8 @@ fn last(alloc: Global, input: &Value) -> Result<Value, Stop>
     Ok(last_of(alloc, elements.as_slice())?)
 }
 
-fn last_of(alloc: Global, values: &[Value]) -> Result<Value, Memory>
+/// The last of some values; nil where there is none.
+pub fn last_of(alloc: Global, values: &[Value]) -> Result<Value, Memory>
     ensures { IfOk result (λ value. plain value ≡ last_item (items_of values.now)) }
 {
     match values {
@@ -209,7 +217,8 @@ fn count_of(input: &Value) -> Result<u64, FaultKind>
     }
 }
 
-fn char_count(text: &str) -> usize
+/// How many characters a text has.
+pub fn char_count(text: &str) -> usize
     ensures { result ≡ length (chars text.now) }
 {
     text.chars().count()

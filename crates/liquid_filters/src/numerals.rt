@@ -9,7 +9,7 @@ ghost use Rattle.liquid_filters.specs.Numerals.{fitting, is_digits, without_dash
 use site_base::{FaultKind, Value};
 
 /// The number that a value counts as; what is no number counts as 0.
-pub(crate) fn num(value: &Value) -> Result<i64, FaultKind>
+pub fn num(value: &Value) -> Result<i64, FaultKind>
     ensures { result ≡ num (plain value.now) }
 {
     match value {
