@@ -1,0 +1,35 @@
+// What an evaluation uses besides look-ups.
+ghost use Rattle.std.specs.Prelude.{◌≡◌, ℕ};
+ghost use Rattle.read_record.specs.Queries.{run};
+ghost use Rattle.read_record.specs.Answers.{Finds};
+ghost use Rattle.liquid_eval.specs.Answers.{in_found};
+ghost use Rattle.liquid_eval.specs.Names.{Excerpting};
+ghost use Rattle.liquid_eval.specs.Standing.{place_of};
+
+use crate::found::Found;
+use crate::place::Place;
+use crate::stop::Stop;
+use markdown_grammar::Convert;
+use read_record::Look;
+use site_base::ItemName;
+use std::alloc::Global;
+
+/// What makes HTML of Markdown, and the member `excerpt` of an item.
+pub(crate) trait Tools {
+    type Converter: Convert;
+
+    // An excerpt, where so many levels may be entered yet.
+    ghost excerpts: { ℕ → Excerpting };
+
+    fn convert(&self) -> &Self::Converter;
+
+    fn excerpt<'a, L: Look>(
+        &self,
+        alloc: Global,
+        place: &Place<'a>,
+        item: &ItemName,
+        look: &mut L,
+    ) -> Result<Found<'a>, Stop>
+        ensures same { L.view look.new ≡ L.view look.old }
+        ensures gives { Finds (run (L.view look.old) (L.trace look.old) (excerpts place.now.levels (place_of place.now) item.now)) (in_found result) (L.trace look.new) };
+}
