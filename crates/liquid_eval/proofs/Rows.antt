@@ -14,7 +14,7 @@ use Rattle.liquid_grammar.specs.Expressions.{operand_in, operand, expression}
 use Rattle.liquid_grammar.specs.Conditions.{test_at, condition}
 use Rattle.liquid_grammar.specs.Tags.{assignment, cycle, loop_at, name_len}
 use Rattle.liquid_grammar.specs.Items.{tag_item, tag_words}
-use Rattle.liquid_eval.specs.Places.{site_fault}
+use Rattle.liquid_values.specs.Places.{site_fault}
 use Rattle.liquid_eval.specs.Nodes.{entering}
 use Rattle.liquid_eval.specs.Samples.{evaluated_text}
 

@@ -9,11 +9,11 @@ use Rattle.liquid_grammar.specs.declared.item.Part.{Part}
 use Rattle.liquid_grammar.specs.declared.item.Part.TheVariants.{Body, Test, When, Otherwise}
 use Rattle.liquid_grammar.specs.Operands as operands
 use Rattle.liquid_grammar.specs.Trees.{Tree, done, leaf, block, part}
-use Rattle.liquid_eval.specs.Places.{Place, at_line}
+use Rattle.liquid_values.specs.Places.{Place, at_line}
 use Rattle.liquid_eval.specs.States.{State, Reached, onward, Enter}
-use Rattle.liquid_eval.specs.Operands.{operand}
+use Rattle.liquid_values.specs.Operands.{operand}
 use Rattle.liquid_eval.specs.Conditions.{condition, is_equal}
-use Rattle.liquid_eval.specs.Names.{Excerpting}
+use Rattle.liquid_values.specs.Names.{Excerpting}
 use Rattle.liquid_eval.specs.Expressions.{expression}
 
 -- a part is taken by a test, whose fault is in the part's line

@@ -8,7 +8,7 @@ use Rattle.read_record.specs.Queries.{Query, Give, bind}
 use Rattle.liquid_filters.specs.Changes.{changed}
 use Rattle.liquid_filters.specs.declared.changes.TextChange.TheVariants.{Escape}
 use Rattle.liquid_grammar.specs.Trees.{Tree}
-use Rattle.liquid_eval.specs.Places.{Place, silenced}
+use Rattle.liquid_values.specs.Places.{Place, silenced}
 use Rattle.liquid_eval.specs.States.{State, with_out, assign, written, Reached, reached, Enter}
 use Rattle.liquid_eval.specs.Loops.{body_of}
 

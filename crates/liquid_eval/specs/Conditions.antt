@@ -24,10 +24,10 @@ use Rattle.liquid_grammar.specs.declared.mark.Comparison.TheVariants.{Equal, Une
 use Rattle.liquid_grammar.specs.declared.mark.Joint.{Joint}
 use Rattle.liquid_grammar.specs.declared.mark.Joint.TheVariants.{And, Or}
 use Rattle.liquid_grammar.specs.Operands as operands
-use Rattle.liquid_eval.specs.Excerpts.{before}
-use Rattle.liquid_eval.specs.Places.{Place, found_at}
-use Rattle.liquid_eval.specs.Names.{Excerpting}
-use Rattle.liquid_eval.specs.Operands.{operand}
+use Rattle.liquid_eval.specs.Fronts.{before}
+use Rattle.liquid_values.specs.Places.{Place, found_at}
+use Rattle.liquid_values.specs.Names.{Excerpting}
+use Rattle.liquid_values.specs.Operands.{operand}
 
 -- equal values have one code
 abbrev pub is_equal : Plain → Plain → Bool

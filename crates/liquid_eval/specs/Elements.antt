@@ -16,9 +16,9 @@ use Rattle.liquid_grammar.specs.declared.tag.LoopKey.TheVariants.{Limit, Offset,
 use Rattle.liquid_grammar.specs.declared.tag.LoopPart.{LoopPart}
 use Rattle.liquid_grammar.specs.declared.tag.LoopPart.TheVariants.{Reversed, Number}
 use Rattle.liquid_grammar.specs.Tags.{same_key, has_key}
-use Rattle.liquid_eval.specs.Places.{Place, found_at}
+use Rattle.liquid_values.specs.Places.{Place, found_at}
 use Rattle.liquid_eval.specs.States.{State}
-use Rattle.liquid_eval.specs.Names.{Excerpting}
+use Rattle.liquid_values.specs.Names.{Excerpting}
 use Rattle.liquid_eval.specs.Expressions.{expression}
 
 -- a key and its value, as a list of two

@@ -13,18 +13,14 @@ use Rattle.read_record.specs.Queries.{Query, Give, Fail, Ask, bind}
 use Rattle.liquid_filters.specs.Limits.{most_text}
 use Rattle.liquid_grammar.specs.Pieces.{begins}
 use Rattle.liquid_grammar.specs.Trees.{Tree, Fault, tree}
-use Rattle.liquid_eval.specs.Places.{Place, of_body, of_excerpt, of_layout, at_start, site_fault, fails}
+use Rattle.liquid_values.specs.Places.{Place, of_body, of_excerpt, of_layout, at_start, site_fault, fails}
+use Rattle.liquid_eval.specs.Fronts.{before}
 use Rattle.liquid_eval.specs.States.{State, nothing_yet, Reached, Enter}
-use Rattle.liquid_eval.specs.Names.{Found, value, given, is_item, holds_item, items_in}
+use Rattle.liquid_values.specs.Names.{Found, value, given, is_item, holds_item, items_in}
 
 abbrev pub text_or_empty : Plain → List ℕ
 text_or_empty (text t) = t
 text_or_empty v = []
-
--- the text before the first place where the mark stands
-abbrev pub before : List ℕ → List ℕ → Option (List ℕ)
-before mark [] = None
-before mark (c ∷ cs) = elim (begins mark (c ∷ cs)) [ true ↦ Some [] | false ↦ option_map (λ t. c ∷ t) (before mark cs) ]
 
 abbrev pub is_syntax : FaultKind → Bool
 is_syntax LiquidSyntax = true

@@ -10,9 +10,9 @@ use Rattle.liquid_filters.specs.Table.{filter_named}
 use Rattle.jekyll_filters.specs.Table as jekyll
 use Rattle.liquid_grammar.specs.declared.expression.Expr.{Expr}
 use Rattle.liquid_grammar.specs.declared.expression.Filter.{Filter}
-use Rattle.liquid_eval.specs.Places.{Place, placed}
-use Rattle.liquid_eval.specs.Names.{Excerpting}
-use Rattle.liquid_eval.specs.Operands.{operand, operand_values}
+use Rattle.liquid_values.specs.Places.{Place, placed}
+use Rattle.liquid_values.specs.Names.{Excerpting}
+use Rattle.liquid_values.specs.Operands.{operand, operand_values}
 
 -- Jekyll's filters are asked first
 abbrev pub meaning_named : List ℕ → Option Meaning

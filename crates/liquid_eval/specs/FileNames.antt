@@ -5,8 +5,8 @@ use Rattle.site_base.specs.declared.faults.SiteFault.{SiteFault}
 use Rattle.read_record.specs.Queries.{Query, Give, bind}
 use Rattle.liquid_grammar.specs.declared.tag.NamePart.{NamePart}
 use Rattle.liquid_grammar.specs.declared.tag.NamePart.TheVariants as name_part
-use Rattle.liquid_eval.specs.Places.{Place}
-use Rattle.liquid_eval.specs.Names.{Excerpting}
+use Rattle.liquid_values.specs.Places.{Place}
+use Rattle.liquid_values.specs.Names.{Excerpting}
 use Rattle.liquid_eval.specs.Expressions.{expression_text}
 
 module _ (excerpts : Excerpting) where

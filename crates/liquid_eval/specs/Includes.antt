@@ -15,9 +15,9 @@ use Rattle.liquid_grammar.specs.declared.tag.Include.{Include as IncludeTag}
 use Rattle.liquid_grammar.specs.Trees.{Tree, Fault, tree}
 use Rattle.liquid_eval.specs.declared.signal.Signal.{Signal}
 use Rattle.liquid_eval.specs.declared.signal.Signal.TheVariants.{Next}
-use Rattle.liquid_eval.specs.Places.{Place, in_include, site_fault, fails, found_at}
+use Rattle.liquid_values.specs.Places.{Place, in_include, site_fault, fails, found_at}
 use Rattle.liquid_eval.specs.States.{State, Reached, reached, Enter}
-use Rattle.liquid_eval.specs.Names.{Excerpting}
+use Rattle.liquid_values.specs.Names.{Excerpting}
 use Rattle.liquid_eval.specs.Expressions.{expression}
 use Rattle.liquid_eval.specs.FileNames.{name_text}
 

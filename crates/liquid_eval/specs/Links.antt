@@ -11,9 +11,9 @@ use Rattle.liquid_filters.specs.Answers.{limited}
 use Rattle.jekyll_filters.specs.Addresses.{address_filter}
 use Rattle.jekyll_filters.specs.declared.addresses.AddressFilter.TheVariants.{RelativeUrl}
 use Rattle.liquid_grammar.specs.declared.tag.NamePart.{NamePart}
-use Rattle.liquid_eval.specs.Places.{Place, fails, placed}
+use Rattle.liquid_values.specs.Places.{Place, fails, placed}
 use Rattle.liquid_eval.specs.States.{State, written}
-use Rattle.liquid_eval.specs.Names.{Excerpting}
+use Rattle.liquid_values.specs.Names.{Excerpting}
 use Rattle.liquid_eval.specs.FileNames.{name_text}
 
 -- what `relative_url` gives for the address

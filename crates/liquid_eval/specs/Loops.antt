@@ -9,23 +9,12 @@ use Rattle.liquid_grammar.specs.declared.tag.Loop.{Loop}
 use Rattle.liquid_grammar.specs.Trees.{Tree, done, leaf, block, part}
 use Rattle.liquid_eval.specs.declared.signal.Signal.{Signal}
 use Rattle.liquid_eval.specs.declared.signal.Signal.TheVariants.{Next, Break, Continue}
-use Rattle.liquid_eval.specs.Members.{count_value}
-use Rattle.liquid_eval.specs.Places.{Place, in_loop}
+use Rattle.liquid_values.specs.LoopValues.{for_loop}
+use Rattle.liquid_values.specs.Places.{Place, in_loop}
 use Rattle.liquid_eval.specs.States.{State, Reached, reached, onward, Enter}
 use Rattle.liquid_eval.specs.Elements.{cut_elements}
-use Rattle.liquid_eval.specs.Names.{Excerpting}
+use Rattle.liquid_values.specs.Names.{Excerpting}
 use Rattle.liquid_eval.specs.Expressions.{expression}
-
--- where a loop stands: how many elements it has, and how many of them it has passed
-abbrev pub counts : ℕ → ℕ → Pairs → Pairs
-counts len passed more =
-    pair (codes "length") (count_value len) (pair (codes "index") (count_value (passed + 1)) (pair (codes "index0") (count_value passed)
-    (pair (codes "rindex") (count_value (len - passed)) (pair (codes "rindex0") (count_value (len - passed - 1))
-    (pair (codes "first") (bool (passed == 0)) (pair (codes "last") (bool (passed + 1 == len)) more))))))
-
--- `forloop`
-abbrev pub for_loop : ℕ → ℕ → Plain → Plain
-for_loop len passed parent = hash (counts len passed (pair (codes "parentloop") parent no_pairs))
 
 -- the nodes of the part in which each element is, and of the part without one
 abbrev pub body_of : Tree → Tree

@@ -11,8 +11,8 @@ use Rattle.liquid_grammar.specs.declared.item.Block.TheVariants as blocks
 use Rattle.liquid_grammar.specs.Trees.{Tree, done, leaf, block, part}
 use Rattle.liquid_eval.specs.declared.signal.Signal.{Signal}
 use Rattle.liquid_eval.specs.declared.signal.Signal.TheVariants.{Next, Break, Continue}
-use Rattle.liquid_eval.specs.Places.{Place, Manner, of_body, of_excerpt, of_layout, at_line, silenced, fails}
-use Rattle.liquid_eval.specs.Names.{Excerpting, given, no_excerpts}
+use Rattle.liquid_values.specs.Places.{Place, Manner, of_body, of_excerpt, of_layout, at_line, silenced, fails}
+use Rattle.liquid_values.specs.Names.{Excerpting, given, no_excerpts}
 use Rattle.liquid_eval.specs.Excerpts.{excerpt}
 use Rattle.liquid_eval.specs.States.{State, nothing_yet, Reached, reached, onward, text_written, Enter}
 use Rattle.liquid_eval.specs.Variables.{output, assigned, increment, decrement, cycle}

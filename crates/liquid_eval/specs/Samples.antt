@@ -8,7 +8,7 @@ use Rattle.read_record.specs.declared.key.Key.{Key}
 use Rattle.read_record.specs.declared.key.Key.TheVariants.{Source, Content, Output, Var, SiteVar, Include, Link, Post, Moment}
 use Rattle.read_record.specs.Queries.{Query, Fail, View, Known, Met, interpret}
 use Rattle.liquid_grammar.specs.Trees.{Tree, Fault, tree}
-use Rattle.liquid_eval.specs.Places.{Place, of_body, at_start, site_fault}
+use Rattle.liquid_values.specs.Places.{Place, of_body, at_start, site_fault}
 use Rattle.liquid_eval.specs.Nodes.{evaluation}
 
 abbrev pub page : ItemName

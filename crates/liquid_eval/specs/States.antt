@@ -8,7 +8,7 @@ use Rattle.liquid_filters.specs.Limits.{most_text}
 use Rattle.liquid_grammar.specs.Trees.{Tree}
 use Rattle.liquid_eval.specs.declared.signal.Signal.{Signal}
 use Rattle.liquid_eval.specs.declared.signal.Signal.TheVariants.{Next}
-use Rattle.liquid_eval.specs.Places.{Place, site_fault, fault_at}
+use Rattle.liquid_values.specs.Places.{Place, site_fault, fault_at}
 
 pub record State : Type 0 where
   pub out : List ℕ

@@ -9,43 +9,21 @@ use Rattle.liquid_grammar.specs.declared.tag.Loop.{Loop}
 use Rattle.liquid_grammar.specs.declared.tag.LoopKey.TheVariants.{Columns}
 use Rattle.liquid_grammar.specs.Trees.{Tree}
 use Rattle.liquid_eval.specs.declared.signal.Signal.TheVariants.{Next, Break, Continue}
-use Rattle.liquid_eval.specs.Members.{count_value}
-use Rattle.liquid_eval.specs.Places.{Place, in_loop}
+use Rattle.liquid_values.specs.Members.{count_value}
+use Rattle.liquid_values.specs.Places.{Place, in_loop}
 use Rattle.liquid_eval.specs.States.{State, Reached, onward, written, Enter}
 use Rattle.liquid_eval.specs.Conditions.{is_nil}
 use Rattle.liquid_eval.specs.Elements.{part_expr, number_or_none, cut_elements}
-use Rattle.liquid_eval.specs.Names.{Excerpting}
+use Rattle.liquid_values.specs.Names.{Excerpting}
 use Rattle.liquid_eval.specs.Expressions.{expression}
-use Rattle.liquid_eval.specs.Loops.{counts, body_of}
+use Rattle.liquid_values.specs.LoopValues.{row_of, column_of, ends_row, row_loop}
+use Rattle.liquid_eval.specs.Loops.{body_of}
 
 -- how many columns a row has: the whole list where none are given, or fewer than one
 abbrev pub columns_of : Option ℕ → ℕ → ℕ
 columns_of None len = len
 columns_of (Some zero) len = len
 columns_of (Some (suc n)) len = suc n
-
--- the row and the column of the element behind so many, counted from 0
-abbrev pub row_of : ℕ → ℕ → ℕ
-row_of zero passed = 0
-row_of (suc n) passed = passed / suc n
-
-abbrev pub column_of : ℕ → ℕ → ℕ
-column_of zero passed = 0
-column_of (suc n) passed = passed % suc n
-
--- the last of its row, or of the list where a row is the whole list
-abbrev pub ends_row : ℕ → ℕ → Bool
-ends_row columns passed = column_of columns passed + 1 == columns
-
-abbrev pub row_columns : ℕ → ℕ → Pairs
-row_columns columns passed =
-    pair (codes "row") (count_value (row_of columns passed + 1)) (pair (codes "col") (count_value (column_of columns passed + 1))
-    (pair (codes "col0") (count_value (column_of columns passed)) (pair (codes "col_first") (bool (column_of columns passed == 0))
-    (pair (codes "col_last") (bool (ends_row columns passed)) no_pairs))))
-
--- `tablerowloop`
-abbrev pub row_loop : ℕ → ℕ → ℕ → Plain
-row_loop len columns passed = hash (counts len passed (row_columns columns passed))
 
 abbrev pub row_start : ℕ → List ℕ
 row_start n = codes "<tr class=\"row" ++ (decimal n ++ codes "\">")

@@ -14,10 +14,10 @@ use Rattle.liquid_grammar.specs.declared.expression.Expr.{Expr}
 use Rattle.liquid_grammar.specs.declared.tag.Assign.{Assign}
 use Rattle.liquid_grammar.specs.declared.tag.Cycle.{Cycle}
 use Rattle.liquid_grammar.specs.Operands as operands
-use Rattle.liquid_eval.specs.Places.{Place, found_at}
+use Rattle.liquid_values.specs.Places.{Place, found_at}
 use Rattle.liquid_eval.specs.States.{State, assign, with_counters, with_turns, written}
-use Rattle.liquid_eval.specs.Names.{Excerpting}
-use Rattle.liquid_eval.specs.Operands.{operand}
+use Rattle.liquid_values.specs.Names.{Excerpting}
+use Rattle.liquid_values.specs.Operands.{operand}
 use Rattle.liquid_eval.specs.Expressions.{expression, expression_text}
 
 -- ---- Counters, which are no variables

@@ -1,0 +1,6 @@
+pub mod FilterLaws
+pub mod LoopLaws
+pub mod OtherLaws
+pub mod PlaceLaws
+pub mod StepLaws
+pub mod TimeLaws

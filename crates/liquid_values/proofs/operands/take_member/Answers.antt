@@ -1,0 +1,18 @@
+use Rattle.std.proofs.Common.{◌∙◌, ap, sym, ◌∷◌}
+use Rattle.read_record.specs.Queries.{Give, RanTo, run}
+use Rattle.read_record.proofs.QueryLaws.{run_gave}
+use Rattle.liquid_values.specs.Answers.{found_of}
+use Rattle.liquid_values.specs.Names.{Found}
+use Rattle.liquid_values.specs.Operands.{member}
+use Rattle.liquid_values.specs.OperandSteps.{Standing, member_step, stack_of}
+use Rattle.liquid_values.specs.Standing.{place_of}
+use Rattle.liquid_values.proofs.operands.take_member.Goals as goal
+
+pub returns-clause-gives : goal.returns-clause-gives
+returns-clause-gives g c =
+    let view = g.L.Look.view c.args.look.now in let t = g.L.Look.trace c.args.look.now in let s = g.L.Look.trace c.member.new.look in
+    let ex = g.X.Excerpts.excerpts c.args.place.now.levels in let p = place_of c.args.place.now in
+    let rest : Standing = stack_of c.pop.new.self in let f = found_of c.in-Some.found in
+    ap (λ st. run view t (member_step ex p c.args.name.now st)) c.in-Some.ensures
+    ∙ run_gave view t (member ex p f c.args.name.now) (λ (h : Found). Give (h ∷ rest)) (found_of c.in_ok-found.found) s c.in_ok-found.ensures.gives
+    ∙ ap (λ st. RanTo st s) (sym c.in_ok-push.ensures)

@@ -1,0 +1,9 @@
+pub mod Answers
+pub mod LoopValues
+pub mod Members
+pub mod Names
+pub mod OperandSteps
+pub mod Operands
+pub mod Places
+pub mod Samples
+pub mod Standing

@@ -1,0 +1,100 @@
+-- What first names stand for. After the reference of Liquid 4 (Shopify), "Variables", and Jekyll 4's manual, "Variables".
+use Rattle.std.specs.Prelude.{◌==◌, ℕ, zero, suc, pos, ℤ, Bool, true, false, ◌&&◌, ◌||◌, List, [], ◌∷◌, length, codes, if◌then◌else◌, Option, Some, None}
+use Rattle.std.specs.Map.{lookup}
+use Rattle.std.specs.Option.{unwrap_or, option_or}
+use Rattle.std.specs.Str.{bytes_eq}
+use Rattle.site_base.specs.Plain.{Plain, nil, int, text, list, hash, site_item, Items, no_items, item, Pairs, no_pairs, pair, get}
+use Rattle.site_base.specs.declared.faults.SiteFault.{SiteFault}
+use Rattle.site_base.specs.declared.item_name.ItemName.{ItemName}
+use Rattle.read_record.specs.declared.key.Key.TheVariants.{Paginator, SiteVar, Data}
+use Rattle.read_record.specs.Queries.{Query, Give, Ask, bind}
+use Rattle.liquid_filters.specs.Answers.{limited}
+use Rattle.liquid_filters.specs.Dates.{date}
+use Rattle.liquid_values.specs.Places.{Manner, of_body, of_excerpt, of_layout, Place, placed}
+
+-- what a name or a member stands for: a value, or `site`, which has members alone
+pub data Found : Type 0 where
+  value : Plain → Found
+  the_site : Found
+
+abbrev pub value_of : Found → Plain
+value_of (value v) = v
+value_of the_site = nil
+
+abbrev pub given : Plain → Query SiteFault Found
+given v = Give (value v)
+
+-- what the member `excerpt` of an item is, for a tag at a place
+abbrev pub Excerpting : Type 0
+Excerpting = Place → ItemName → Query SiteFault Found
+
+-- nothing has an excerpt in an excerpt
+abbrev pub no_excerpts : Excerpting
+no_excerpts p n = given nil
+
+abbrev pub jekyll : Plain
+jekyll = hash (pair (codes "environment") (text (codes "development")) (pair (codes "version") (text (codes "4")) no_pairs))
+
+-- the names that only a layout has
+abbrev pub layout_name : List ℕ → Manner → Plain
+layout_name x (of_layout own content layout) = if bytes_eq x (codes "content") then text content else if bytes_eq x (codes "layout") then layout else nil
+layout_name x of_body = nil
+layout_name x of_excerpt = nil
+
+-- the names that need no variable
+abbrev pub standing : Place → List ℕ → Query SiteFault Found
+standing p x =
+    if bytes_eq x (codes "site") then Give the_site
+    else if bytes_eq x (codes "page") then given (site_item p.page.path p.page.part)
+    else if bytes_eq x (codes "paginator") then Ask (Paginator p.page) given
+    else if bytes_eq x (codes "jekyll") then given jekyll
+    else given (layout_name x p.manner)
+
+abbrev pub variable_or : Option Plain → Query SiteFault Found → Query SiteFault Found
+variable_or (Some v) other = given v
+variable_or None other = other
+
+-- a variable of a loop or an include around, one that was assigned, or a name that needs none
+abbrev pub named : Place → Pairs → List ℕ → Query SiteFault Found
+named p assigned x = variable_or (option_or (lookup (bytes_eq x) p.locals) (get x assigned)) (standing p x)
+
+-- ---- The members of `site`
+
+-- the moment of the build, as dates are written: what the filter `date` gives for `now`
+abbrev pub time_pattern : List ℕ
+time_pattern = codes "%Y-%m-%d %H:%M:%S %z"
+
+unfoldable pub time_query : Place → Query SiteFault Plain
+time_query p = placed p (limited (date (text (codes "now")) (text time_pattern ∷ [])))
+
+abbrev pub site_time : Place → Query SiteFault Found
+site_time p = bind (time_query p) given
+
+abbrev pub is_item : ItemName → Plain → Bool
+is_item n (site_item path part) = bytes_eq path n.path && (part == n.part)
+is_item n v = false
+
+-- the first so many that are not this item
+abbrev pub others : ItemName → ℕ → Items → Items
+others n zero is = no_items
+others n (suc left) no_items = no_items
+others n (suc left) (item v is) = elim (is_item n v) [ true ↦ others n (suc left) is | false ↦ item v (others n left is) ]
+
+abbrev pub holds_item : ItemName → Items → Bool
+holds_item n no_items = false
+holds_item n (item v is) = is_item n v || holds_item n is
+
+abbrev pub items_in : Plain → Items
+items_in (list is) = is
+items_in v = no_items
+
+-- ten other posts, for a post
+abbrev pub related : ItemName → Plain → Plain
+related n posts = if holds_item n (items_in posts) then list (others n 10 (items_in posts)) else nil
+
+abbrev pub site_member : Place → List ℕ → Query SiteFault Found
+site_member p x =
+    if bytes_eq x (codes "data") then Ask (Data no_items) given
+    else if bytes_eq x (codes "time") then site_time p
+    else if bytes_eq x (codes "related_posts") then Ask (SiteVar (codes "posts")) (λ posts. given (related p.page posts))
+    else Ask (SiteVar x) given

@@ -1,0 +1,102 @@
+-- What operands stand for. After the reference of Liquid 4 (Shopify), "Types" and "Variables", and Jekyll 4's manual, "Variables".
+use Rattle.std.specs.Prelude.{ℕ, ◌==◌, ℤ, Bool, List, [], ◌∷◌, codes, if◌then◌else◌, Result, Ok, Err}
+use Rattle.std.specs.Str.{bytes_eq}
+use Rattle.site_base.specs.Chains.{◌>>=◌}
+use Rattle.site_base.specs.Plain.{Plain, nil, bool, int, text, list, hash, site_item, range, Pairs}
+use Rattle.site_base.specs.declared.faults.FaultKind.{FaultKind}
+use Rattle.site_base.specs.declared.faults.SiteFault.{SiteFault}
+use Rattle.site_base.specs.declared.item_name.ItemName.{ItemName}
+use Rattle.read_record.specs.declared.key.Key.TheVariants.{Source, Content, Output, Var}
+use Rattle.read_record.specs.Queries.{Query, Give, Ask, bind}
+use Rattle.liquid_filters.specs.Numerals.{num}
+use Rattle.liquid_grammar.specs.declared.literal.Literal.{Literal}
+use Rattle.liquid_grammar.specs.declared.literal.Literal.TheVariants as literals
+use Rattle.liquid_grammar.specs.Operands as operands
+use Rattle.liquid_values.specs.Places.{Manner, of_body, of_excerpt, of_layout, Place, found_at}
+use Rattle.liquid_values.specs.Members.{member_value, element_at}
+use Rattle.liquid_values.specs.Names.{Found, value, the_site, value_of, given, Excerpting, named, site_member, is_item}
+
+-- `blank` and `empty` are nil but in a comparison
+abbrev pub literal_value : Literal → Plain
+literal_value literals.Nil = nil
+literal_value (literals.Bool b) = bool b
+literal_value literals.Blank = nil
+literal_value literals.Empty = nil
+literal_value (literals.Int n) = int n
+literal_value (literals.Text t) = text t
+
+abbrev pub item_of : List ℕ → ℕ → ItemName
+item_of path part = record { path = path; part = part }
+
+-- an item's own text in its layouts, its source in an excerpt, and else its content
+abbrev pub content_of : Place → Manner → ItemName → Query SiteFault Found
+content_of p of_body n = Ask (Content n) given
+content_of p of_excerpt n = Ask (Source n) given
+content_of p (of_layout own content layout) n = if is_item n (site_item p.page.path p.page.part) then given (text own) else Ask (Content n) given
+
+-- nothing has an output in an excerpt
+abbrev pub output_of : Manner → ItemName → Query SiteFault Found
+output_of of_excerpt n = given nil
+output_of of_body n = Ask (Output n) given
+output_of (of_layout own content layout) n = Ask (Output n) given
+
+-- both ends count as numbers
+abbrev pub range_of : Plain → Plain → Result Plain FaultKind
+range_of v w = num v >>= λ a. num w >>= λ b. Ok (range a b)
+
+-- `v[n]`
+abbrev pub numbered : Found → ℤ → Query SiteFault Found
+numbered the_site n = given nil
+numbered (value v) n = given (element_at n v)
+
+abbrev pub range_found : Place → Found → Found → Query SiteFault Found
+range_found p f g = bind (found_at p (range_of (value_of f) (value_of g))) given
+
+module _ (excerpts : Excerpting) where
+  abbrev pub item_member : Place → ItemName → List ℕ → Query SiteFault Found
+  item_member p n x =
+      if bytes_eq x (codes "content") then content_of p p.manner n
+      else if bytes_eq x (codes "output") then output_of p.manner n
+      else if bytes_eq x (codes "excerpt") then excerpts p n
+      else Ask (Var n x) given
+
+  abbrev pub value_member : Place → Plain → List ℕ → Query SiteFault Found
+  value_member p (site_item path part) x = item_member p (item_of path part) x
+  value_member p nil x = given nil
+  value_member p (bool b) x = given nil
+  value_member p (int n) x = given nil
+  value_member p (text t) x = given (member_value x (text t))
+  value_member p (list is) x = given (member_value x (list is))
+  value_member p (hash ps) x = given (member_value x (hash ps))
+  value_member p (range a b) x = given nil
+
+  abbrev pub member : Place → Found → List ℕ → Query SiteFault Found
+  member p the_site x = site_member p x
+  member p (value v) x = value_member p v x
+
+  -- a text in brackets names a member, a number a place
+  abbrev pub indexed : Place → Found → Plain → Query SiteFault Found
+  indexed p f (text x) = member p f x
+  indexed p f (int n) = numbered f n
+  indexed p f nil = given nil
+  indexed p f (bool b) = given nil
+  indexed p f (list is) = given nil
+  indexed p f (hash ps) = given nil
+  indexed p f (site_item path part) = given nil
+  indexed p f (range a b) = given nil
+
+  -- from left to right
+  abbrev pub found : Place → Pairs → operands.Operand → Query SiteFault Found
+  found p vars (operands.literal l) = given (literal_value l)
+  found p vars (operands.range a b) = bind (found p vars a) (λ f. bind (found p vars b) (λ g. range_found p f g))
+  found p vars (operands.variable x) = named p vars x
+  found p vars (operands.member e x) = bind (found p vars e) (λ f. member p f x)
+  found p vars (operands.index e x) = bind (found p vars e) (λ f. bind (found p vars x) (λ g. indexed p f (value_of g)))
+
+  abbrev pub operand : Place → Pairs → operands.Operand → Query SiteFault Plain
+  operand p vars e = bind (found p vars e) (λ f. Give (value_of f))
+
+  -- the values of several, from left to right
+  abbrev pub operand_values : Place → Pairs → List operands.Operand → Query SiteFault (List Plain)
+  operand_values p vars [] = Give []
+  operand_values p vars (e ∷ es) = bind (operand p vars e) (λ v. bind (operand_values p vars es) (λ vs. Give (v ∷ vs)))

@@ -1,0 +1,30 @@
+// What makes excerpts.
+ghost use Rattle.std.specs.Prelude.{◌≡◌, ℕ};
+ghost use Rattle.read_record.specs.Queries.{run};
+ghost use Rattle.read_record.specs.Answers.{Finds};
+ghost use Rattle.liquid_values.specs.Answers.{in_found};
+ghost use Rattle.liquid_values.specs.Names.{Excerpting};
+ghost use Rattle.liquid_values.specs.Standing.{place_of};
+
+use crate::found::Found;
+use crate::place::Place;
+use crate::stop::Stop;
+use read_record::Look;
+use site_base::ItemName;
+use std::alloc::Global;
+
+/// What makes the member `excerpt` of an item.
+pub trait Excerpts {
+    // An excerpt, where so many levels may be entered yet.
+    ghost excerpts: { ℕ → Excerpting };
+
+    fn excerpt<'a, L: Look>(
+        &self,
+        alloc: Global,
+        place: &Place<'a>,
+        item: &ItemName,
+        look: &mut L,
+    ) -> Result<Found<'a>, Stop>
+        ensures same { L.view look.new ≡ L.view look.old }
+        ensures gives { Finds (run (L.view look.old) (L.trace look.old) (excerpts place.now.levels (place_of place.now) item.now)) (in_found result) (L.trace look.new) };
+}
