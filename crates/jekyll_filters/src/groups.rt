@@ -65,19 +65,19 @@ fn add(alloc: Global, groups: &mut Hash, key: &Value, value: &Value) -> Result<(
     ensures { OnOk result (groups.new ≡ added (value_text (plain key.now)) (plain value.now) groups.old) }
 {
     let name = value_text(alloc, key)?;
-    let mut members = take_items(alloc, groups, name.as_str());
+    let mut members = take_items(alloc, groups, name.as_str())?;
     members.push(copy(alloc, value)?)?;
     groups.set(name, Value::List(members))
 }
 
 // The items of a group, out of whose place they are taken.
-fn take_items(alloc: Global, groups: &mut Hash, name: &str) -> List
-    ensures items { result ≡ items_found (get name.now groups.old) }
-    ensures rest { groups.new ≡ taken name.now groups.old }
+fn take_items(alloc: Global, groups: &mut Hash, name: &str) -> Result<List, Memory>
+    ensures items { IfOk result (λ items. items ≡ items_found (get name.now groups.old)) }
+    ensures rest { OnOk result (groups.new ≡ taken name.now groups.old) }
 {
-    match groups.take(name) {
-        Some(members) => items_in(alloc, members),
-        None => List::new(alloc),
+    match groups.take(name)? {
+        Some(members) => Ok(items_in(alloc, members)),
+        None => Ok(List::new(alloc)),
     }
 }
 
