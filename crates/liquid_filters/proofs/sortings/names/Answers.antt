@@ -18,4 +18,4 @@ loop-pair-preserved c =
     ∙ c.loop-pair.invariant
 
 pub returns : goal.returns
-returns c = made_end shown (λ (p : Pair). text p.key) (λ _ _. refl) c.loop-pair.list c.args.pairs.now c.loop-pair.pair-index refl (omega arith) ∙ c.loop-pair.invariant
+returns c = made_end shown c.loop-pair.list c.args.pairs.now c.loop-pair.pair-index refl (omega arith) ∙ c.loop-pair.invariant
