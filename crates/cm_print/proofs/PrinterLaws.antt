@@ -12,7 +12,7 @@ use Rattle.cm_blocks.specs.Layouts.{laid_out}
 use Rattle.cm_blocks.specs.declared.node.Node.{Node}
 use Rattle.cm_print.specs.NodeWalk.{State, closed, entered, state, text_after, walk, whole}
 use Rattle.cm_print.specs.Printing.{Finishes, Moves, closed_at}
-use Rattle.cm_print.specs.declared.error.HtmlError.{HtmlError}
+use Rattle.markdown_grammar.specs.declared.html_error.HtmlError.{HtmlError}
 use Rattle.cm_print.specs.declared.printer.Printer.{Printer}
 use Rattle.cm_print.specs.declared.level.Level.{Level}
 use Rattle.cm_print.proofs.Growth.{closed_grows, walk_grows}

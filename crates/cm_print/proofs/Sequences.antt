@@ -2,7 +2,7 @@
 use Rattle.std.proofs.Common.{◌∙◌, ap, List, ℕ, ◌++◌, append_assoc, length, arith}
 use Rattle.std.specs.Prelude.{Result, Ok, Err}
 use Rattle.cm_print.specs.Writing.{Prints, Writes, written}
-use Rattle.cm_print.specs.declared.error.HtmlError.{HtmlError}
+use Rattle.markdown_grammar.specs.declared.html_error.HtmlError.{HtmlError}
 use Rattle.cm_print.specs.declared.writer.Writer.{Writer}
 
 pub prints_then : (old mid new : Writer) (a b : List ℕ) (r : Result (Unit {0}) HtmlError) → Writes old mid a → Prints mid new b r → Prints old new (a ++ b) r

@@ -2,8 +2,8 @@
 use Rattle.std.specs.Prelude.{◌≡◌, ◌<◌, List, ℕ, Result, MatchResult, length, reverse}
 use Rattle.cm_print.specs.NodeWalk.{State, closed, state}
 use Rattle.cm_print.specs.Writing.{written}
-use Rattle.cm_print.specs.declared.error.HtmlError.{HtmlError}
-use Rattle.cm_print.specs.declared.error.HtmlError.TheVariants as error
+use Rattle.markdown_grammar.specs.declared.html_error.HtmlError.{HtmlError}
+use Rattle.markdown_grammar.specs.declared.html_error.HtmlError.TheVariants as error
 use Rattle.cm_print.specs.declared.printer.Printer.{Printer}
 
 abbrev pub state_of : Printer → State

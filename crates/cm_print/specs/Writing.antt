@@ -3,8 +3,8 @@ use Rattle.std.specs.Prelude.{◌≡◌, ◌<◌, ◌++◌, ℕ, ◌==◌, Bool,
 use Rattle.std.specs.String.{string_bytes}
 use Rattle.site_text.specs.Bytes.{is_alnum}
 use Rattle.site_text.specs.Fronts.{has_one}
-use Rattle.cm_print.specs.declared.error.HtmlError.{HtmlError}
-use Rattle.cm_print.specs.declared.error.HtmlError.TheVariants as error
+use Rattle.markdown_grammar.specs.declared.html_error.HtmlError.{HtmlError}
+use Rattle.markdown_grammar.specs.declared.html_error.HtmlError.TheVariants as error
 use Rattle.cm_print.specs.declared.writer.Writer.{Writer}
 
 abbrev pub written : Writer → List ℕ

@@ -8,7 +8,7 @@ ghost use Rattle.cm_blocks.specs.DocumentHtml.{code_html};
 ghost use Rattle.cm_print.specs.DocumentHtml.{code_after};
 ghost use Rattle.cm_print.specs.Writing.{Prints, Reaches, written};
 
-use crate::error::HtmlError;
+use markdown_grammar::HtmlError;
 use crate::writer::Writer;
 use cm_links::resolved;
 use site_text::{Class, class_len};

@@ -7,7 +7,7 @@ ghost use Rattle.site_text.specs.Fronts.{run_len};
 ghost use Rattle.cm_print.specs.Escapes.{escaped_as, is_plain};
 ghost use Rattle.cm_print.specs.Writing.{Prints};
 
-use crate::error::HtmlError;
+use markdown_grammar::HtmlError;
 use crate::escape::Escape;
 use crate::writer::Writer;
 

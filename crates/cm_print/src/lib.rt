@@ -3,7 +3,6 @@
 
 mod code_html;
 mod convert;
-mod error;
 mod escape;
 mod escaping;
 mod inline_html;
@@ -15,8 +14,8 @@ mod printer;
 mod urls;
 mod writer;
 
-pub use convert::{CommonMark, Convert};
-pub use error::HtmlError;
+pub use convert::CommonMark;
+pub use markdown_grammar::{Convert, HtmlError};
 pub use printer::to_html;
 
 #[cfg(test)]

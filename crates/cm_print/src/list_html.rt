@@ -6,7 +6,7 @@ ghost use Rattle.cm_print.specs.DocumentHtml.{list_after};
 ghost use Rattle.cm_print.specs.NodeWalk.{text_after};
 ghost use Rattle.cm_print.specs.Writing.{Prints, Reaches, written};
 
-use crate::error::HtmlError;
+use markdown_grammar::HtmlError;
 use crate::level::Closing;
 use crate::writer::Writer;
 use std::alloc::{AllocError, Global};

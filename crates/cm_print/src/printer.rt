@@ -4,9 +4,9 @@ ghost use Rattle.markdown_grammar.specs.Html.{html};
 ghost use Rattle.cm_print.specs.NodeWalk.{entered, inside, state, walk, whole};
 ghost use Rattle.cm_print.specs.Printing.{Finishes, Moves, closed_at, state_of};
 ghost use Rattle.cm_print.specs.Writing.{written};
-ghost use Rattle.cm_print.specs.declared.error.HtmlError.TheVariants.{TooLong};
+ghost use Rattle.markdown_grammar.specs.declared.html_error.HtmlError.TheVariants.{TooLong};
 
-use crate::error::HtmlError;
+use markdown_grammar::HtmlError;
 use crate::level::{Closing, Level};
 use crate::writer::Writer;
 use cm_blocks::{Node, documents_have_the_html_of_their_blocks, read_blocks};

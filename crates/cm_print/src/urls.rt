@@ -3,7 +3,7 @@ ghost use Rattle.std.specs.Prelude.{◌≡◌, ◌<◌, ◌∷◌, ◌/◌, ◌%
 ghost use Rattle.markdown_grammar.specs.Escaping.{hex_digit, url_byte, url_text};
 ghost use Rattle.cm_print.specs.Writing.{Prints, stands_in_urls};
 
-use crate::error::HtmlError;
+use markdown_grammar::HtmlError;
 use crate::writer::Writer;
 
 impl Writer {

@@ -1,7 +1,7 @@
 // HTML that is being written.
 ghost use Rattle.std.specs.Prelude.{◌≤◌, string_len};
 
-use crate::error::HtmlError;
+use markdown_grammar::HtmlError;
 use std::alloc::Global;
 
 /// HTML that is being written, of at most so many bytes.

@@ -52,3 +52,15 @@ next_text old before between vs i v lt e =
     ap (λ (t : List ℕ). old ++ t) (append_assoc before (value_text (plain v)) (texts_behind between between (items_of (drop (i + 1) vs)))
     ∙ ap (λ (w : Value). before ++ (value_text (plain w) ++ texts_behind between between (items_of (drop (i + 1) vs)))) e
     ∙ sym (at_drop_more (λ xs. texts_behind before between (items_of xs)) vs i v lt))
+
+-- a list that is made of one value for each of a slice
+module _ {X : Type 0} (made : List X → Items) (one : X → Plain) (step : (x : X) (xs : List X) → made (x ∷ xs) ≡ item (one x) (made xs)) where
+  pub made_more : (is : Items) (xs : List X) (i : ℕ) (x : X) (v : Plain) → i < length xs → x ≡ get_or xs i x → v ≡ one x
+      → onto (onto is (item v no_items)) (made (drop (i + 1) xs)) ≡ onto is (made (drop i xs))
+  made_more is xs i x v lt e w =
+      onto_item is (made (drop (i + 1) xs)) v
+      ∙ ap (λ (u : Plain). onto is (item u (made (drop (i + 1) xs)))) w
+      ∙ ap (onto is) (sym (step x (drop (i + 1) xs)) ∙ ap (λ (y : X). made (y ∷ drop (i + 1) xs)) e ∙ sym (at_drop_more made xs i x lt))
+
+  pub made_end : (is : Items) (xs : List X) (i : ℕ) → made [] ≡ no_items → length xs ≤ i → is ≡ onto is (made (drop i xs))
+  made_end is xs i none le = sym (ap (onto is) (at_drop_all made xs i le ∙ none) ∙ onto_nothing is)

@@ -7,8 +7,10 @@ use Rattle.std.proofs.lemmas.List.{append-nil, drop_more, take_more, nil_from_le
 use Rattle.std.proofs.lemmas.Str.{IsCharBoundary-after_ascii, IsCharBoundary-before_ascii}
 use Rattle.site_base.specs.Lines.{begins_lf}
 use Rattle.liquid_filters.specs.Marks.{Found, single, reference, is_reference, mark_at, marked_after}
+use Rattle.liquid_filters.specs.White.{is_white}
 use Rattle.liquid_filters.specs.declared.marks.Mark.{Mark}
-use Rattle.liquid_filters.specs.declared.marks.Mark.TheVariants.{Escape, EscapeOnce, LineBreak, LineEnd}
+use Rattle.liquid_filters.proofs.WhiteLaws.{white_ascii}
+use Rattle.liquid_filters.specs.declared.marks.Mark.TheVariants.{Escape, EscapeOnce, EscapeXml, LineBreak, LineEnd, WhiteSpace}
 
 -- so many bytes behind the first; the first and the last are ASCII
 pub record Fits (t : List ℕ) (more : ℕ) : Type 0 where
@@ -51,15 +53,23 @@ crlf_fits true c (d ∷ ds) n w cr e = at (eqb d 10) refl e where
   at true lf f = subst (Fits (c ∷ d ∷ ds)) (sym (number_of 1 n [] w f)) (record { within = omega arith; first = omega (arith, eqb-true c 13 cr); last = omega (arith, eqb-true d 10 lf) })
   at false lf f = absurd cc
 
+white_fits : (b : Bool) (c : ℕ) (cs v : List ℕ) (n : ℕ) (w : List ℕ) → is_white c ≡ b → cond b (found 0 v) None ≡ found n w → Fits (c ∷ cs) n
+white_fits true c cs v n w white e = fits_one c cs n (number_of 0 n v w e) (white_ascii c white)
+white_fits false c cs v n w white e = absurd cc
+
 pub mark_fits : (m : Mark) (t : List ℕ) (n : ℕ) (w : List ℕ) → mark_at m t ≡ found n w → Fits t n
 mark_fits Escape [] n w e = absurd cc
 mark_fits Escape (c ∷ cs) n w e = single_fits c cs (reference c) n w refl e
 mark_fits EscapeOnce [] n w e = absurd cc
 mark_fits EscapeOnce (c ∷ cs) n w e = unless_fits (eqb c 38 && is_reference cs) c cs n w e
+mark_fits EscapeXml [] n w e = absurd cc
+mark_fits EscapeXml (c ∷ cs) n w e = unless_fits (eqb c 39) c cs n w e
 mark_fits LineBreak [] n w e = absurd cc
 mark_fits LineBreak (c ∷ cs) n w e = lf_fits (eqb c 10) c cs _ None n w refl e (λ f. absurd cc)
 mark_fits LineEnd [] n w e = absurd cc
 mark_fits LineEnd (c ∷ cs) n w e = lf_fits (eqb c 10) c cs [] _ n w refl e (λ f. crlf_fits (eqb c 13) c cs n w refl f)
+mark_fits WhiteSpace [] n w e = absurd cc
+mark_fits WhiteSpace (c ∷ cs) n w e = white_fits (is_white c) c cs _ n w refl e
 
 -- ---- where a text may be cut
 

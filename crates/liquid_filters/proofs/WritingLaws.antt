@@ -5,8 +5,8 @@ use Rattle.site_base.specs.Plain.{text}
 use Rattle.liquid_filters.specs.Answers.{Makes}
 use Rattle.liquid_filters.specs.Limits.{most_text}
 use Rattle.liquid_filters.specs.Writing.{Refuses, Writes}
-use Rattle.liquid_filters.specs.declared.stop.Stop.{Stop}
-use Rattle.liquid_filters.specs.declared.stop.Stop.TheVariants as stop
+use Rattle.liquid_filters.specs.Stops.{Stop}
+use Rattle.read_record.specs.declared.stop.Stop.TheVariants as stop
 
 longer : (old piece rest whole : List ℕ) → old ++ (piece ++ rest) ≡ whole → most_text < length (old ++ piece) → most_text < length whole
 longer old piece rest whole same h = omega (arith, simp length-append at (ap length same), simp length-append at h)

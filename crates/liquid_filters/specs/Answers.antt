@@ -7,10 +7,11 @@ use Rattle.site_base.specs.Plain.{Plain}
 use Rattle.site_base.specs.View.{plain}
 use Rattle.site_base.specs.declared.faults.FaultKind.{FaultKind}
 use Rattle.site_base.specs.declared.value.Value.{Value}
+pub use Rattle.read_record.specs.Answers.{Stops, Finds, in_plain}
 use Rattle.read_record.specs.Queries.{Query, Give, Fail, bind, View, Trace, Ran, RanTo, FailedAt, WaitsFor, run}
-use Rattle.liquid_filters.specs.Limits.{fits}
-use Rattle.liquid_filters.specs.declared.stop.Stop.{Stop}
-use Rattle.liquid_filters.specs.declared.stop.Stop.TheVariants as stop
+use Rattle.liquid_filters.specs.Limits.{excess, fits}
+use Rattle.liquid_filters.specs.Stops.{Stop}
+use Rattle.read_record.specs.declared.stop.Stop.TheVariants as stop
 use Rattle.liquid_filters.specs.declared.stop.Filtered.{Filtered}
 use Rattle.liquid_filters.specs.declared.stop.Filtered.TheVariants as filtered
 
@@ -27,11 +28,11 @@ abbrev pub seen_if : {E : Type 0} → Result (Option (Bor Value)) E → Result (
 seen_if (Ok x) = Ok (given x)
 seen_if (Err e) = Err e
 
--- ---- values
+abbrev pub seen_two : {E : Type 0} → Result (Bor Value × Bor Value) E → Result (Plain × Plain) E
+seen_two (Ok x) = Ok (plain x.0.now, plain x.1.now)
+seen_two (Err e) = Err e
 
-abbrev pub in_plain : {E : Type 0} → Result Value E → Result Plain E
-in_plain (Ok v) = Ok (plain v)
-in_plain (Err e) = Err e
+-- ---- values
 
 -- a call made what is found, whose limits are not tested yet, or stopped at the fault that stands there once they are
 abbrev pub Makes : Result Plain FaultKind → Result Value Stop → Type 0
@@ -51,24 +52,23 @@ made (Err k) = Fail k
 abbrev pub limited : Query FaultKind Plain → Query FaultKind Plain
 limited q = bind q (λ v. made (fits v))
 
-abbrev pub Stops : {A : Type 0} → Ran FaultKind A → Stop → Trace → Type 0
-Stops ran (stop.Fault k) t = ran ≡ FailedAt k t
-Stops ran (stop.Needs j) t = ran ≡ WaitsFor j t
-Stops ran stop.Memory t = Unit {0}
-
 -- a call gives what the query comes to over a view, before its limits are tested, or stopped as it does once they are
 abbrev pub Gives : View → Trace → Query FaultKind Plain → Result Value Stop → Trace → Type 0
 Gives view old q (Ok v) new = run view old q ≡ RanTo (plain v) new
 Gives view old q (Err e) new = Stops (run view old (limited q)) e new
 
-abbrev pub answered : Result Value FaultKind → Filtered
-answered (Ok v) = filtered.Value v
-answered (Err k) = filtered.Fault k
-
 abbrev pub stopped : Stop → Filtered
 stopped (stop.Fault k) = filtered.Fault k
 stopped (stop.Needs j) = filtered.Needs j
 stopped stop.Memory = filtered.Memory
+
+-- what is answered for a value: itself, where it is within the limits
+abbrev pub fitted : Value → Filtered
+fitted v = elim (excess (plain v)) [ Some k ↦ filtered.Fault k | None ↦ filtered.Value v ]
+
+abbrev pub finished : Result Value Stop → Filtered
+finished (Ok v) = fitted v
+finished (Err e) = stopped e
 
 -- a call answers by a run
 abbrev pub Replies : Ran FaultKind Plain → Filtered → Trace → Type 0

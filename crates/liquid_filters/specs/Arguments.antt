@@ -16,3 +16,7 @@ abbrev pub one_or_none : List Plain → Result (Option Plain) FaultKind
 one_or_none [] = Ok None
 one_or_none (w ∷ []) = Ok (Some w)
 one_or_none ws = Err FilterArgument
+
+abbrev pub two : List Plain → Result (Plain × Plain) FaultKind
+two (w ∷ x ∷ []) = Ok (w, x)
+two ws = Err FilterArgument

@@ -1,11 +1,13 @@
--- Texts in which something else stands for some marks. After the reference of Liquid 4 (Shopify), "Filters": `escape`, `escape_once`, `newline_to_br`, `strip_newlines`.
+-- Texts in which something else stands for some marks. After the reference of Liquid 4 (Shopify), "Filters": `escape`, `escape_once`, `newline_to_br`, `strip_newlines`; and of Jekyll 4's manual,
+-- "Liquid Filters": `xml_escape`, `normalize_whitespace`.
 use Rattle.std.specs.Prelude.{ℕ, zero, suc, ◌==◌, nat_lt, Bool, false, ◌&&◌, List, [], ◌∷◌, ◌++◌, drop, codes, if◌then◌else◌, Option, Some, None}
 use Rattle.std.specs.Borrow.{Bor}
 use Rattle.std.specs.List.{prefix_len}
 use Rattle.site_base.specs.Lines.{begins_lf}
 use Rattle.site_text.specs.Bytes.{is_digit, is_letter}
+use Rattle.liquid_filters.specs.White.{is_white, begins_white}
 use Rattle.liquid_filters.specs.declared.marks.Mark.{Mark}
-use Rattle.liquid_filters.specs.declared.marks.Mark.TheVariants.{Escape, EscapeOnce, LineBreak, LineEnd}
+use Rattle.liquid_filters.specs.declared.marks.Mark.TheVariants.{Escape, EscapeOnce, EscapeXml, LineBreak, LineEnd, WhiteSpace}
 
 -- how many bytes behind the first belong to a mark, and what stands for it
 abbrev pub Found : Type 0
@@ -46,6 +48,11 @@ abbrev pub escape_once : List ℕ → Found
 escape_once [] = None
 escape_once (c ∷ cs) = if (c == 38) && is_reference cs then None else single (reference c)
 
+-- all but the single quote
+abbrev pub escape_xml : List ℕ → Found
+escape_xml [] = None
+escape_xml (c ∷ cs) = if c == 39 then None else single (reference c)
+
 abbrev pub line_break : List ℕ → Found
 line_break [] = None
 line_break (c ∷ cs) = if c == 10 then Some (0, codes "<br />" ++ 10 ∷ []) else None
@@ -58,12 +65,19 @@ line_end (c ∷ cs) =
     else if (c == 13) && begins_lf cs then Some (1, [])
     else None
 
+-- the last of a run is a space
+abbrev pub white_space : List ℕ → Found
+white_space [] = None
+white_space (c ∷ cs) = if is_white c then Some (0, if begins_white cs then [] else codes " ") else None
+
 -- the mark at the front of a text
 abbrev pub mark_at : Mark → List ℕ → Found
 mark_at Escape t = escape t
 mark_at EscapeOnce t = escape_once t
+mark_at EscapeXml t = escape_xml t
 mark_at LineBreak t = line_break t
 mark_at LineEnd t = line_end t
+mark_at WhiteSpace t = white_space t
 
 -- a text from its front, of which the first bytes are passed over
 unfoldable pub marked_after : Mark → ℕ → List ℕ → List ℕ

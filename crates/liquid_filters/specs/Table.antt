@@ -12,9 +12,14 @@ use Rattle.liquid_filters.specs.declared.numbers.NumberFilter.TheVariants.{Abs, 
 use Rattle.liquid_filters.specs.Changes.{change_filter}
 use Rattle.liquid_filters.specs.declared.changes.TextChange.{TextChange}
 use Rattle.liquid_filters.specs.declared.changes.TextChange.TheVariants.{Capitalize, Downcase, Escape, EscapeOnce, Lstrip, NewlineToBr, Rstrip, Strip, StripNewlines, Upcase, UrlEncode}
+use Rattle.liquid_filters.specs.Dates.{date}
 use Rattle.liquid_filters.specs.Lists.{list_filter}
 use Rattle.liquid_filters.specs.declared.lists.ListFilter.{ListFilter}
 use Rattle.liquid_filters.specs.declared.lists.ListFilter.TheVariants.{Concat, Default, First, Join, Last, Reverse, Size}
+use Rattle.liquid_filters.specs.Selections.{selection_filter}
+use Rattle.liquid_filters.specs.declared.selections.Selection.TheVariants.{Compact, Map, Uniq, Where}
+use Rattle.liquid_filters.specs.Sortings.{sort_filter}
+use Rattle.liquid_filters.specs.declared.sortings.Sorting.TheVariants.{Sort, SortNatural}
 use Rattle.liquid_filters.specs.Texts.{text_filter}
 use Rattle.liquid_filters.specs.declared.texts.TextFilter.{TextFilter}
 use Rattle.liquid_filters.specs.declared.texts.TextFilter.TheVariants.{Append, Prepend}
@@ -44,7 +49,9 @@ rows =
     ∷ (codes "at_most", number AtMost)
     ∷ (codes "capitalize", changing Capitalize)
     ∷ (codes "ceil", number Ceil)
+    ∷ (codes "compact", selection_filter Compact)
     ∷ (codes "concat", listing Concat)
+    ∷ (codes "date", date)
     ∷ (codes "default", listing Default)
     ∷ (codes "divided_by", number DividedBy)
     ∷ (codes "downcase", changing Downcase)
@@ -55,6 +62,7 @@ rows =
     ∷ (codes "join", listing Join)
     ∷ (codes "last", listing Last)
     ∷ (codes "lstrip", changing Lstrip)
+    ∷ (codes "map", selection_filter Map)
     ∷ (codes "minus", number Minus)
     ∷ (codes "modulo", number Modulo)
     ∷ (codes "newline_to_br", changing NewlineToBr)
@@ -64,11 +72,15 @@ rows =
     ∷ (codes "round", number Round)
     ∷ (codes "rstrip", changing Rstrip)
     ∷ (codes "size", listing Size)
+    ∷ (codes "sort", sort_filter Sort)
+    ∷ (codes "sort_natural", sort_filter SortNatural)
     ∷ (codes "strip", changing Strip)
     ∷ (codes "strip_newlines", changing StripNewlines)
     ∷ (codes "times", number Times)
+    ∷ (codes "uniq", selection_filter Uniq)
     ∷ (codes "upcase", changing Upcase)
     ∷ (codes "url_encode", changing UrlEncode)
+    ∷ (codes "where", selection_filter Where)
     ∷ []
 
 -- the filter of this name
@@ -78,6 +90,9 @@ filter_named name = lookup (bytes_eq name) rows
 -- what the code's own name of a filter stands for
 abbrev pub meaning_of : FilterName → Meaning
 meaning_of (family.Change change) = changing change
+meaning_of family.Date = date
 meaning_of (family.List filter) = listing filter
 meaning_of (family.Number filter) = number filter
+meaning_of (family.Select selection) = selection_filter selection
+meaning_of (family.Sort filter) = sort_filter filter
 meaning_of (family.Text filter) = texting filter

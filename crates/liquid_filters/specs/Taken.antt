@@ -1,19 +1,48 @@
--- What a call takes its input for, by the code's own type.
-use Rattle.std.specs.Prelude.{◌≡◌, Result, Ok, Err}
-use Rattle.site_base.specs.Plain.{Items}
-use Rattle.site_base.specs.View.{items_of}
+-- What calls take their input for, by the code's own types.
+use Rattle.std.specs.Prelude.{◌≡◌, Bool, not, Option, Some, None, Result, Ok, Err}
+use Rattle.site_base.specs.Plain.{Plain, Items}
+use Rattle.site_base.specs.View.{plain, items_of}
 use Rattle.site_base.specs.declared.faults.FaultKind.{FaultKind}
 use Rattle.liquid_filters.specs.declared.elements.Elements.{Elements}
-use Rattle.liquid_filters.specs.declared.elements.Elements.TheVariants.{Lent, Counted}
-use Rattle.liquid_filters.specs.declared.stop.Stop.{Stop}
-use Rattle.liquid_filters.specs.declared.stop.Stop.TheVariants as stop
+use Rattle.liquid_filters.specs.declared.elements.Elements.TheVariants.{Lent, Made}
+use Rattle.liquid_filters.specs.Keyed as Keyed
+use Rattle.liquid_filters.specs.declared.keyed.Entry.{Entry}
+use Rattle.liquid_filters.specs.declared.keyed.Source.{Source}
+use Rattle.liquid_filters.specs.Choosing.{is_filled, shows_text}
+use Rattle.liquid_filters.specs.declared.choosing.Test.{Test}
+use Rattle.liquid_filters.specs.declared.choosing.Test.TheVariants.{Filled, Empty, Shows}
+use Rattle.liquid_filters.specs.Stops.{Stop}
+use Rattle.read_record.specs.declared.stop.Stop.TheVariants as stop
 
 abbrev pub item_values : Elements → Items
 item_values (Lent vs) = items_of vs.now
-item_values (Counted is) = is
+item_values (Made is) = is
 
 abbrev pub MakesElements : Result Items FaultKind → Result Elements Stop → Type 0
 MakesElements found (Ok es) = found ≡ Ok (item_values es)
 MakesElements found (Err (stop.Fault k)) = found ≡ Err k
 MakesElements found (Err (stop.Needs j)) = ⊥
 MakesElements found (Err stop.Memory) = Unit {0}
+
+-- ---- elements with their keys
+
+abbrev pub keys_or : Items → Option Items → Items
+keys_or is None = is
+keys_or is (Some ks) = ks
+
+abbrev pub source_of : Source → Keyed.Source
+source_of s = Keyed.source (item_values s.elements) (keys_or (item_values s.elements) s.keys)
+
+abbrev pub found_source : Result Source Stop → Result Keyed.Source Stop
+found_source (Ok s) = Ok (source_of s)
+found_source (Err e) = Err e
+
+abbrev pub entry_of : Entry → Keyed.Entry
+entry_of e = record { key = plain e.key.now; value = plain e.value.now }
+
+-- ---- tests of keys
+
+abbrev pub passes : Test → Plain → Bool
+passes Filled k = is_filled k
+passes Empty k = not (is_filled k)
+passes (Shows t) k = shows_text t k

@@ -2,8 +2,8 @@
 use Rattle.std.specs.Prelude.{◌≡◌, ◌<◌, ◌++◌, List, ℕ, length, Result, Ok, Err}
 use Rattle.site_base.specs.declared.faults.FaultKind.TheVariants.{OutputTooLong}
 use Rattle.liquid_filters.specs.Limits.{most_text}
-use Rattle.liquid_filters.specs.declared.stop.Stop.{Stop}
-use Rattle.liquid_filters.specs.declared.stop.Stop.TheVariants as stop
+use Rattle.liquid_filters.specs.Stops.{Stop}
+use Rattle.read_record.specs.declared.stop.Stop.TheVariants as stop
 
 -- memory aside, only a piece with which there would be too much is refused
 abbrev pub Refuses : List ℕ → List ℕ → Stop → Type 0

@@ -1,12 +1,13 @@
-// How many arguments a filter takes.
+// How many arguments a filter takes: a wrong number of them is the fault FilterArgument.
 ghost use Rattle.std.specs.Prelude.{◌≡◌, map};
 ghost use Rattle.site_base.specs.View.{plain};
-ghost use Rattle.liquid_filters.specs.Answers.{seen, seen_if};
-ghost use Rattle.liquid_filters.specs.Arguments.{no_more, one, one_or_none};
+ghost use Rattle.liquid_filters.specs.Answers.{seen, seen_if, seen_two};
+ghost use Rattle.liquid_filters.specs.Arguments.{no_more, one, one_or_none, two};
 
 use site_base::{FaultKind, Value};
 
-pub(crate) fn no_more(args: &[Value]) -> Result<(), FaultKind>
+/// No argument.
+pub fn no_more(args: &[Value]) -> Result<(), FaultKind>
     ensures { result ≡ no_more (map plain args.now) }
 {
     match args {
@@ -15,7 +16,8 @@ pub(crate) fn no_more(args: &[Value]) -> Result<(), FaultKind>
     }
 }
 
-pub(crate) fn one(args: &[Value]) -> Result<&Value, FaultKind>
+/// The one argument.
+pub fn one(args: &[Value]) -> Result<&Value, FaultKind>
     ensures { seen result ≡ one (map plain args.now) }
 {
     match args {
@@ -24,12 +26,22 @@ pub(crate) fn one(args: &[Value]) -> Result<&Value, FaultKind>
     }
 }
 
-pub(crate) fn one_or_none(args: &[Value]) -> Result<Option<&Value>, FaultKind>
+/// The one argument, or that there is none.
+pub fn one_or_none(args: &[Value]) -> Result<Option<&Value>, FaultKind>
     ensures { seen_if result ≡ one_or_none (map plain args.now) }
 {
     match args {
         [] => Ok(None),
         [only] => Ok(Some(only)),
+        _ => Err(FaultKind::FilterArgument),
+    }
+}
+
+pub(crate) fn two(args: &[Value]) -> Result<(&Value, &Value), FaultKind>
+    ensures { seen_two result ≡ two (map plain args.now) }
+{
+    match args {
+        [first, second] => Ok((first, second)),
         _ => Err(FaultKind::FilterArgument),
     }
 }

@@ -13,14 +13,14 @@ use std::slice;
 
 /// The values of a list, or the numbers of a range.
 #[derive(Drop)]
-pub(crate) enum Elements<'a> {
+pub enum Elements<'a> {
     Lent(&'a [Value]),
-    Counted(List),
+    Made(List),
 }
 
 impl<'a> Elements<'a> {
     /// Those of a list, the numbers of a range, none of nil, and any other value by itself.
-    pub(crate) fn of(alloc: Global, input: &'a Value) -> Result<Elements<'a>, Stop>
+    pub fn of(alloc: Global, input: &'a Value) -> Result<Elements<'a>, Stop>
         ensures { MakesElements (elements (plain input.now)) result }
     {
         match input {
@@ -37,15 +37,16 @@ impl<'a> Elements<'a> {
         ensures { MakesElements (elements (range first last)) result }
     {
         let count = range_count(first, last)?;
-        Ok(Elements::Counted(counted(alloc, first, count)?))
+        Ok(Elements::Made(counted(alloc, first, count)?))
     }
 
-    pub(crate) fn as_slice(&self) -> &[Value]
+    /// The values themselves.
+    pub fn as_slice(&self) -> &[Value]
         ensures { items_of result.now ≡ item_values self.now }
     {
         match self {
             Elements::Lent(values) => values,
-            Elements::Counted(list) => list.as_slice(),
+            Elements::Made(list) => list.as_slice(),
         }
     }
 }

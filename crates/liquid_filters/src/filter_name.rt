@@ -5,26 +5,33 @@ ghost use Rattle.liquid_filters.specs.Table.{filter_named, meaning_of};
 use crate::changes::TextChange;
 use crate::lists::ListFilter;
 use crate::numbers::NumberFilter;
+use crate::selections::Selection;
+use crate::sortings::Sorting;
 use crate::texts::TextFilter;
 
 /// A filter, by the family that it belongs to.
 #[derive(Clone, Copy, Debug, PartialEq, Eq)]
 pub enum FilterName {
     Change(TextChange),
+    Date,
     List(ListFilter),
     Number(NumberFilter),
+    Select(Selection),
+    Sort(Sorting),
     Text(TextFilter),
 }
 
 // The table.
-const ROWS: [(&str, FilterName); 31] = [
+const ROWS: [(&str, FilterName); 38] = [
     ("abs", FilterName::Number(NumberFilter::Abs)),
     ("append", FilterName::Text(TextFilter::Append)),
     ("at_least", FilterName::Number(NumberFilter::AtLeast)),
     ("at_most", FilterName::Number(NumberFilter::AtMost)),
     ("capitalize", FilterName::Change(TextChange::Capitalize)),
     ("ceil", FilterName::Number(NumberFilter::Ceil)),
+    ("compact", FilterName::Select(Selection::Compact)),
     ("concat", FilterName::List(ListFilter::Concat)),
+    ("date", FilterName::Date),
     ("default", FilterName::List(ListFilter::Default)),
     ("divided_by", FilterName::Number(NumberFilter::DividedBy)),
     ("downcase", FilterName::Change(TextChange::Downcase)),
@@ -35,6 +42,7 @@ const ROWS: [(&str, FilterName); 31] = [
     ("join", FilterName::List(ListFilter::Join)),
     ("last", FilterName::List(ListFilter::Last)),
     ("lstrip", FilterName::Change(TextChange::Lstrip)),
+    ("map", FilterName::Select(Selection::Map)),
     ("minus", FilterName::Number(NumberFilter::Minus)),
     ("modulo", FilterName::Number(NumberFilter::Modulo)),
     ("newline_to_br", FilterName::Change(TextChange::NewlineToBr)),
@@ -44,14 +52,18 @@ const ROWS: [(&str, FilterName); 31] = [
     ("round", FilterName::Number(NumberFilter::Round)),
     ("rstrip", FilterName::Change(TextChange::Rstrip)),
     ("size", FilterName::List(ListFilter::Size)),
+    ("sort", FilterName::Sort(Sorting::Sort)),
+    ("sort_natural", FilterName::Sort(Sorting::SortNatural)),
     ("strip", FilterName::Change(TextChange::Strip)),
     (
         "strip_newlines",
         FilterName::Change(TextChange::StripNewlines),
     ),
     ("times", FilterName::Number(NumberFilter::Times)),
+    ("uniq", FilterName::Select(Selection::Uniq)),
     ("upcase", FilterName::Change(TextChange::Upcase)),
     ("url_encode", FilterName::Change(TextChange::UrlEncode)),
+    ("where", FilterName::Select(Selection::Where)),
 ];
 
 impl FilterName {

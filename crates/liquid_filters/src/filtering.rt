@@ -2,14 +2,17 @@
 ghost use Rattle.std.specs.Prelude.{◌≡◌, map};
 ghost use Rattle.site_base.specs.View.{plain};
 ghost use Rattle.read_record.specs.Queries.{run};
-ghost use Rattle.liquid_filters.specs.Answers.{answered, limited, Makes, Gives, Replies, Filters};
+ghost use Rattle.liquid_filters.specs.Answers.{limited, Makes, Gives, Replies, Filters};
 ghost use Rattle.liquid_filters.specs.Table.{filter_named, meaning_of, number_value};
 
 use crate::FilterName;
 use crate::changes::change_filter;
-use crate::limits::fitted;
+use crate::dates::date;
+use crate::limits::finished;
 use crate::lists::list_filter;
 use crate::numbers::number_filter;
+use crate::selections::selection_filter;
+use crate::sortings::sort_filter;
 use crate::stop::{Filtered, Stop};
 use crate::texts::text_filter;
 use read_record::Look;
@@ -46,10 +49,7 @@ impl FilterName {
         ensures same { L.view look.new ≡ L.view look.old }
         ensures gives { Replies (run (L.view look.old) (L.trace look.old) (limited (meaning_of self (plain input.now) (map plain args.now)))) result (L.trace look.new) }
     {
-        match self.value(alloc, input, args, look) {
-            Ok(value) => answer(fitted(value)),
-            Err(stop) => Filtered::from(stop),
-        }
+        finished(self.value(alloc, input, args, look))
     }
 
     // The same, before its limits are tested.
@@ -65,8 +65,11 @@ impl FilterName {
     {
         match self {
             FilterName::Change(change) => change_filter(alloc, change, input, args),
+            FilterName::Date => date(alloc, input, args, look),
             FilterName::List(filter) => list_filter(alloc, filter, input, args),
             FilterName::Number(filter) => number(number_filter(filter, input, args)),
+            FilterName::Select(selection) => selection_filter(alloc, selection, input, args, look),
+            FilterName::Sort(filter) => sort_filter(alloc, filter, input, args, look),
             FilterName::Text(filter) => text_filter(alloc, filter, input, args),
         }
     }
@@ -78,14 +81,5 @@ fn number(found: Result<i64, FaultKind>) -> Result<Value, Stop>
     match found {
         Ok(number) => Ok(Value::Int(number)),
         Err(kind) => Err(Stop::Fault(kind)),
-    }
-}
-
-fn answer(found: Result<Value, FaultKind>) -> Filtered
-    ensures { result ≡ answered found }
-{
-    match found {
-        Ok(value) => Filtered::Value(value),
-        Err(kind) => Filtered::Fault(kind),
     }
 }

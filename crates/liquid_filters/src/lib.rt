@@ -1,27 +1,51 @@
-//! The filters of Liquid: each is found by its name, takes an input and arguments, and gives a value.
+//! The filters of Liquid: each is found by its name, takes an input and arguments, and gives a value. What other tables of
+//! filters need too is handed on: how arguments are counted, what an input is taken for, and the limits of what is made.
 #![tactic(auto)]
 
 mod arguments;
 mod changes;
+mod choosing;
+mod dates;
 mod elements;
 mod filter_name;
 mod filtering;
+mod key_order;
+mod keyed;
 mod limits;
 mod lists;
 mod marks;
 mod numbers;
 mod numerals;
+mod properties;
+mod selections;
+mod site_variables;
+mod sortings;
 mod stop;
 mod texts;
+mod urls;
+mod white;
 mod writer;
 
+pub use arguments::{no_more, one, one_or_none};
 pub use changes::TextChange;
+pub use dates::dated;
+pub use elements::Elements;
 pub use filter_name::FilterName;
 pub use filtering::filter;
-pub use lists::ListFilter;
+pub use keyed::{Entry, Source};
+pub use limits::{MOST_TEXT, finished};
+pub use lists::{ListFilter, char_count, first_of, last_of, push_copies};
+pub use marks::{Mark, marked};
 pub use numbers::NumberFilter;
-pub use stop::Filtered;
+pub use numerals::{fit, num};
+pub use selections::Selection;
+pub use site_variables::site_variable;
+pub use sortings::Sorting;
+pub use stop::{Filtered, Stop};
 pub use texts::TextFilter;
+pub use urls::{UrlCode, percent_encoded};
+pub use white::{is_white, without_end, without_front};
+pub use writer::Writer;
 
 #[cfg(test)]
 mod tests;

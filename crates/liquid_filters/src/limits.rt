@@ -1,13 +1,14 @@
 // What a filter may give: how long a text may be, and how deep a value may nest.
 ghost use Rattle.std.specs.Prelude.{◌≡◌, nat_le};
 ghost use Rattle.site_base.specs.View.{plain, items_of, pairs_of};
-ghost use Rattle.liquid_filters.specs.Answers.{in_plain};
-ghost use Rattle.liquid_filters.specs.Limits.{nests, items_nest, pairs_nest, text_excess, nesting_excess, excess, fits};
+ghost use Rattle.liquid_filters.specs.Answers.{fitted, finished};
+ghost use Rattle.liquid_filters.specs.Limits.{nests, items_nest, pairs_nest, text_excess, nesting_excess, excess};
 
+use crate::stop::{Filtered, Stop};
 use site_base::{FaultKind, Pair, Value};
 
 /// The most bytes of a text that is made.
-pub(crate) const MOST_TEXT: usize = 16_777_216;
+pub const MOST_TEXT: usize = 16_777_216;
 
 /// How deep a value may nest that is made.
 const MOST_NESTING: u64 = 1000;
@@ -15,13 +16,22 @@ const MOST_NESTING: u64 = 1000;
 /// The most numbers of a range that are laid out.
 pub(crate) const MOST_COUNTED: u64 = 1_000_000;
 
-/// The value, where it is neither too long nor nests too deep.
-pub(crate) fn fitted(value: Value) -> Result<Value, FaultKind>
-    ensures { in_plain result ≡ fits (plain value) }
+/// What a filter answers that made this: a value that is too long or nests too deep is a fault.
+pub fn finished(found: Result<Value, Stop>) -> Filtered
+    ensures { result ≡ finished found }
+{
+    match found {
+        Ok(value) => fitted(value),
+        Err(stop) => Filtered::from(stop),
+    }
+}
+
+fn fitted(value: Value) -> Filtered
+    ensures { result ≡ fitted value }
 {
     match fault_of(&value) {
-        Some(kind) => Err(kind),
-        None => Ok(value),
+        Some(kind) => Filtered::Fault(kind),
+        None => Filtered::Value(value),
     }
 }
 

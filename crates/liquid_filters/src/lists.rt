@@ -13,7 +13,7 @@ use crate::elements::{Elements, range_count};
 use crate::numerals::fit;
 use crate::stop::Stop;
 use crate::writer::Writer;
-use site_base::{FaultKind, List, Memory, Text, Value, share, value_text};
+use site_base::{FaultKind, List, Memory, Text, Value, copy, value_text};
 use std::alloc::Global;
 
 /// A filter of lists that looks nothing up.
@@ -74,11 +74,12 @@ fn concat(alloc: Global, input: &Value, other: &Value) -> Result<Value, Stop>
     }
 }
 
-fn push_copies(alloc: Global, list: &mut List, values: &[Value]) -> Result<(), Memory>
+/// Adds copies of values at the end of a list.
+pub fn push_copies(alloc: Global, list: &mut List, values: &[Value]) -> Result<(), Memory>
     ensures { OnOk result (list.new ≡ onto list.old (items_of values.now)) }
 {
     for value in values {
-        list.push(share(alloc, value)?)?;
+        list.push(copy(alloc, value)?)?;
     }
     Ok(())
 }
@@ -87,9 +88,9 @@ fn default(alloc: Global, input: &Value, other: &Value) -> Result<Value, Stop>
     ensures { Makes (default (plain input.now) (plain other.now)) result }
 {
     if is_blank(input) {
-        Ok(share(alloc, other)?)
+        Ok(copy(alloc, other)?)
     } else {
-        Ok(share(alloc, input)?)
+        Ok(copy(alloc, input)?)
     }
 }
 
@@ -111,9 +112,16 @@ fn first(alloc: Global, input: &Value) -> Result<Value, Stop>
     ensures { Makes (first (plain input.now)) result }
 {
     let elements = Elements::of(alloc, input)?;
-    match elements.as_slice() {
+    Ok(first_of(alloc, elements.as_slice())?)
+}
+
+/// The first of some values; nil where there is none.
+pub fn first_of(alloc: Global, values: &[Value]) -> Result<Value, Memory>
+    ensures { IfOk result (λ value. plain value ≡ first_item (items_of values.now)) }
+{
+    match values {
         [] => Ok(Value::Nil),
-        [value, ..] => Ok(share(alloc, value)?),
+        [value, ..] => copy(alloc, value),
     }
 }
 
@@ -124,12 +132,13 @@ fn last(alloc: Global, input: &Value) -> Result<Value, Stop>
     Ok(last_of(alloc, elements.as_slice())?)
 }
 
-fn last_of(alloc: Global, values: &[Value]) -> Result<Value, Memory>
+/// The last of some values; nil where there is none.
+pub fn last_of(alloc: Global, values: &[Value]) -> Result<Value, Memory>
     ensures { IfOk result (λ value. plain value ≡ last_item (items_of values.now)) }
 {
     match values {
         [] => Ok(Value::Nil),
-        [.., value] => share(alloc, value),
+        [.., value] => copy(alloc, value),
     }
 }
 
@@ -147,7 +156,7 @@ fn reversed(alloc: Global, values: &[Value]) -> Result<List, Memory>
     let mut place = values.len();
     while place > 0 {
         place -= 1;
-        list.push(share(alloc, &values[place])?)?;
+        list.push(copy(alloc, &values[place])?)?;
     }
     Ok(list)
 }
@@ -208,7 +217,8 @@ fn count_of(input: &Value) -> Result<u64, FaultKind>
     }
 }
 
-fn char_count(text: &str) -> usize
+/// How many characters a text has.
+pub fn char_count(text: &str) -> usize
     ensures { result ≡ length (chars text.now) }
 {
     text.chars().count()

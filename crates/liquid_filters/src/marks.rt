@@ -4,26 +4,31 @@ ghost use Rattle.std.specs.List.{prefix_len};
 ghost use Rattle.std.specs.Str.{IsCharBoundary};
 ghost use Rattle.std.specs.String.{string_bytes};
 ghost use Rattle.site_text.specs.Bytes.{is_digit, is_letter};
-ghost use Rattle.liquid_filters.specs.Marks.{escape, begins_semicolon, is_reference, escape_once, line_break, line_end, mark_at, marked_after, marked, found_of};
+ghost use Rattle.liquid_filters.specs.Marks.{escape, begins_semicolon, is_reference, escape_once, escape_xml, line_break, line_end, white_space, mark_at, marked_after, marked, found_of};
 
+use crate::white::{begins_white, is_white};
 use site_text::{Class, class_run, is_letter};
 use std::alloc::{AllocError, Global};
 
 /// What something else stands for.
 #[derive(Clone, Copy, Debug, PartialEq, Eq)]
-pub(crate) enum Mark {
+pub enum Mark {
     /// `&`, `<`, `>` and the quotes, for which references stand.
     Escape,
     /// The same, but no `&` that begins a reference.
     EscapeOnce,
+    /// The same as `Escape`, but no single quote.
+    EscapeXml,
     /// A line end, before which a break stands then.
     LineBreak,
     /// A line end, for which nothing stands.
     LineEnd,
+    /// White space: a space stands for each run of it.
+    WhiteSpace,
 }
 
 /// A text in which something else stands for each mark.
-pub(crate) fn marked(alloc: Global, mark: Mark, text: &str) -> Result<String, AllocError>
+pub fn marked(alloc: Global, mark: Mark, text: &str) -> Result<String, AllocError>
     ensures { IfOk result (λ made. string_bytes made ≡ marked mark text.now) }
 {
     let mut made = String::new(alloc);
@@ -81,8 +86,10 @@ impl Mark {
         match self {
             Mark::Escape => escape(text),
             Mark::EscapeOnce => escape_once(text),
+            Mark::EscapeXml => escape_xml(text),
             Mark::LineBreak => line_break(text),
             Mark::LineEnd => line_end(text),
+            Mark::WhiteSpace => white_space(text),
         }
     }
 }
@@ -153,6 +160,15 @@ fn begins_semicolon(text: &[u8]) -> bool
     matches!(text, [b';', ..])
 }
 
+fn escape_xml(text: &[u8]) -> Option<(usize, &'static str)>
+    ensures { found_of result ≡ escape_xml text.now }
+{
+    match text {
+        [b'\'', ..] => None,
+        _ => escape(text),
+    }
+}
+
 fn line_break(text: &[u8]) -> Option<(usize, &'static str)>
     ensures { found_of result ≡ line_break text.now }
 {
@@ -169,5 +185,23 @@ fn line_end(text: &[u8]) -> Option<(usize, &'static str)>
         [b'\n', ..] => Some((0, "")),
         [b'\r', b'\n', ..] => Some((1, "")),
         _ => None,
+    }
+}
+
+// The last of a run is a space.
+fn white_space(text: &[u8]) -> Option<(usize, &'static str)>
+    ensures { found_of result ≡ white_space text.now }
+{
+    match text {
+        [byte, rest @ ..] => {
+            if !is_white(*byte) {
+                None
+            } else if begins_white(rest) {
+                Some((0, ""))
+            } else {
+                Some((0, " "))
+            }
+        }
+        [] => None,
     }
 }

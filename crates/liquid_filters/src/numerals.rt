@@ -9,7 +9,7 @@ ghost use Rattle.liquid_filters.specs.Numerals.{fitting, is_digits, without_dash
 use site_base::{FaultKind, Value};
 
 /// The number that a value counts as; what is no number counts as 0.
-pub(crate) fn num(value: &Value) -> Result<i64, FaultKind>
+pub fn num(value: &Value) -> Result<i64, FaultKind>
     ensures { result ≡ num (plain value.now) }
 {
     match value {
@@ -20,7 +20,7 @@ pub(crate) fn num(value: &Value) -> Result<i64, FaultKind>
 }
 
 /// The number, where an `i64` holds it.
-pub(crate) fn fit(number: i128) -> Result<i64, FaultKind>
+pub fn fit(number: i128) -> Result<i64, FaultKind>
     ensures { result ≡ fitting number }
 {
     match i64::try_from(number) {
@@ -29,7 +29,8 @@ pub(crate) fn fit(number: i128) -> Result<i64, FaultKind>
     }
 }
 
-fn text_number(text: &str) -> Result<i64, FaultKind>
+/// The same of a text.
+pub(crate) fn text_number(text: &str) -> Result<i64, FaultKind>
     ensures { result ≡ text_number text.now }
 {
     if is_whole(text) {
@@ -75,7 +76,8 @@ fn without_dash(text: &[u8]) -> &[u8]
     }
 }
 
-fn is_digits(text: &[u8]) -> bool
+/// Whether a text is digits alone, and some.
+pub(crate) fn is_digits(text: &[u8]) -> bool
     ensures { result ≡ is_digits text.now }
 {
     !text.is_empty() && all_digits(text)

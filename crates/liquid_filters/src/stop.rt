@@ -1,9 +1,7 @@
 // How a filter ends.
 ghost use Rattle.std.specs.Prelude.{◌≡◌};
-ghost use Rattle.liquid_filters.specs.declared.stop.Stop.TheVariants as stop;
 
-use site_base::{FaultKind, Memory, Value};
-use std::alloc::{AllocError, AllocFailed};
+use site_base::{FaultKind, Value};
 
 /// What a filter answers.
 #[derive(Drop)]
@@ -17,46 +15,8 @@ pub enum Filtered {
     Memory,
 }
 
-/// Why there is no value.
-#[derive(Clone, Copy, Debug, PartialEq, Eq)]
-pub(crate) enum Stop {
-    Fault(FaultKind),
-    /// This item has to be done first.
-    Needs(u32),
-    Memory,
-}
-
-impl From<FaultKind> for Stop {
-    ghost from_gives = { λ kind made. made ≡ stop.Fault kind };
-
-    fn from(kind: FaultKind) -> Stop {
-        Stop::Fault(kind)
-    }
-}
-
-impl From<Memory> for Stop {
-    ghost from_gives = { λ _ made. made ≡ stop.Memory };
-
-    fn from(_: Memory) -> Stop {
-        Stop::Memory
-    }
-}
-
-impl From<AllocError> for Stop {
-    ghost from_gives = { λ _ made. made ≡ stop.Memory };
-
-    fn from(_: AllocError) -> Stop {
-        Stop::Memory
-    }
-}
-
-impl<T: Drop> From<AllocFailed<T>> for Stop {
-    ghost from_gives = { λ _ made. made ≡ stop.Memory };
-
-    fn from(_: AllocFailed<T>) -> Stop {
-        Stop::Memory
-    }
-}
+/// Why a filter gives no value.
+pub type Stop = read_record::Stop<FaultKind>;
 
 impl From<Stop> for Filtered {
     ghost use Rattle.liquid_filters.specs.Answers.{stopped};

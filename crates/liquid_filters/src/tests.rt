@@ -1,4 +1,6 @@
 // What filters give, as texts of codes of values.
+mod keyed;
+
 use crate::{Filtered, filter};
 use read_record::{Answer, Key, Look};
 use site_base::{FaultKind, List, Memory, Text, Value, same_code};
@@ -76,6 +78,8 @@ fn fault_text(kind: FaultKind) -> &'static str {
         FaultKind::Overflow => "F16",
         FaultKind::Fraction => "F17",
         FaultKind::RangeTooLong => "F19",
+        FaultKind::DateFormat => "F22",
+        FaultKind::Unlike => "F23",
         _ => "another fault",
     }
 }
@@ -238,6 +242,62 @@ const TEXTS: &[(&str, Given, Given, &str)] = &[
 #[test]
 fn filters_of_texts(rt: HostRuntime) -> Result<(), Fail> {
     for row in TEXTS {
+        assert!(rt; gives(rt.alloc(), row) == Ok(true));
+    }
+    Ok(())
+}
+
+const DATES: &[(&str, Given, Given, &str)] = &[
+    (
+        "date",
+        Given::Text("2020-01-02"),
+        Given::Text("%Y %e|%p %-I"),
+        "s13:2020  2|AM 12",
+    ),
+    (
+        "date",
+        Given::Text("2020-01-02 03:04:05 +0200"),
+        Given::Text("%F %T"),
+        "s19:2020-01-02 01:04:05",
+    ),
+    ("date", Given::Int(-1), Given::Text("%s"), "s2:-1"),
+    ("date", Given::Text("86400"), Given::Text("%d"), "s2:02"),
+    (
+        "date",
+        Given::Text("now"),
+        Given::Text("%F"),
+        "s10:1970-01-01",
+    ),
+    ("date", Given::Text("today"), Given::Text("%H"), "s2:00"),
+    ("date", Given::Text("Now"), Given::Text("%F"), "s3:Now"),
+    ("date", Given::Text("x"), Given::Text("%Q"), "s1:x"),
+    ("date", Given::Text("2020-01-02"), Given::Text("%Q"), "F22"),
+    (
+        "date",
+        Given::Text("2020-01-02"),
+        Given::Nil,
+        "s10:2020-01-02",
+    ),
+    (
+        "date",
+        Given::Int(253_402_214_400),
+        Given::Text("%Y"),
+        "i253402214400;",
+    ),
+    (
+        "date",
+        Given::Text("9223372036854775808"),
+        Given::Text("%Y"),
+        "s19:9223372036854775808",
+    ),
+    ("date", Given::Nil, Given::Text("%Y"), "n"),
+    ("date", Given::Range(1, 2), Given::Text("%Y"), "r1;2;"),
+    ("date", Given::Int(1), Given::Absent, "F14"),
+];
+
+#[test]
+fn filters_of_dates(rt: HostRuntime) -> Result<(), Fail> {
+    for row in DATES {
         assert!(rt; gives(rt.alloc(), row) == Ok(true));
     }
     Ok(())

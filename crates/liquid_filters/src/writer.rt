@@ -7,7 +7,7 @@ use std::marker::Model;
 
 /// Text that is being made, which clauses see as its bytes. It grows no longer than a text may be.
 #[derive(Drop)]
-pub(crate) struct Writer {
+pub struct Writer {
     text: String,
 }
 
@@ -27,7 +27,7 @@ impl Writer {
     ghost use Rattle.liquid_filters.specs.Writing.{Writes};
 
     /// Nothing written; it takes no memory.
-    pub(crate) fn new(alloc: Global) -> Writer
+    pub fn new(alloc: Global) -> Writer
         ensures { result ≡ [] }
     {
         Writer {
@@ -35,8 +35,8 @@ impl Writer {
         }
     }
 
-    /// Adds a text at the end.
-    pub(crate) fn push(&mut self, text: &str) -> Result<(), Stop>
+    /// Adds a text at the end. OutputTooLong comes exactly where there would be more than a text may have.
+    pub fn push(&mut self, text: &str) -> Result<(), Stop>
         ensures { Writes self.old self.new text.now result }
     {
         if self.text.len() as u128 + text.len() as u128 > MOST_TEXT as u128 {
@@ -48,8 +48,8 @@ impl Writer {
         }
     }
 
-    /// Adds the text of a value at the end.
-    pub(crate) fn push_value(&mut self, alloc: Global, value: &Value) -> Result<(), Stop>
+    /// Adds the text of a value at the end, with the same fault.
+    pub fn push_value(&mut self, alloc: Global, value: &Value) -> Result<(), Stop>
         ensures { Writes self.old self.new (value_text (plain value.now)) result }
     {
         match value_text(alloc, value) {
@@ -59,7 +59,7 @@ impl Writer {
     }
 
     /// What was written.
-    pub(crate) fn finish(self) -> Result<Text, Memory>
+    pub fn finish(self) -> Result<Text, Memory>
         ensures { IfOk result (λ text. text ≡ self) }
     {
         Text::from_string(self.text)

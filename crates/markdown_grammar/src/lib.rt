@@ -4,13 +4,17 @@
 //! text, then its blocks, its inlines, and `html`, the HTML that it means. They say what a text is,
 //! by recursion on whole extents and by rewriting. The functions here hold the laws by which a
 //! program finds the same from left to right; they do nothing when they run. `HtmlKind` is the one type that
-//! definitions share with programs.
+//! definitions share with programs. `Convert` is what makes the HTML, for those who do not ask how.
 #![tactic(auto)]
 
+mod convert;
+mod html_error;
 mod html_kind;
 mod inlines;
 mod lines;
 
+pub use convert::Convert;
+pub use html_error::HtmlError;
 pub use html_kind::HtmlKind;
 pub use inlines::{emphasis_in_one_pass, texts_from_left_to_right};
 pub use lines::{blocks_in_one_walk, lazy_lines_reach_their_paragraph};

@@ -5,7 +5,7 @@ use Rattle.site_base.specs.View.{plain}
 use Rattle.site_base.specs.declared.faults.FaultKind.TheVariants.{Unbuilt}
 use Rattle.site_config.specs.Forms.{is_text, setting}
 use Rattle.site_files.specs.Names.{extension, file_name}
-use Rattle.site_items.specs.Extensions.{is_listed}
+use Rattle.site_text.specs.Extensions.{is_listed}
 use Rattle.site_reader.specs.declared.site.Site.{Site}
 use Rattle.site_reader.specs.declared.site_item.SiteItem.{SiteItem}
 use Rattle.page_render.specs.Pieces.{body_text}

@@ -8,8 +8,8 @@ use crate::body::{body_text, setting};
 use read_record::Outcome;
 use site_base::{FaultKind, Memory, SiteFault, SitePath, Text, Value};
 use site_files::{extension, file_name};
-use site_items::is_listed;
 use site_reader::{Site, SiteItem};
+use site_text::is_listed;
 use std::alloc::Global;
 
 /// The most bytes of a body.

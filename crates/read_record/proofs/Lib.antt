@@ -1,3 +1,5 @@
+pub mod BindLaws
+pub mod CallLaws
 pub mod KeyLaws
 pub mod SeenLaws
 pub mod QueryLaws

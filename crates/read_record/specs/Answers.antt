@@ -1,14 +1,18 @@
 -- What calls answer, in terms of queries.
-use Rattle.std.specs.Prelude.{◌≡◌, List, [], ◌∷◌, ◌++◌}
+use Rattle.std.specs.Prelude.{◌≡◌, List, [], ◌∷◌, ◌++◌, Result, Ok, Err}
+use Rattle.site_base.specs.Plain.{Plain}
 use Rattle.site_base.specs.View.{plain}
 use Rattle.site_base.specs.declared.faults.SiteFault.{SiteFault}
+use Rattle.site_base.specs.declared.value.Value.{Value}
 use Rattle.site_base.specs.declared.item_name.ItemName.{ItemName}
 use Rattle.read_record.specs.declared.key.Key.{Key}
 use Rattle.read_record.specs.declared.look.Answer.{Answer}
 use Rattle.read_record.specs.declared.look.Answer.TheVariants as answer
 use Rattle.read_record.specs.declared.renderer.Rendered.{Rendered}
 use Rattle.read_record.specs.declared.renderer.Rendered.TheVariants as rendered
-use Rattle.read_record.specs.Queries.{Reply, Known, Missing, Trace, note, Ran, WaitsFor, ran}
+use Rattle.read_record.specs.declared.stop.Stop.{Stop}
+use Rattle.read_record.specs.declared.stop.Stop.TheVariants as stop
+use Rattle.read_record.specs.Queries.{Reply, Known, Missing, Trace, note, Ran, RanTo, FailedAt, WaitsFor, ran}
 use Rattle.read_record.specs.Outcomes.{Page, met_of}
 
 -- a look-up answers by the reply of the view
@@ -34,3 +38,20 @@ abbrev pub rendered_names : Rendered → ItemName → List ItemName → List Ite
 rendered_names (rendered.Out o) name names = names ++ name ∷ []
 rendered_names (rendered.Needs j) name names = names
 rendered_names rendered.Memory name names = names
+
+-- ---- calls that look things up
+
+-- a call stopped as a run does
+abbrev pub Stops : {F A : Type 0} → Ran F A → Stop F → Trace → Type 0
+Stops run (stop.Fault e) t = run ≡ FailedAt e t
+Stops run (stop.Needs j) t = run ≡ WaitsFor j t
+Stops run stop.Memory t = Unit {0}
+
+-- a call gives what a run comes to
+abbrev pub Finds : {F A : Type 0} → Ran F A → Result A (Stop F) → Trace → Type 0
+Finds run (Ok a) t = run ≡ RanTo a t
+Finds run (Err e) t = Stops run e t
+
+abbrev pub in_plain : {E : Type 0} → Result Value E → Result Plain E
+in_plain (Ok v) = Ok (plain v)
+in_plain (Err e) = Err e

@@ -2,6 +2,7 @@
 //! render that was kept still tells what rendering anew would give.
 #![tactic(auto)]
 
+mod asking;
 mod checking;
 mod entry;
 mod key;
@@ -11,10 +12,12 @@ mod record;
 mod recorder;
 mod renderer;
 mod seen_code;
+mod stop;
 mod tally;
 mod traced;
 mod world;
 
+pub use asking::ask;
 pub use checking::check;
 pub use entry::Entry;
 pub use key::Key;
@@ -22,6 +25,7 @@ pub use look::{Answer, Look};
 pub use outcome::{Agreement, Checked, Outcome};
 pub use record::Record;
 pub use renderer::{ItemMeaning, Rendered, Renderer};
+pub use stop::Stop;
 pub use tally::Tally;
 pub use traced::{Traced, render_traced};
 pub use world::{Finished, World};

@@ -11,7 +11,7 @@ use crate::{
     Agreement, Answer, Checked, Entry, Finished, ItemMeaning, Key, Look, Outcome, Record, Rendered,
     Renderer, Tally, Traced, World, check, render_traced,
 };
-use site_base::{ItemName, Memory, SitePath, Text, Value, same_code, share, value_text};
+use site_base::{ItemName, Memory, SitePath, Text, Value, copy, same_code, value_text};
 use std::alloc::Global;
 use std::test::Fail;
 
@@ -69,7 +69,7 @@ impl World for Sample {
 
     fn look<F: Finished>(&self, alloc: Global, reader: u32, key: &Key, outs: &F) -> Answer {
         match key {
-            Key::Var(name, _) => match share(alloc, self.variable_of(name)) {
+            Key::Var(name, _) => match copy(alloc, self.variable_of(name)) {
                 Ok(value) => Answer::Seen(value),
                 Err(_) => Answer::Memory,
             },

@@ -37,7 +37,7 @@ pub use source::{ByteSource, MemoryInput};
 pub use text::Text;
 pub use text_list::TextList;
 pub use value::{
-    Hash, List, Pair, Unlike, Value, code, compare, equals, is_true, same_code, share, value_text,
+    Hash, List, Pair, Unlike, Value, code, compare, copy, equals, is_true, same_code, value_text,
 };
 
 /// Paths in an order.

@@ -13,7 +13,7 @@ mod writing;
 pub use coding::code;
 pub use equality::{Unlike, compare, equals, is_true};
 pub use matching::same_code;
-pub use sharing::share;
+pub use sharing::copy;
 pub use writing::value_text;
 
 #[cfg(test)]

@@ -115,7 +115,8 @@ fn moment_at(day: i32, second: u32, offset: i32) -> i64
     i64::from(day) * 86_400 + i64::from(second) - i64::from(offset)
 }
 
-fn if_moment(moment: i64) -> Option<i64>
+/// A number of seconds from 1970 in UTC, where it is within the limits of a moment.
+pub fn if_moment(moment: i64) -> Option<i64>
     ensures is { result ≡ if_moment moment }
     ensures range { IfSome result IsMoment }
 {

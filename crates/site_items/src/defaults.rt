@@ -3,7 +3,7 @@ ghost use Rattle.std.specs.Prelude.{◌≡◌, ◌≤◌, IfOk, OnOk, length, ma
 ghost use Rattle.std.specs.List.{position_or_len};
 ghost use Rattle.site_items.specs.Defaults.{by_strength, fits, is_for_path, is_for_type, is_stronger, set_all, strength, variables};
 
-use site_base::{Hash, Memory, share};
+use site_base::{Hash, Memory, copy};
 use site_config::Scope;
 use site_files::{covers, without_slash};
 use std::alloc::Global;
@@ -66,7 +66,7 @@ fn set_shares(alloc: Global, under: &mut Hash, values: &Hash) -> Result<(), Memo
     ensures { OnOk result (under.new ≡ set_all values.now under.old) }
 {
     for pair in values.as_slice() {
-        under.set(pair.key.share(alloc)?, share(alloc, &pair.value)?)?;
+        under.set(pair.key.share(alloc)?, copy(alloc, &pair.value)?)?;
     }
     Ok(())
 }

@@ -25,7 +25,7 @@ mod titles;
 
 pub use cuts::cut_at;
 pub use defaults::{by_strength, variables};
-pub use extensions::{is_listed, output_ext};
+pub use extensions::output_ext;
 pub use folders::{behind, without_extension};
 pub use include_file::IncludeFile;
 pub use item::{Item, Rules};

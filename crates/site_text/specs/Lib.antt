@@ -1,3 +1,4 @@
 pub mod Fronts
 pub mod Bytes
 pub mod Classes
+pub mod Extensions

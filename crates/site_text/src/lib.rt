@@ -1,9 +1,10 @@
 //! What every reader of text needs: classes of ASCII bytes, the runs of them that a text begins with,
-//! words at its front, and the numbers that digits spell.
+//! words at its front, extensions of files, and the numbers that digits spell.
 #![tactic(auto)]
 
 mod bytes;
 mod classes;
+mod extensions;
 mod fronts;
 mod numbers;
 
@@ -11,6 +12,7 @@ pub use bytes::{
     is_alnum, is_letter, is_name_start, is_one_of, is_punctuation, is_space, is_white, lower,
 };
 pub use classes::{Class, class_len, class_run};
+pub use extensions::is_listed;
 pub use fronts::{begins, begins_in_lower_case, byte_at, starts_with_byte};
 pub use numbers::number;
 

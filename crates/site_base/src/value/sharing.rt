@@ -10,9 +10,9 @@ use std::collections::BTreeMap;
 use std::mem;
 use std::sync::Arc;
 
-/// An equal value, a further holder of what can be shared: that is not copied.
+/// An equal value. What can be shared is not copied: the value is a further holder of it.
 #[cycle(share)]
-pub fn share(alloc: Global, value: &Value) -> Result<Value, Memory>
+pub fn copy(alloc: Global, value: &Value) -> Result<Value, Memory>
     ensures { IfOk result (λ shared. shared ≡ value.now) }
 {
     match value {
@@ -46,7 +46,7 @@ impl List {
     pub(crate) fn copied(&self, alloc: Global) -> Result<Box<Vec<Value>>, Memory>
         ensures { IfOk result (λ items. items_of items.value.items ≡ self.now) }
     {
-        Ok(Box::new(alloc, shares(alloc, self.as_slice())?)?)
+        Ok(Box::new(alloc, copies(alloc, self.as_slice())?)?)
     }
 
     /// The list, which further holders can share now, as they can each of its values. Nothing is copied.
@@ -68,12 +68,12 @@ impl List {
 }
 
 #[cycle(share)]
-fn shares(alloc: Global, values: &[Value]) -> Result<Vec<Value>, Memory>
+fn copies(alloc: Global, values: &[Value]) -> Result<Vec<Value>, Memory>
     ensures { IfOk result (λ made. made.items ≡ values.now) }
 {
     let mut made = Vec::with_capacity(alloc, values.len())?;
     for value in values {
-        made.push(share(alloc, value)?)?;
+        made.push(copy(alloc, value)?)?;
     }
     Ok(made)
 }
@@ -155,7 +155,7 @@ impl Pair {
     {
         Ok(Pair {
             key: self.key.share(alloc)?,
-            value: share(alloc, &self.value)?,
+            value: copy(alloc, &self.value)?,
         })
     }
 

@@ -1,7 +1,7 @@
 // What the calls on values answer for rows of them.
 use crate::{
-    Hash, ItemName, List, SitePath, Text, Unlike, Value, code, compare, equals, is_true, same_code,
-    share, value_text,
+    Hash, ItemName, List, SitePath, Text, Unlike, Value, code, compare, copy, equals, is_true,
+    same_code, value_text,
 };
 use std::alloc::Global;
 use std::cmp::Ordering;
@@ -193,13 +193,13 @@ fn has_code(alloc: Global, value: &Value, want: &[u8]) -> bool {
 
 // A share of a value, and one of what it is once it can be shared.
 fn is_shared(alloc: Global, value: &Value) -> bool {
-    let Ok(owned) = share(alloc, value) else {
+    let Ok(owned) = copy(alloc, value) else {
         return false;
     };
     let Ok(holder) = owned.into_shared() else {
         return false;
     };
-    match share(alloc, &holder) {
+    match copy(alloc, &holder) {
         Ok(other) => equals(value, &holder) && equals(value, &other),
         Err(_) => false,
     }

@@ -5,7 +5,7 @@ use Rattle.liquid_filters.proofs.lists.push_copies.Goals as goal
 pub loop-value-preserved : goal.loop-value-preserved
 loop-value-preserved c =
     let p = pushed c.loop-value.list c.args.values.now c.loop-value.value-index c.value-item.result c.loop-value-test.true c.value-item.is in
-    cc (p, c.in_ok-push.ensures.ok, c.in_ok-share.ensures)
+    cc (p, c.in_ok-push.ensures.ok, c.in_ok-copy.ensures)
 
 pub returns : goal.returns
 returns c = sym (onto_end c.loop-value.list c.args.values.now c.loop-value.value-index (omega arith)) ∙ c.loop-value.invariant

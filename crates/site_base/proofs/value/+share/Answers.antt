@@ -4,8 +4,8 @@ use Rattle.site_base.specs.View.{plain}
 use Rattle.site_base.proofs.Weights.{item_lighter, pair_lighter}
 use Rattle.site_base.proofs.value.+share.Goals as goal
 
-pub sharing::shares-share-requires : goal.sharing::shares-share-requires
-sharing::shares-share-requires t c =
+pub sharing::copies-copy-requires : goal.sharing::copies-copy-requires
+sharing::copies-copy-requires t c =
     (omega (arith, item_lighter _ c.loop-value.value-index c.value-item.result c.loop-value-test.true, ap (λ v. weight (plain v)) c.value-item.is, c.decreases), tt)
 
 pub sharing::shared_pairs-share-requires : goal.sharing::shared_pairs-share-requires

@@ -1,0 +1,59 @@
+-- Addresses in the site. After Jekyll 4's manual, "Liquid Filters": `relative_url`, `absolute_url`; what begins with a scheme: RFC 3986, section 3.1.
+use Rattle.std.specs.Prelude.{ℕ, ◌-◌, ◌==◌, Bool, false, not, ◌&&◌, List, [], ◌∷◌, ◌++◌, length, take, drop, slice_index, codes, if◌then◌else◌}
+use Rattle.site_base.specs.Plain.{Plain, text}
+use Rattle.site_base.specs.Values.{value_text}
+use Rattle.site_base.specs.declared.faults.FaultKind.{FaultKind}
+use Rattle.site_text.specs.Bytes.{is_letter}
+use Rattle.site_text.specs.Classes.{is_in}
+use Rattle.site_text.specs.Fronts.{run_len}
+use Rattle.site_text.specs.declared.classes.Class.TheVariants as class
+use Rattle.read_record.specs.declared.key.Key.TheVariants.{SiteVar}
+use Rattle.read_record.specs.Queries.{Query, Give, Ask, bind}
+use Rattle.liquid_filters.specs.Answers.{made}
+use Rattle.liquid_filters.specs.Arguments.{no_more}
+use Rattle.jekyll_filters.specs.declared.addresses.AddressFilter.{AddressFilter}
+use Rattle.jekyll_filters.specs.declared.addresses.AddressFilter.TheVariants.{AbsoluteUrl, RelativeUrl}
+
+abbrev pub begins_colon : List ℕ → Bool
+begins_colon [] = false
+begins_colon (c ∷ cs) = c == 58
+
+-- a letter, then letters, digits, `+`, `.` and `-`, then `:`
+abbrev pub has_scheme : List ℕ → Bool
+has_scheme [] = false
+has_scheme (c ∷ cs) = is_letter c && begins_colon (drop (run_len (is_in class.Scheme) cs) cs)
+
+-- not empty, and no `/` at the front
+abbrev pub lacks_slash : List ℕ → Bool
+lacks_slash [] = false
+lacks_slash (c ∷ cs) = not (c == 47)
+
+-- behind one `/`, where it is not empty
+abbrev pub behind_slash : List ℕ → List ℕ
+behind_slash t = if lacks_slash t then 47 ∷ t else t
+
+-- without one `/` at its end
+abbrev pub without_last_slash : List ℕ → List ℕ
+without_last_slash t = if slice_index t (length t - 1) == 47 then take (length t - 1) t else t
+
+-- a base and a path behind what stands before them
+abbrev pub address : List ℕ → List ℕ → List ℕ → List ℕ
+address before base path = before ++ (behind_slash (without_last_slash base) ++ behind_slash path)
+
+-- the same, by the base of the site
+abbrev pub based : List ℕ → List ℕ → Query FaultKind Plain
+based before path = Ask (SiteVar (codes "baseurl")) (λ base. Give (text (address before (value_text base) path)))
+
+abbrev pub absolute_url : List ℕ → Query FaultKind Plain
+absolute_url path = Ask (SiteVar (codes "url")) (λ url. based (value_text url) path)
+
+abbrev pub in_site : AddressFilter → List ℕ → Query FaultKind Plain
+in_site AbsoluteUrl path = absolute_url path
+in_site RelativeUrl path = based [] path
+
+-- what begins with a scheme stays
+abbrev pub addressed : AddressFilter → List ℕ → Query FaultKind Plain
+addressed filter path = if has_scheme path then Give (text path) else in_site filter path
+
+abbrev pub address_filter : AddressFilter → Plain → List Plain → Query FaultKind Plain
+address_filter filter v ws = bind (made (no_more ws)) (λ _. addressed filter (value_text v))

@@ -1,0 +1,11 @@
+pub mod Addresses
+pub mod Changes
+pub mod Dates
+pub mod Groups
+pub mod JsonFound
+pub mod JsonTexts
+pub mod Lists
+pub mod Markdown
+pub mod Samples
+pub mod Table
+pub mod Words

@@ -1,0 +1,16 @@
+use Rattle.std.proofs.Common.{ap, ◌∙◌, ◌+◌, drop, map, arith}
+use Rattle.site_base.specs.Plain.{Items, onto}
+use Rattle.liquid_filters.specs.Choosing.{chosen}
+use Rattle.liquid_filters.specs.Taken.{entry_of, passes}
+use Rattle.liquid_filters.proofs.SelectionLaws.{chosen_more, chosen_end}
+use Rattle.liquid_filters.proofs.choosing.chosen_of.Goals as goal
+
+pub loop-entry-preserved : goal.loop-entry-preserved
+loop-entry-preserved c =
+    let test = passes c.args.test.now in let es = c.args.entries.now in let i = c.loop-entry.entry-index in
+    ap (λ (is : Items). onto is (chosen test (map entry_of (drop (i + 1) es)))) c.in_ok-push_if.ensures
+    ∙ chosen_more entry_of test c.loop-entry.list es i c.entry-item.result c.in_ok-passes.passes c.loop-entry-test.true c.entry-item.is c.in_ok-passes.ensures
+    ∙ c.loop-entry.invariant
+
+pub returns : goal.returns
+returns c = chosen_end entry_of (passes c.args.test.now) c.loop-entry.list c.args.entries.now c.loop-entry.entry-index (omega arith) ∙ c.loop-entry.invariant

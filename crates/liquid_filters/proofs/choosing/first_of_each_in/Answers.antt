@@ -1,0 +1,26 @@
+use Rattle.std.proofs.Common.{ap, ◌∙◌, ◌+◌, ◌∷◌, drop, map, arith}
+use Rattle.std.specs.HashSet as bag
+use Rattle.std.specs.Str.{bytes_eq}
+use Rattle.site_base.specs.Plain.{Items, onto}
+use Rattle.site_base.specs.View.{plain}
+use Rattle.liquid_filters.specs.Choosing.{first_of_each}
+use Rattle.liquid_filters.specs.Taken.{entry_of}
+use Rattle.liquid_filters.proofs.SelectionLaws.{first_more, first_end, is_new, one_more}
+use Rattle.liquid_filters.proofs.choosing.first_of_each_in.Goals as goal
+
+pub loop-entry-preserved : goal.loop-entry-preserved
+loop-entry-preserved c =
+    let es = c.args.entries.now in let i = c.loop-entry.entry-index in
+    let key = plain c.entry-item.result.key.now in let met = c.loop-entry.invariant.met in
+    let made = c.in_ok-code.field-0 in
+    let new = is_new met key made.items (bag.contains (λ x y. bytes_eq x.items y.items) c.loop-entry.met made) c.in_ok-is_new.is_new c.in_ok-code.ensures.code c.in_ok-is_new.ensures.added (c.loop-entry.invariant.has made) in
+    record {
+      met = key ∷ met;
+      rest = ap (λ (is : Items). onto is (first_of_each (key ∷ met) (map entry_of (drop (i + 1) es)))) c.in_ok-push_if.ensures
+          ∙ first_more entry_of met c.loop-entry.list es i c.entry-item.result c.in_ok-is_new.is_new c.loop-entry-test.true c.entry-item.is new
+          ∙ c.loop-entry.invariant.rest;
+      has = λ q. one_more met key made.items q.items _ _ c.in_ok-code.ensures.code (c.loop-entry.invariant.has q) (c.in_ok-is_new.ensures.updates.0 q);
+    }
+
+pub returns : goal.returns
+returns c = first_end entry_of c.loop-entry.invariant.met c.loop-entry.list c.args.entries.now c.loop-entry.entry-index (omega arith) ∙ c.loop-entry.invariant.rest
