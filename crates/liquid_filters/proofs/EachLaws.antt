@@ -11,10 +11,9 @@ use Rattle.read_record.specs.declared.key.Key.{Key}
 use Rattle.read_record.specs.Queries.{Query, Give, Ask, bind, View, Trace, RanTo, run}
 use Rattle.read_record.proofs.BindLaws.{bind-assoc, bind-give}
 use Rattle.read_record.proofs.QueryLaws.{run_gave}
-use Rattle.liquid_filters.specs.Answers.{Finds, Stops}
+use Rattle.liquid_filters.specs.Answers.{Finds}
 use Rattle.liquid_filters.specs.Properties.{each, property, property_key}
 use Rattle.liquid_filters.specs.Stops.{Stop}
-use Rattle.liquid_filters.proofs.CallLaws.{stops_bind}
 use Rattle.liquid_filters.proofs.ItemLaws.{onto_item, onto_nothing}
 
 abbrev pub Asking : Type 0
@@ -48,12 +47,6 @@ pub each_more : (view : View) (t s : Trace) (ask : Asking) (found : Items) (vs :
     → run view t (ask (plain v)) ≡ RanTo p s → run view t (left ask found vs i) ≡ run view s (left ask (onto found (item p no_items)) vs (i + 1))
 each_more view t s ask found vs i v p lt e gave =
     ap (run view t) (next ask found vs i v lt e) ∙ run_gave view t (ask (plain v)) (λ p. left ask (onto found (item p no_items)) vs (i + 1)) p s gave
-
-pub each_stops : (view : View) (t s : Trace) (ask : Asking) (found : Items) (vs : List Value) (i : ℕ) (v : Value) (stop : Stop) → i < length vs → v ≡ get_or vs i v
-    → Stops (run view t (ask (plain v))) stop s → Stops (run view t (left ask found vs i)) stop s
-each_stops view t s ask found vs i v stop lt e h =
-    subst (λ (q : Query FaultKind Items). Stops (run view t q) stop s) (sym (next ask found vs i v lt e))
-    (stops_bind view t (ask (plain v)) (λ p. left ask (onto found (item p no_items)) vs (i + 1)) stop s h)
 
 pub each_last : (ask : Asking) (found : Items) (vs : List Value) (i : ℕ) → length vs ≤ i → left ask found vs i ≡ Give found
 each_last ask found vs i le =

@@ -26,14 +26,22 @@ counted_more is a n i lt =
     ∙ ap (λ b. onto is (item (int (a +ℤ pos i)) (counted b (n - (i + 1))))) (sym next)
     ∙ ap (λ k. onto is (counted (a +ℤ pos i) k)) (sym one)
 
+-- a list that is made of one value for each of a slice
+module _ {X : Type 0} (made : List X → Items) (one : X → Plain) (step : (x : X) (xs : List X) → made (x ∷ xs) ≡ item (one x) (made xs)) where
+  pub made_more : (is : Items) (xs : List X) (i : ℕ) (x : X) (v : Plain) → i < length xs → x ≡ get_or xs i x → v ≡ one x
+      → onto (onto is (item v no_items)) (made (drop (i + 1) xs)) ≡ onto is (made (drop i xs))
+  made_more is xs i x v lt e w =
+      onto_item is (made (drop (i + 1) xs)) v
+      ∙ ap (λ (u : Plain). onto is (item u (made (drop (i + 1) xs)))) w
+      ∙ ap (onto is) (sym (step x (drop (i + 1) xs)) ∙ ap (λ (y : X). made (y ∷ drop (i + 1) xs)) e ∙ sym (at_drop_more made xs i x lt))
+
+-- nothing is left to make at the end of the slice
+pub made_end : {X : Type 0} (made : List X → Items) (is : Items) (xs : List X) (i : ℕ) → made [] ≡ no_items → length xs ≤ i → is ≡ onto is (made (drop i xs))
+made_end made is xs i none le = sym (ap (onto is) (at_drop_all made xs i le ∙ none) ∙ onto_nothing is)
+
 -- a list with one more value of a slice
 pub pushed : (is : Items) (vs : List Value) (i : ℕ) (v : Value) → i < length vs → v ≡ get_or vs i v → onto (onto is (item (plain v) no_items)) (items_of (drop (i + 1) vs)) ≡ onto is (items_of (drop i vs))
-pushed is vs i v lt e =
-    onto_item is (items_of (drop (i + 1) vs)) (plain v)
-    ∙ ap (onto is) (sym (at_drop_more items_of vs i v lt ∙ ap (λ (w : Value). item (plain w) (items_of (drop (i + 1) vs))) (sym e)))
-
-pub onto_end : (is : Items) (vs : List Value) (i : ℕ) → length vs ≤ i → onto is (items_of (drop i vs)) ≡ is
-onto_end is vs i le = ap (onto is) (at_drop_all items_of vs i le) ∙ onto_nothing is
+pushed is vs i v lt e = made_more items_of plain (λ _ _. refl) is vs i v (plain v) lt e refl
 
 last_more : (vs : List Value) (u v : Value) (k : ℕ) → length vs ≡ suc k → v ≡ get_or vs k v → last_or (plain u) (items_of vs) ≡ plain v
 last_more [] u v k l e = absurd (omega arith)
@@ -52,15 +60,3 @@ next_text old before between vs i v lt e =
     ap (λ (t : List ℕ). old ++ t) (append_assoc before (value_text (plain v)) (texts_behind between between (items_of (drop (i + 1) vs)))
     ∙ ap (λ (w : Value). before ++ (value_text (plain w) ++ texts_behind between between (items_of (drop (i + 1) vs)))) e
     ∙ sym (at_drop_more (λ xs. texts_behind before between (items_of xs)) vs i v lt))
-
--- a list that is made of one value for each of a slice
-module _ {X : Type 0} (made : List X → Items) (one : X → Plain) (step : (x : X) (xs : List X) → made (x ∷ xs) ≡ item (one x) (made xs)) where
-  pub made_more : (is : Items) (xs : List X) (i : ℕ) (x : X) (v : Plain) → i < length xs → x ≡ get_or xs i x → v ≡ one x
-      → onto (onto is (item v no_items)) (made (drop (i + 1) xs)) ≡ onto is (made (drop i xs))
-  made_more is xs i x v lt e w =
-      onto_item is (made (drop (i + 1) xs)) v
-      ∙ ap (λ (u : Plain). onto is (item u (made (drop (i + 1) xs)))) w
-      ∙ ap (onto is) (sym (step x (drop (i + 1) xs)) ∙ ap (λ (y : X). made (y ∷ drop (i + 1) xs)) e ∙ sym (at_drop_more made xs i x lt))
-
-  pub made_end : (is : Items) (xs : List X) (i : ℕ) → made [] ≡ no_items → length xs ≤ i → is ≡ onto is (made (drop i xs))
-  made_end is xs i none le = sym (ap (onto is) (at_drop_all made xs i le ∙ none) ∙ onto_nothing is)

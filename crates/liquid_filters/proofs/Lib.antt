@@ -1,6 +1,7 @@
 pub mod AnswerLaws
 pub mod CallLaws
 pub mod ChangeLaws
+pub mod CharacterLaws
 pub mod EachLaws
 pub mod ItemLaws
 pub mod KeyOrderLaws
@@ -8,8 +9,11 @@ pub mod MarkLaws
 pub mod NestingLaws
 mod NumberRows
 pub mod NumeralLaws
+pub mod PartLaws
 pub mod SelectionLaws
 pub mod SortLaws
 pub mod TableLaws
+pub mod UrlLaws
 pub mod WhiteLaws
+pub mod WordLaws
 pub mod WritingLaws

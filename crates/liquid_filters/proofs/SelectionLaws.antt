@@ -1,9 +1,9 @@
 -- Elements that are chosen by their keys, one after another.
-use Rattle.std.proofs.Common.{◌≡◌, ℕ, ◌+◌, ◌<◌, ◌≤◌, Bool, true, false, cond, not, ◌||◌, List, ◌∷◌, length, get_or, drop, map, refl, sym, ap, ◌∙◌, Option}
+use Rattle.std.proofs.Common.{◌≡◌, ℕ, ◌+◌, ◌<◌, Bool, true, false, cond, not, ◌||◌, List, ◌∷◌, length, get_or, drop, map, refl, sym, ap, ◌∙◌, Option}
 use Rattle.std.specs.List.{list_any}
 use Rattle.std.specs.Str.{bytes_eq}
 use Rattle.std.proofs.lemmas.Cmp.{nat_list_eq_equiv}
-use Rattle.std.proofs.lemmas.List.{at_drop_more, at_drop_all}
+use Rattle.std.proofs.lemmas.List.{at_drop_more}
 use Rattle.site_base.specs.Code.{code}
 use Rattle.site_base.specs.Plain.{Plain, list, Items, no_items, onto}
 use Rattle.read_record.specs.Queries.{Give, bind, View, Trace, RanTo, run}
@@ -38,9 +38,6 @@ module _ {X : Type 0} (entry : X → Entry) where
       ∙ ap (λ (y : X). onto is (chosen test (map entry (y ∷ drop (i + 1) xs)))) e
       ∙ sym (at_drop_more (λ ys. onto is (chosen test (map entry ys))) xs i x lt)
 
-  pub chosen_end : (test : Plain → Bool) (is : Items) (xs : List X) (i : ℕ) → length xs ≤ i → is ≡ onto is (chosen test (map entry (drop i xs)))
-  chosen_end test is xs i le = sym (at_drop_all (λ ys. onto is (chosen test (map entry ys))) xs i le ∙ onto_nothing is)
-
   pub first_more : (met : List Plain) (is : Items) (xs : List X) (i : ℕ) (x : X) (b : Bool) → i < length xs → x ≡ get_or xs i x → b ≡ not (list_any (same_value (entry x).key) met)
       → onto (onto is (item_if b (entry x).value no_items)) (first_of_each ((entry x).key ∷ met) (map entry (drop (i + 1) xs))) ≡ onto is (first_of_each met (map entry (drop i xs)))
   first_more met is xs i x b lt e new =
@@ -48,9 +45,6 @@ module _ {X : Type 0} (entry : X → Entry) where
       ∙ ap (λ (b : Bool). onto is (item_if b (entry x).value (first_of_each ((entry x).key ∷ met) (map entry (drop (i + 1) xs))))) new
       ∙ ap (λ (y : X). onto is (first_of_each met (map entry (y ∷ drop (i + 1) xs)))) e
       ∙ sym (at_drop_more (λ ys. onto is (first_of_each met (map entry ys))) xs i x lt)
-
-  pub first_end : (met : List Plain) (is : Items) (xs : List X) (i : ℕ) → length xs ≤ i → is ≡ onto is (first_of_each met (map entry (drop i xs)))
-  first_end met is xs i le = sym (at_drop_all (λ ys. onto is (first_of_each met (map entry ys))) xs i le ∙ onto_nothing is)
 
 -- ---- the codes of the keys that were met, as a set has them
 

@@ -32,6 +32,14 @@ abbrev pub seen_two : {E : Type 0} → Result (Bor Value × Bor Value) E → Res
 seen_two (Ok x) = Ok (plain x.0.now, plain x.1.now)
 seen_two (Err e) = Err e
 
+abbrev pub seen_one_or_two : {E : Type 0} → Result (Bor Value × Option (Bor Value)) E → Result (Plain × Option Plain) E
+seen_one_or_two (Ok x) = Ok (plain x.0.now, given x.1)
+seen_one_or_two (Err e) = Err e
+
+abbrev pub seen_up_to_two : {E : Type 0} → Result (Option (Bor Value) × Option (Bor Value)) E → Result (Option Plain × Option Plain) E
+seen_up_to_two (Ok x) = Ok (given x.0, given x.1)
+seen_up_to_two (Err e) = Err e
+
 -- ---- values
 
 -- a call made what is found, whose limits are not tested yet, or stopped at the fault that stands there once they are

@@ -17,6 +17,17 @@ one_or_none [] = Ok None
 one_or_none (w ∷ []) = Ok (Some w)
 one_or_none ws = Err FilterArgument
 
+abbrev pub one_or_two : List Plain → Result (Plain × Option Plain) FaultKind
+one_or_two (w ∷ []) = Ok (w, None)
+one_or_two (w ∷ x ∷ []) = Ok (w, Some x)
+one_or_two ws = Err FilterArgument
+
+abbrev pub up_to_two : List Plain → Result (Option Plain × Option Plain) FaultKind
+up_to_two [] = Ok (None, None)
+up_to_two (w ∷ []) = Ok (Some w, None)
+up_to_two (w ∷ x ∷ []) = Ok (Some w, Some x)
+up_to_two ws = Err FilterArgument
+
 abbrev pub two : List Plain → Result (Plain × Plain) FaultKind
 two (w ∷ x ∷ []) = Ok (w, x)
 two ws = Err FilterArgument

@@ -1,6 +1,7 @@
 pub mod Answers
 pub mod Arguments
 pub mod Changes
+pub mod Characters
 pub mod Choosing
 pub mod Dates
 pub mod Elements
@@ -11,14 +12,19 @@ pub mod Lists
 pub mod Marks
 pub mod Numbers
 pub mod Numerals
+pub mod Parts
 pub mod Properties
+pub mod Replacements
 pub mod Samples
 pub mod Selections
 pub mod Sortings
+pub mod Spans
 pub mod Stops
 pub mod Table
 pub mod Taken
 pub mod Texts
+pub mod UrlTexts
 pub mod Urls
 pub mod White
+pub mod Words
 pub mod Writing

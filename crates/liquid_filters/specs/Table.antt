@@ -16,13 +16,21 @@ use Rattle.liquid_filters.specs.Dates.{date}
 use Rattle.liquid_filters.specs.Lists.{list_filter}
 use Rattle.liquid_filters.specs.declared.lists.ListFilter.{ListFilter}
 use Rattle.liquid_filters.specs.declared.lists.ListFilter.TheVariants.{Concat, Default, First, Join, Last, Reverse, Size}
+use Rattle.liquid_filters.specs.Replacements.{replacement_filter}
+use Rattle.liquid_filters.specs.declared.replacements.Replacement.{Replacement}
+use Rattle.liquid_filters.specs.declared.replacements.Replacement.TheVariants.{Remove, RemoveFirst, Replace, ReplaceFirst}
 use Rattle.liquid_filters.specs.Selections.{selection_filter}
 use Rattle.liquid_filters.specs.declared.selections.Selection.TheVariants.{Compact, Map, Uniq, Where}
 use Rattle.liquid_filters.specs.Sortings.{sort_filter}
 use Rattle.liquid_filters.specs.declared.sortings.Sorting.TheVariants.{Sort, SortNatural}
+use Rattle.liquid_filters.specs.Spans.{span_filter}
+use Rattle.liquid_filters.specs.declared.spans.Span.{Span}
+use Rattle.liquid_filters.specs.declared.spans.Span.TheVariants.{Slice, Truncate}
 use Rattle.liquid_filters.specs.Texts.{text_filter}
 use Rattle.liquid_filters.specs.declared.texts.TextFilter.{TextFilter}
 use Rattle.liquid_filters.specs.declared.texts.TextFilter.TheVariants.{Append, Prepend}
+use Rattle.liquid_filters.specs.UrlTexts.{url_decode}
+use Rattle.liquid_filters.specs.Words.{words_filter}
 use Rattle.liquid_filters.specs.declared.filter_name.FilterName.{FilterName}
 use Rattle.liquid_filters.specs.declared.filter_name.FilterName.TheVariants as family
 
@@ -40,6 +48,18 @@ changing change v ws = made (change_filter change v ws)
 
 abbrev pub texting : TextFilter → Meaning
 texting filter v ws = made (text_filter filter v ws)
+
+abbrev pub replacing : Replacement → Meaning
+replacing filter v ws = made (replacement_filter filter v ws)
+
+abbrev pub spanning : Span → Meaning
+spanning filter v ws = made (span_filter filter v ws)
+
+abbrev pub word_keeping : Meaning
+word_keeping v ws = made (words_filter v ws)
+
+abbrev pub url_decoding : Meaning
+url_decoding v ws = made (url_decode v ws)
 
 unfoldable pub rows : List (List ℕ × Meaning)
 rows =
@@ -68,17 +88,25 @@ rows =
     ∷ (codes "newline_to_br", changing NewlineToBr)
     ∷ (codes "plus", number Plus)
     ∷ (codes "prepend", texting Prepend)
+    ∷ (codes "remove", replacing Remove)
+    ∷ (codes "remove_first", replacing RemoveFirst)
+    ∷ (codes "replace", replacing Replace)
+    ∷ (codes "replace_first", replacing ReplaceFirst)
     ∷ (codes "reverse", listing Reverse)
     ∷ (codes "round", number Round)
     ∷ (codes "rstrip", changing Rstrip)
     ∷ (codes "size", listing Size)
+    ∷ (codes "slice", spanning Slice)
     ∷ (codes "sort", sort_filter Sort)
     ∷ (codes "sort_natural", sort_filter SortNatural)
     ∷ (codes "strip", changing Strip)
     ∷ (codes "strip_newlines", changing StripNewlines)
     ∷ (codes "times", number Times)
+    ∷ (codes "truncate", spanning Truncate)
+    ∷ (codes "truncatewords", word_keeping)
     ∷ (codes "uniq", selection_filter Uniq)
     ∷ (codes "upcase", changing Upcase)
+    ∷ (codes "url_decode", url_decoding)
     ∷ (codes "url_encode", changing UrlEncode)
     ∷ (codes "where", selection_filter Where)
     ∷ []
@@ -93,6 +121,10 @@ meaning_of (family.Change change) = changing change
 meaning_of family.Date = date
 meaning_of (family.List filter) = listing filter
 meaning_of (family.Number filter) = number filter
+meaning_of (family.Replacement filter) = replacing filter
 meaning_of (family.Select selection) = selection_filter selection
 meaning_of (family.Sort filter) = sort_filter filter
+meaning_of (family.Span filter) = spanning filter
 meaning_of (family.Text filter) = texting filter
+meaning_of family.TruncateWords = word_keeping
+meaning_of family.UrlDecode = url_decoding

@@ -1,8 +1,10 @@
 -- What calls take their input for, by the code's own types.
-use Rattle.std.specs.Prelude.{◌≡◌, Bool, not, Option, Some, None, Result, Ok, Err}
+use Rattle.std.specs.Prelude.{◌≡◌, ℕ, Bool, not, List, Vec, Option, Some, None, Result, Ok, Err}
+use Rattle.std.specs.declared.alloc.Global.{Global}
 use Rattle.site_base.specs.Plain.{Plain, Items}
 use Rattle.site_base.specs.View.{plain, items_of}
 use Rattle.site_base.specs.declared.faults.FaultKind.{FaultKind}
+use Rattle.site_base.specs.declared.faults.FaultKind.TheVariants.{FilterArgument}
 use Rattle.liquid_filters.specs.declared.elements.Elements.{Elements}
 use Rattle.liquid_filters.specs.declared.elements.Elements.TheVariants.{Lent, Made}
 use Rattle.liquid_filters.specs.Keyed as Keyed
@@ -46,3 +48,17 @@ abbrev pub passes : Test → Plain → Bool
 passes Filled k = is_filled k
 passes Empty k = not (is_filled k)
 passes (Shows t) k = shows_text t k
+
+-- ---- texts
+
+abbrev pub MakesText : Result (List ℕ) FaultKind → Result (List ℕ) Stop → Type 0
+MakesText found (Ok t) = found ≡ Ok t
+MakesText found (Err (stop.Fault k)) = found ≡ Err k
+MakesText found (Err (stop.Needs j)) = ⊥
+MakesText found (Err stop.Memory) = Unit {0}
+
+abbrev pub MakesBytes : Option (List ℕ) → Result (Vec ℕ Global) Stop → Type 0
+MakesBytes found (Ok bytes) = found ≡ Some bytes.items
+MakesBytes found (Err (stop.Fault k)) = (found ≡ None) × (k ≡ FilterArgument)
+MakesBytes found (Err (stop.Needs j)) = ⊥
+MakesBytes found (Err stop.Memory) = Unit {0}

@@ -1,8 +1,8 @@
 // How many arguments a filter takes: a wrong number of them is the fault FilterArgument.
 ghost use Rattle.std.specs.Prelude.{◌≡◌, map};
 ghost use Rattle.site_base.specs.View.{plain};
-ghost use Rattle.liquid_filters.specs.Answers.{seen, seen_if, seen_two};
-ghost use Rattle.liquid_filters.specs.Arguments.{no_more, one, one_or_none, two};
+ghost use Rattle.liquid_filters.specs.Answers.{seen, seen_if, seen_one_or_two, seen_two, seen_up_to_two};
+ghost use Rattle.liquid_filters.specs.Arguments.{no_more, one, one_or_none, one_or_two, two, up_to_two};
 
 use site_base::{FaultKind, Value};
 
@@ -42,6 +42,27 @@ pub(crate) fn two(args: &[Value]) -> Result<(&Value, &Value), FaultKind>
 {
     match args {
         [first, second] => Ok((first, second)),
+        _ => Err(FaultKind::FilterArgument),
+    }
+}
+
+pub(crate) fn one_or_two(args: &[Value]) -> Result<(&Value, Option<&Value>), FaultKind>
+    ensures { seen_one_or_two result ≡ one_or_two (map plain args.now) }
+{
+    match args {
+        [only] => Ok((only, None)),
+        [first, second] => Ok((first, Some(second))),
+        _ => Err(FaultKind::FilterArgument),
+    }
+}
+
+pub(crate) fn up_to_two(args: &[Value]) -> Result<(Option<&Value>, Option<&Value>), FaultKind>
+    ensures { seen_up_to_two result ≡ up_to_two (map plain args.now) }
+{
+    match args {
+        [] => Ok((None, None)),
+        [only] => Ok((Some(only), None)),
+        [first, second] => Ok((Some(first), Some(second))),
         _ => Err(FaultKind::FilterArgument),
     }
 }

@@ -5,8 +5,10 @@ ghost use Rattle.liquid_filters.specs.Table.{filter_named, meaning_of};
 use crate::changes::TextChange;
 use crate::lists::ListFilter;
 use crate::numbers::NumberFilter;
+use crate::replacements::Replacement;
 use crate::selections::Selection;
 use crate::sortings::Sorting;
+use crate::spans::Span;
 use crate::texts::TextFilter;
 
 /// A filter, by the family that it belongs to.
@@ -16,13 +18,17 @@ pub enum FilterName {
     Date,
     List(ListFilter),
     Number(NumberFilter),
+    Replacement(Replacement),
     Select(Selection),
     Sort(Sorting),
+    Span(Span),
     Text(TextFilter),
+    TruncateWords,
+    UrlDecode,
 }
 
 // The table.
-const ROWS: [(&str, FilterName); 38] = [
+const ROWS: [(&str, FilterName); 46] = [
     ("abs", FilterName::Number(NumberFilter::Abs)),
     ("append", FilterName::Text(TextFilter::Append)),
     ("at_least", FilterName::Number(NumberFilter::AtLeast)),
@@ -48,10 +54,21 @@ const ROWS: [(&str, FilterName); 38] = [
     ("newline_to_br", FilterName::Change(TextChange::NewlineToBr)),
     ("plus", FilterName::Number(NumberFilter::Plus)),
     ("prepend", FilterName::Text(TextFilter::Prepend)),
+    ("remove", FilterName::Replacement(Replacement::Remove)),
+    (
+        "remove_first",
+        FilterName::Replacement(Replacement::RemoveFirst),
+    ),
+    ("replace", FilterName::Replacement(Replacement::Replace)),
+    (
+        "replace_first",
+        FilterName::Replacement(Replacement::ReplaceFirst),
+    ),
     ("reverse", FilterName::List(ListFilter::Reverse)),
     ("round", FilterName::Number(NumberFilter::Round)),
     ("rstrip", FilterName::Change(TextChange::Rstrip)),
     ("size", FilterName::List(ListFilter::Size)),
+    ("slice", FilterName::Span(Span::Slice)),
     ("sort", FilterName::Sort(Sorting::Sort)),
     ("sort_natural", FilterName::Sort(Sorting::SortNatural)),
     ("strip", FilterName::Change(TextChange::Strip)),
@@ -60,8 +77,11 @@ const ROWS: [(&str, FilterName); 38] = [
         FilterName::Change(TextChange::StripNewlines),
     ),
     ("times", FilterName::Number(NumberFilter::Times)),
+    ("truncate", FilterName::Span(Span::Truncate)),
+    ("truncatewords", FilterName::TruncateWords),
     ("uniq", FilterName::Select(Selection::Uniq)),
     ("upcase", FilterName::Change(TextChange::Upcase)),
+    ("url_decode", FilterName::UrlDecode),
     ("url_encode", FilterName::Change(TextChange::UrlEncode)),
     ("where", FilterName::Select(Selection::Where)),
 ];

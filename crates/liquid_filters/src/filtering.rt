@@ -11,10 +11,14 @@ use crate::dates::date;
 use crate::limits::finished;
 use crate::lists::list_filter;
 use crate::numbers::number_filter;
+use crate::replacements::replacement_filter;
 use crate::selections::selection_filter;
 use crate::sortings::sort_filter;
+use crate::spans::span_filter;
 use crate::stop::{Filtered, Stop};
 use crate::texts::text_filter;
+use crate::url_texts::url_decode;
+use crate::words::words_filter;
 use read_record::Look;
 use site_base::{FaultKind, Value};
 use std::alloc::Global;
@@ -68,9 +72,13 @@ impl FilterName {
             FilterName::Date => date(alloc, input, args, look),
             FilterName::List(filter) => list_filter(alloc, filter, input, args),
             FilterName::Number(filter) => number(number_filter(filter, input, args)),
+            FilterName::Replacement(filter) => replacement_filter(alloc, filter, input, args),
             FilterName::Select(selection) => selection_filter(alloc, selection, input, args, look),
             FilterName::Sort(filter) => sort_filter(alloc, filter, input, args, look),
+            FilterName::Span(filter) => span_filter(alloc, filter, input, args),
             FilterName::Text(filter) => text_filter(alloc, filter, input, args),
+            FilterName::TruncateWords => words_filter(alloc, input, args),
+            FilterName::UrlDecode => url_decode(alloc, input, args),
         }
     }
 }

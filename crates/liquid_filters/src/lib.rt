@@ -4,6 +4,7 @@
 
 mod arguments;
 mod changes;
+mod characters;
 mod choosing;
 mod dates;
 mod elements;
@@ -17,13 +18,17 @@ mod marks;
 mod numbers;
 mod numerals;
 mod properties;
+mod replacements;
 mod selections;
 mod site_variables;
 mod sortings;
+mod spans;
 mod stop;
 mod texts;
+mod url_texts;
 mod urls;
 mod white;
+mod words;
 mod writer;
 
 pub use arguments::{no_more, one, one_or_none};
@@ -38,9 +43,11 @@ pub use lists::{ListFilter, char_count, first_of, last_of, push_copies};
 pub use marks::{Mark, marked};
 pub use numbers::NumberFilter;
 pub use numerals::{fit, num};
+pub use replacements::Replacement;
 pub use selections::Selection;
 pub use site_variables::site_variable;
 pub use sortings::Sorting;
+pub use spans::Span;
 pub use stop::{Filtered, Stop};
 pub use texts::TextFilter;
 pub use urls::{UrlCode, percent_encoded};

@@ -39,7 +39,7 @@ pub(crate) fn property<L: Look>(
     ensures gives { Finds (run (L.view look.old) (L.trace look.old) (property name.now (plain value.now))) (in_plain result) (L.trace look.new) }
 {
     match value {
-        Value::Hash(hash) => Ok(copy_or_nil(alloc, hash.get(name))?),
+        Value::Hash(hash) => Ok(value_or_nil(alloc, hash.get(name))?),
         Value::Item(item) => {
             let key = property_key(alloc, item, name)?;
             ask(alloc, &key, look)
@@ -48,7 +48,7 @@ pub(crate) fn property<L: Look>(
     }
 }
 
-fn copy_or_nil(alloc: Global, value: Option<&Value>) -> Result<Value, Memory>
+fn value_or_nil(alloc: Global, value: Option<&Value>) -> Result<Value, Memory>
     ensures { IfOk result (λ made. plain made ≡ or_nil (given value.entry)) }
 {
     match value {

@@ -135,7 +135,7 @@ fn pair_list(alloc: Global, pair: &Pair) -> Result<List, Memory>
     ensures { IfOk result (λ list. list ≡ pair_list pair.now.key (plain pair.now.value)) }
 {
     let mut list = List::with_capacity(alloc, 2)?;
-    list.push(Value::Text(Text::copy(alloc, pair.key.as_str())?))?;
+    list.push(Value::Text(pair.key.share(alloc)?))?;
     list.push(copy(alloc, &pair.value)?)?;
     Ok(list)
 }
@@ -145,7 +145,7 @@ fn names(alloc: Global, pairs: &[Pair]) -> Result<List, Memory>
 {
     let mut list = List::with_capacity(alloc, pairs.len())?;
     for pair in pairs {
-        list.push(Value::Text(Text::copy(alloc, pair.key.as_str())?))?;
+        list.push(Value::Text(pair.key.share(alloc)?))?;
     }
     Ok(list)
 }

@@ -88,13 +88,33 @@ fn fault_text(kind: FaultKind) -> &'static str {
 fn gives(alloc: Global, row: &(&str, Given, Given, &str)) -> Result<bool, Memory> {
     let input = value(alloc, &row.1)?;
     let args = arguments(alloc, &row.2)?;
-    match filter(alloc, row.0, &input, args.as_slice(), &mut Blank) {
-        Filtered::Value(value) => Ok(same_code(&value, row.3.as_bytes())),
-        Filtered::Fault(kind) => Ok(fault_text(kind) == row.3),
-        Filtered::Unknown => Ok(row.3 == "unknown"),
+    answers(alloc, row.0, &input, args.as_slice(), row.3)
+}
+
+fn answers(
+    alloc: Global,
+    name: &str,
+    input: &Value,
+    args: &[Value],
+    want: &str,
+) -> Result<bool, Memory> {
+    match filter(alloc, name, input, args, &mut Blank) {
+        Filtered::Value(value) => Ok(same_code(&value, want.as_bytes())),
+        Filtered::Fault(kind) => Ok(fault_text(kind) == want),
+        Filtered::Unknown => Ok(want == "unknown"),
         Filtered::Needs(_) => Ok(false),
         Filtered::Memory => Err(Memory),
     }
+}
+
+// Whether a filter gives a value of this code for texts, or the fault.
+fn gives_of_texts(alloc: Global, row: &(&str, &str, &[&str], &str)) -> Result<bool, Memory> {
+    let input = Value::Text(Text::copy(alloc, row.1)?);
+    let mut args = Vec::new(alloc);
+    for text in row.2 {
+        args.push(Value::Text(Text::copy(alloc, text)?))?;
+    }
+    answers(alloc, row.0, &input, args.as_slice(), row.3)
 }
 
 const NUMBERS: &[(&str, Given, Given, &str)] = &[
@@ -152,6 +172,10 @@ const LISTS: &[(&str, Given, Given, &str)] = &[
     ),
     ("size", Given::Range(0, 1_000_000), Given::Absent, "F19"),
     ("size", Given::Text("a"), Given::Nil, "F14"),
+    ("slice", Given::Mixed, Given::Int(1), "l1:n"),
+    ("slice", Given::Mixed, Given::Int(-1), "l1:s2:é"),
+    ("slice", Given::Mixed, Given::Int(4), "l0:"),
+    ("slice", Given::Nil, Given::Int(0), "s0:"),
     ("first", Given::Mixed, Given::Absent, "i1;"),
     ("first", Given::Nil, Given::Absent, "n"),
     ("first", Given::Text("ab"), Given::Absent, "s2:ab"),
@@ -299,6 +323,87 @@ const DATES: &[(&str, Given, Given, &str)] = &[
 fn filters_of_dates(rt: HostRuntime) -> Result<(), Fail> {
     for row in DATES {
         assert!(rt; gives(rt.alloc(), row) == Ok(true));
+    }
+    Ok(())
+}
+
+const REPLACEMENTS: &[(&str, &str, &[&str], &str)] = &[
+    ("replace", "a-b-c", &["-", "+"], "s5:a+b+c"),
+    ("replace", "aaa", &["aa", "b"], "s2:ba"),
+    ("replace", "éèé", &["é", "e"], "s4:eèe"),
+    ("replace", "ab", &["x", "y"], "s2:ab"),
+    ("replace", "a", &["a", "aa"], "s2:aa"),
+    ("replace", "a", &["", "b"], "F14"),
+    ("replace", "a", &["a"], "F14"),
+    ("replace_first", "xaya", &["a", ""], "s3:xya"),
+    ("replace_first", "xaya", &["z", "q"], "s4:xaya"),
+    ("replace_first", "xaya", &["", "q"], "F14"),
+    ("remove", "a-b-", &["-"], "s2:ab"),
+    ("remove", "a", &[], "F14"),
+    ("remove_first", "a-b-", &["-"], "s3:ab-"),
+    ("remove_first", "a", &[""], "F14"),
+];
+
+#[test]
+fn filters_that_replace(rt: HostRuntime) -> Result<(), Fail> {
+    for row in REPLACEMENTS {
+        assert!(rt; gives_of_texts(rt.alloc(), row) == Ok(true));
+    }
+    Ok(())
+}
+
+const FROM_URLS: &[(&str, &str, &[&str], &str)] = &[
+    ("url_decode", "a+b%2f%C3%A9", &[], "s6:a b/é"),
+    ("url_decode", "%2B+", &[], "s2:+ "),
+    ("url_decode", "", &[], "s0:"),
+    ("url_decode", "%", &[], "F14"),
+    ("url_decode", "a%4", &[], "F14"),
+    ("url_decode", "%zz", &[], "F14"),
+    ("url_decode", "%ff", &[], "F14"),
+    ("url_decode", "a", &["a"], "F14"),
+];
+
+#[test]
+fn a_filter_that_reads_texts_of_urls(rt: HostRuntime) -> Result<(), Fail> {
+    for row in FROM_URLS {
+        assert!(rt; gives_of_texts(rt.alloc(), row) == Ok(true));
+    }
+    Ok(())
+}
+
+const SPANS: &[(&str, &str, &[&str], &str)] = &[
+    ("slice", "abcdé", &["1"], "s1:b"),
+    ("slice", "abcdé", &["-2", "2"], "s3:dé"),
+    ("slice", "abc", &["3", "2"], "s0:"),
+    ("slice", "abc", &["5"], "s0:"),
+    ("slice", "abc", &["1", "-1"], "s0:"),
+    ("slice", "abc", &["-4", "2"], "s0:"),
+    ("slice", "abc", &["x", "9"], "s3:abc"),
+    ("slice", "abc", &[], "F14"),
+    ("slice", "abc", &["1.5"], "F17"),
+    ("truncate", "abcdefgh", &["5"], "s5:ab..."),
+    ("truncate", "abcdefgh", &["2"], "s3:..."),
+    ("truncate", "abcé", &["4"], "s5:abcé"),
+    ("truncate", "abcdef", &["3", ""], "s3:abc"),
+    ("truncate", "abcdef", &["5", "1234567"], "s7:1234567"),
+    ("truncate", "abc", &["-1", "é"], "s2:é"),
+    ("truncate", "abc", &[], "s3:abc"),
+    ("truncate", "abc", &["1", "", ""], "F14"),
+    ("truncatewords", "a b c d", &["2"], "s6:a b..."),
+    ("truncatewords", "a  b\tc", &["3"], "s8:a b c..."),
+    ("truncatewords", "a b", &["0"], "s4:a..."),
+    ("truncatewords", " a b ", &["5"], "s5: a b "),
+    ("truncatewords", "\na b c", &["2", "!"], "s4:a b!"),
+    ("truncatewords", "", &["1"], "s0:"),
+    ("truncatewords", "a b", &[], "s3:a b"),
+    ("truncatewords", "a", &["1", "", ""], "F14"),
+    ("truncatewords", "a", &["1.5"], "F17"),
+];
+
+#[test]
+fn filters_that_keep_a_part(rt: HostRuntime) -> Result<(), Fail> {
+    for row in SPANS {
+        assert!(rt; gives_of_texts(rt.alloc(), row) == Ok(true));
     }
     Ok(())
 }

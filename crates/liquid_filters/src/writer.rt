@@ -21,7 +21,7 @@ impl Model for Writer {
 }
 
 impl Writer {
-    ghost use Rattle.std.specs.Prelude.{◌≡◌, [], IfOk};
+    ghost use Rattle.std.specs.Prelude.{◌≡◌, ◌++◌, [], IfOk};
     ghost use Rattle.site_base.specs.Values.{value_text};
     ghost use Rattle.site_base.specs.View.{plain};
     ghost use Rattle.liquid_filters.specs.Writing.{Writes};
@@ -46,6 +46,14 @@ impl Writer {
             Ok(()) => Ok(()),
             Err(_) => Err(Stop::Memory),
         }
+    }
+
+    /// Adds two texts at the end, with the same fault.
+    pub(crate) fn push_both(&mut self, first: &str, second: &str) -> Result<(), Stop>
+        ensures { Writes self.old self.new (first.now ++ second.now) result }
+    {
+        self.push(first)?;
+        self.push(second)
     }
 
     /// Adds the text of a value at the end, with the same fault.

@@ -1,8 +1,10 @@
-use Rattle.std.proofs.Common.{ap, ◌∙◌, ◌+◌, drop, map, arith}
+use Rattle.std.proofs.Common.{List, ap, ◌∙◌, ◌+◌, drop, map, arith, refl}
 use Rattle.site_base.specs.Plain.{Items, onto}
 use Rattle.liquid_filters.specs.Choosing.{chosen}
 use Rattle.liquid_filters.specs.Taken.{entry_of, passes}
-use Rattle.liquid_filters.proofs.SelectionLaws.{chosen_more, chosen_end}
+use Rattle.liquid_filters.specs.declared.keyed.Entry.{Entry}
+use Rattle.liquid_filters.proofs.ItemLaws.{made_end}
+use Rattle.liquid_filters.proofs.SelectionLaws.{chosen_more}
 use Rattle.liquid_filters.proofs.choosing.chosen_of.Goals as goal
 
 pub loop-entry-preserved : goal.loop-entry-preserved
@@ -13,4 +15,5 @@ loop-entry-preserved c =
     ∙ c.loop-entry.invariant
 
 pub returns : goal.returns
-returns c = chosen_end entry_of (passes c.args.test.now) c.loop-entry.list c.args.entries.now c.loop-entry.entry-index (omega arith) ∙ c.loop-entry.invariant
+returns c =
+    made_end (λ (es : List Entry). chosen (passes c.args.test.now) (map entry_of es)) c.loop-entry.list c.args.entries.now c.loop-entry.entry-index refl (omega arith) ∙ c.loop-entry.invariant

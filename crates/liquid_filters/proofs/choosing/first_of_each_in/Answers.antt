@@ -1,11 +1,13 @@
-use Rattle.std.proofs.Common.{ap, ◌∙◌, ◌+◌, ◌∷◌, drop, map, arith}
+use Rattle.std.proofs.Common.{List, ap, ◌∙◌, ◌+◌, ◌∷◌, drop, map, arith, refl}
 use Rattle.std.specs.HashSet as bag
 use Rattle.std.specs.Str.{bytes_eq}
 use Rattle.site_base.specs.Plain.{Items, onto}
 use Rattle.site_base.specs.View.{plain}
 use Rattle.liquid_filters.specs.Choosing.{first_of_each}
 use Rattle.liquid_filters.specs.Taken.{entry_of}
-use Rattle.liquid_filters.proofs.SelectionLaws.{first_more, first_end, is_new, one_more}
+use Rattle.liquid_filters.specs.declared.keyed.Entry.{Entry}
+use Rattle.liquid_filters.proofs.ItemLaws.{made_end}
+use Rattle.liquid_filters.proofs.SelectionLaws.{first_more, is_new, one_more}
 use Rattle.liquid_filters.proofs.choosing.first_of_each_in.Goals as goal
 
 pub loop-entry-preserved : goal.loop-entry-preserved
@@ -23,4 +25,6 @@ loop-entry-preserved c =
     }
 
 pub returns : goal.returns
-returns c = first_end entry_of c.loop-entry.invariant.met c.loop-entry.list c.args.entries.now c.loop-entry.entry-index (omega arith) ∙ c.loop-entry.invariant.rest
+returns c =
+    made_end (λ (es : List Entry). first_of_each c.loop-entry.invariant.met (map entry_of es)) c.loop-entry.list c.args.entries.now c.loop-entry.entry-index refl (omega arith)
+    ∙ c.loop-entry.invariant.rest

@@ -18,4 +18,4 @@ loop-entry-preserved c =
     ∙ c.loop-entry.invariant
 
 pub returns : goal.returns
-returns c = made_end shown (λ (e : Entry). plain e.value.now) (λ _ _. refl) c.loop-entry.list c.args.entries.now c.loop-entry.entry-index refl (omega arith) ∙ c.loop-entry.invariant
+returns c = made_end shown c.loop-entry.list c.args.entries.now c.loop-entry.entry-index refl (omega arith) ∙ c.loop-entry.invariant

@@ -1,5 +1,6 @@
-use Rattle.std.proofs.Common.{sym, ◌∙◌, arith}
-use Rattle.liquid_filters.proofs.ItemLaws.{pushed, onto_end}
+use Rattle.std.proofs.Common.{◌∙◌, arith, refl}
+use Rattle.site_base.specs.View.{items_of}
+use Rattle.liquid_filters.proofs.ItemLaws.{pushed, made_end}
 use Rattle.liquid_filters.proofs.lists.push_copies.Goals as goal
 
 pub loop-value-preserved : goal.loop-value-preserved
@@ -8,4 +9,4 @@ loop-value-preserved c =
     cc (p, c.in_ok-push.ensures.ok, c.in_ok-copy.ensures)
 
 pub returns : goal.returns
-returns c = sym (onto_end c.loop-value.list c.args.values.now c.loop-value.value-index (omega arith)) ∙ c.loop-value.invariant
+returns c = made_end items_of c.loop-value.list c.args.values.now c.loop-value.value-index refl (omega arith) ∙ c.loop-value.invariant

@@ -14,8 +14,8 @@ pub loop-pair-preserved : goal.loop-pair-preserved
 loop-pair-preserved c =
     let xs = c.args.pairs.now in let i = c.loop-pair.pair-index in
     ap (λ (is : Items). onto is (shown (drop (i + 1) xs))) c.in_ok-push.ensures.ok
-    ∙ made_more shown (λ (p : Pair). text p.key) (λ _ _. refl) c.loop-pair.list xs i c.pair-item.result _ c.loop-pair-test.true c.pair-item.is (ap text (c.in_ok-copy.ensures ∙ c.as_str.ensures))
+    ∙ made_more shown (λ (p : Pair). text p.key) (λ _ _. refl) c.loop-pair.list xs i c.pair-item.result _ c.loop-pair-test.true c.pair-item.is (ap text c.in_ok-share.ensures)
     ∙ c.loop-pair.invariant
 
 pub returns : goal.returns
-returns c = made_end shown (λ (p : Pair). text p.key) (λ _ _. refl) c.loop-pair.list c.args.pairs.now c.loop-pair.pair-index refl (omega arith) ∙ c.loop-pair.invariant
+returns c = made_end shown c.loop-pair.list c.args.pairs.now c.loop-pair.pair-index refl (omega arith) ∙ c.loop-pair.invariant

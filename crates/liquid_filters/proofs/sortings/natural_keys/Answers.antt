@@ -17,4 +17,4 @@ loop-key-preserved c =
     ∙ c.loop-key.invariant
 
 pub returns : goal.returns
-returns c = made_end shown (λ (v : Value). natural (plain v)) (λ _ _. refl) c.loop-key.list c.args.keys.now c.loop-key.key-index refl (omega arith) ∙ c.loop-key.invariant
+returns c = made_end shown c.loop-key.list c.args.keys.now c.loop-key.key-index refl (omega arith) ∙ c.loop-key.invariant

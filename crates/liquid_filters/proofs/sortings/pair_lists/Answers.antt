@@ -18,4 +18,4 @@ loop-pair-preserved c =
     ∙ c.loop-pair.invariant
 
 pub returns : goal.returns
-returns c = made_end shown (λ (p : Pair). list (pair_list p.key (plain p.value))) (λ _ _. refl) c.loop-pair.lists c.args.pairs.now c.loop-pair.pair-index refl (omega arith) ∙ c.loop-pair.invariant
+returns c = made_end shown c.loop-pair.lists c.args.pairs.now c.loop-pair.pair-index refl (omega arith) ∙ c.loop-pair.invariant
