@@ -32,6 +32,7 @@ impl<'a> Found<'a> {
         }
     }
 
+    /// The value; `site` alone is nil.
     pub fn into_value(self, alloc: Global) -> Result<Value, Memory>
         ensures { IfOk result (λ value. plain value ≡ value_of (found_of self.entry)) }
     {

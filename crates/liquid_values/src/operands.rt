@@ -23,7 +23,11 @@ use read_record::Look;
 use site_base::{FaultKind, Hash, Memory, Value};
 use std::alloc::Global;
 
-/// The value of an operand.
+/// The value of an operand, where the tag stands at a place, by the variables that were assigned. Each key is looked up where it is
+/// reached, from left to right.
+///
+/// It stops at the first fault, which has the file and the line of the tag: Overflow and Fraction where an end of a range is no number
+/// of 64 bits or has a decimal point, and whatever the excerpt of an item meets. It stops, too, where an item has to be done first.
 #[tactic(auto, using(read_record::proofs::CallLaws::binds))]
 pub fn operand<'a, X: Excerpts, L: Look>(
     alloc: Global,
