@@ -12,6 +12,7 @@ pub mod NumeralLaws
 pub mod PartLaws
 pub mod SelectionLaws
 pub mod SortLaws
+pub mod SplitLaws
 pub mod TableLaws
 pub mod UrlLaws
 pub mod WhiteLaws

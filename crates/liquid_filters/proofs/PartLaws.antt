@@ -1,5 +1,5 @@
 -- Where one text stands in another, and the parts there.
-use Rattle.std.proofs.Common.{◌≡◌, ◌∙◌, ℕ, zero, suc, ◌-◌, ◌<◌, ◌≤◌, Bool, true, false, cond, List, [], ◌∷◌, ◌++◌, length, take, drop, refl, sym, ap, subst, arith, append_assoc, append-nil, eq-eqb, ◌==◌}
+use Rattle.std.proofs.Common.{◌≡◌, ◌∙◌, ℕ, zero, suc, ◌-◌, ◌<◌, ◌≤◌, Bool, true, false, cond, List, [], ◌∷◌, ◌++◌, length, take, drop, refl, sym, ap, subst, arith, append_assoc, append-nil, length-append, eq-eqb, ◌==◌}
 use Rattle.std.specs.List.{join_by, onto_first}
 use Rattle.std.specs.Prelude.{flat_map}
 use Rattle.std.specs.Str.Pattern.{FindsText, LacksTextAt, SplitsAroundMatch}
@@ -92,10 +92,15 @@ module _ (mark whole front back : List ℕ) (h : SplitsAroundMatch (FindsText ma
   pub cut_lacks : (i : ℕ) → i < length front → LacksTextAt mark (front ++ (mark ++ back)) i
   cut_lacks i lt = subst (λ (t : List ℕ). LacksTextAt mark t i) cut_whole (h.2.0 i (omega (arith, h.6)))
 
+  pub parts_more : 0 < length mark → parts mark whole ≡ front ∷ parts mark back
+  parts_more some = ap (parts mark) cut_whole ∙ parts_found mark front back some cut_lacks
+
+  pub cut_shorter : 0 < length mark → length back < length whole
+  cut_shorter some = omega (arith, some, ap length cut_whole, length-append front (mark ++ back), length-append mark back)
+
   pub replaced_more : (instead : List ℕ) → 0 < length mark → replaced mark instead whole ≡ (front ++ instead) ++ replaced mark instead back
   replaced_more instead some =
-      ap (λ (t : List ℕ). join_by (λ p. p) instead (parts mark t)) cut_whole
-      ∙ ap (join_by (λ p. p) instead) (parts_found mark front back some cut_lacks)
+      ap (join_by (λ p. p) instead) (parts_more some)
       ∙ joined_more instead front (parts mark back) (some_parts mark 0 back)
 
 pub replaced_none : (mark instead whole : List ℕ) → ((i : ℕ) → i ≤ length whole → LacksTextAt mark whole i) → replaced mark instead whole ≡ whole

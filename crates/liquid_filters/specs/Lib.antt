@@ -19,6 +19,7 @@ pub mod Samples
 pub mod Selections
 pub mod Sortings
 pub mod Spans
+pub mod Splitting
 pub mod Stops
 pub mod Table
 pub mod Taken

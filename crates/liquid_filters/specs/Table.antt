@@ -26,6 +26,7 @@ use Rattle.liquid_filters.specs.declared.sortings.Sorting.TheVariants.{Sort, Sor
 use Rattle.liquid_filters.specs.Spans.{span_filter}
 use Rattle.liquid_filters.specs.declared.spans.Span.{Span}
 use Rattle.liquid_filters.specs.declared.spans.Span.TheVariants.{Slice, Truncate}
+use Rattle.liquid_filters.specs.Splitting.{split_filter}
 use Rattle.liquid_filters.specs.Texts.{text_filter}
 use Rattle.liquid_filters.specs.declared.texts.TextFilter.{TextFilter}
 use Rattle.liquid_filters.specs.declared.texts.TextFilter.TheVariants.{Append, Prepend}
@@ -54,6 +55,9 @@ replacing filter v ws = made (replacement_filter filter v ws)
 
 abbrev pub spanning : Span → Meaning
 spanning filter v ws = made (span_filter filter v ws)
+
+abbrev pub splitting : Meaning
+splitting v ws = made (split_filter v ws)
 
 abbrev pub word_keeping : Meaning
 word_keeping v ws = made (words_filter v ws)
@@ -99,6 +103,7 @@ rows =
     ∷ (codes "slice", spanning Slice)
     ∷ (codes "sort", sort_filter Sort)
     ∷ (codes "sort_natural", sort_filter SortNatural)
+    ∷ (codes "split", splitting)
     ∷ (codes "strip", changing Strip)
     ∷ (codes "strip_newlines", changing StripNewlines)
     ∷ (codes "times", number Times)
@@ -125,6 +130,7 @@ meaning_of (family.Replacement filter) = replacing filter
 meaning_of (family.Select selection) = selection_filter selection
 meaning_of (family.Sort filter) = sort_filter filter
 meaning_of (family.Span filter) = spanning filter
+meaning_of family.Split = splitting
 meaning_of (family.Text filter) = texting filter
 meaning_of family.TruncateWords = word_keeping
 meaning_of family.UrlDecode = url_decoding

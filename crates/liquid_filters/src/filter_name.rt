@@ -22,13 +22,14 @@ pub enum FilterName {
     Select(Selection),
     Sort(Sorting),
     Span(Span),
+    Split,
     Text(TextFilter),
     TruncateWords,
     UrlDecode,
 }
 
 // The table.
-const ROWS: [(&str, FilterName); 46] = [
+const ROWS: [(&str, FilterName); 47] = [
     ("abs", FilterName::Number(NumberFilter::Abs)),
     ("append", FilterName::Text(TextFilter::Append)),
     ("at_least", FilterName::Number(NumberFilter::AtLeast)),
@@ -71,6 +72,7 @@ const ROWS: [(&str, FilterName); 46] = [
     ("slice", FilterName::Span(Span::Slice)),
     ("sort", FilterName::Sort(Sorting::Sort)),
     ("sort_natural", FilterName::Sort(Sorting::SortNatural)),
+    ("split", FilterName::Split),
     ("strip", FilterName::Change(TextChange::Strip)),
     (
         "strip_newlines",

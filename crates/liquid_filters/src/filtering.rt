@@ -15,6 +15,7 @@ use crate::replacements::replacement_filter;
 use crate::selections::selection_filter;
 use crate::sortings::sort_filter;
 use crate::spans::span_filter;
+use crate::splitting::split_filter;
 use crate::stop::{Filtered, Stop};
 use crate::texts::text_filter;
 use crate::url_texts::url_decode;
@@ -76,6 +77,7 @@ impl FilterName {
             FilterName::Select(selection) => selection_filter(alloc, selection, input, args, look),
             FilterName::Sort(filter) => sort_filter(alloc, filter, input, args, look),
             FilterName::Span(filter) => span_filter(alloc, filter, input, args),
+            FilterName::Split => split_filter(alloc, input, args),
             FilterName::Text(filter) => text_filter(alloc, filter, input, args),
             FilterName::TruncateWords => words_filter(alloc, input, args),
             FilterName::UrlDecode => url_decode(alloc, input, args),

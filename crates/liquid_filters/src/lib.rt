@@ -23,6 +23,7 @@ mod selections;
 mod site_variables;
 mod sortings;
 mod spans;
+mod splitting;
 mod stop;
 mod texts;
 mod url_texts;

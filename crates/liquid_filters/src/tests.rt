@@ -407,3 +407,26 @@ fn filters_that_keep_a_part(rt: HostRuntime) -> Result<(), Fail> {
     }
     Ok(())
 }
+
+const PIECES: &[(&str, &str, &[&str], &str)] = &[
+    ("split", "a, b,c,,", &[","], "l3:s1:as2: bs1:c"),
+    ("split", "a,,b", &[","], "l3:s1:as0:s1:b"),
+    ("split", ",a", &[","], "l2:s0:s1:a"),
+    ("split", "aXXbXX", &["XX"], "l2:s1:as1:b"),
+    ("split", "baaa", &["aa"], "l2:s1:bs1:a"),
+    ("split", "", &[","], "l0:"),
+    ("split", ",,", &[","], "l0:"),
+    ("split", "  a b\t\nc ", &[" "], "l3:s1:as1:bs1:c"),
+    ("split", "a\u{b}b\u{c}c", &[" "], "l3:s1:as1:bs1:c"),
+    ("split", "aé", &[""], "l2:s1:as2:é"),
+    ("split", "", &[""], "l0:"),
+    ("split", "a", &[], "F14"),
+];
+
+#[test]
+fn a_filter_that_cuts_texts(rt: HostRuntime) -> Result<(), Fail> {
+    for row in PIECES {
+        assert!(rt; gives_of_texts(rt.alloc(), row) == Ok(true));
+    }
+    Ok(())
+}
