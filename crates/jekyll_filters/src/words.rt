@@ -2,7 +2,8 @@
 ghost use Rattle.std.specs.Prelude.{◌≡◌, length, map};
 ghost use Rattle.site_base.specs.View.{plain};
 ghost use Rattle.liquid_filters.specs.Answers.{Makes};
-ghost use Rattle.jekyll_filters.specs.Words.{words, number_of_words};
+ghost use Rattle.liquid_filters.specs.Words.{words};
+ghost use Rattle.jekyll_filters.specs.Words.{number_of_words};
 
 use liquid_filters::{Stop, fit, is_white, no_more};
 use site_base::{Value, value_text};
