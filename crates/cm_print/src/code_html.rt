@@ -8,9 +8,9 @@ ghost use Rattle.cm_blocks.specs.DocumentHtml.{code_html};
 ghost use Rattle.cm_print.specs.DocumentHtml.{code_after};
 ghost use Rattle.cm_print.specs.Writing.{Prints, Reaches, written};
 
-use markdown_grammar::HtmlError;
 use crate::writer::Writer;
 use cm_links::resolved;
+use markdown_grammar::HtmlError;
 use site_text::{Class, class_len};
 use std::alloc::Global;
 

@@ -7,9 +7,9 @@ ghost use Rattle.site_text.specs.Fronts.{run_len};
 ghost use Rattle.cm_print.specs.Escapes.{escaped_as, is_plain};
 ghost use Rattle.cm_print.specs.Writing.{Prints};
 
-use markdown_grammar::HtmlError;
 use crate::escape::Escape;
 use crate::writer::Writer;
+use markdown_grammar::HtmlError;
 
 impl Writer {
     /// Adds a text with references for `&`, `<`, `>` and `"`.

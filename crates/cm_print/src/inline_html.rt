@@ -11,11 +11,11 @@ ghost use Rattle.cm_print.specs.InlineTokens.{image_end, link_start};
 ghost use Rattle.cm_print.specs.Writing.{Prints};
 ghost use Rattle.cm_print.specs.declared.inline_place.Place.{Place};
 
-use markdown_grammar::HtmlError;
 use crate::inline_place::{Place, behind};
 use crate::writer::Writer;
 use cm_inlines::{Inlines, Node, Target};
 use cm_spans::Mark;
+use markdown_grammar::HtmlError;
 use site_base::Text;
 
 impl Writer {

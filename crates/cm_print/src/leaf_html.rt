@@ -6,11 +6,11 @@ ghost use Rattle.markdown_grammar.specs.ListTags.{fresh_line};
 ghost use Rattle.cm_print.specs.DocumentHtml.{heading_after, paragraph_after, prose};
 ghost use Rattle.cm_print.specs.Writing.{Prints, Reaches, written};
 
-use markdown_grammar::HtmlError;
 use crate::writer::Writer;
 use cm_inlines::{Inlines, read_inlines};
 use cm_links::Links;
 use cm_starts::HeadingLevel;
+use markdown_grammar::HtmlError;
 use std::alloc::Global;
 
 impl Writer {

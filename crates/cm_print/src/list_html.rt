@@ -6,9 +6,9 @@ ghost use Rattle.cm_print.specs.DocumentHtml.{list_after};
 ghost use Rattle.cm_print.specs.NodeWalk.{text_after};
 ghost use Rattle.cm_print.specs.Writing.{Prints, Reaches, written};
 
-use markdown_grammar::HtmlError;
 use crate::level::Closing;
 use crate::writer::Writer;
+use markdown_grammar::HtmlError;
 use std::alloc::{AllocError, Global};
 
 impl Writer {

@@ -6,11 +6,11 @@ ghost use Rattle.cm_print.specs.Printing.{Finishes, Moves, closed_at, state_of};
 ghost use Rattle.cm_print.specs.Writing.{written};
 ghost use Rattle.markdown_grammar.specs.declared.html_error.HtmlError.TheVariants.{TooLong};
 
-use markdown_grammar::HtmlError;
 use crate::level::{Closing, Level};
 use crate::writer::Writer;
 use cm_blocks::{Node, documents_have_the_html_of_their_blocks, read_blocks};
 use cm_links::Links;
+use markdown_grammar::HtmlError;
 use site_base::Text;
 use std::alloc::Global;
 

@@ -3,8 +3,8 @@ ghost use Rattle.std.specs.Prelude.{◌≡◌, ◌<◌, ◌∷◌, ◌/◌, ◌%
 ghost use Rattle.markdown_grammar.specs.Escaping.{hex_digit, url_byte, url_text};
 ghost use Rattle.cm_print.specs.Writing.{Prints, stands_in_urls};
 
-use markdown_grammar::HtmlError;
 use crate::writer::Writer;
+use markdown_grammar::HtmlError;
 
 impl Writer {
     /// Adds an address: bytes that may not stand in one as `%` and two digits of base 16, and `&` as a reference.
