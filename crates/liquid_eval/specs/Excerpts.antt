@@ -14,8 +14,9 @@ use Rattle.liquid_filters.specs.Limits.{most_text}
 use Rattle.liquid_grammar.specs.Pieces.{begins}
 use Rattle.liquid_grammar.specs.Trees.{Tree, Fault, tree}
 use Rattle.liquid_values.specs.Places.{Place, of_body, of_excerpt, of_layout, at_start, site_fault, fails}
-use Rattle.liquid_eval.specs.Fronts.{before}
-use Rattle.liquid_eval.specs.States.{State, nothing_yet, Reached, Enter}
+use Rattle.liquid_tags.specs.Fronts.{before}
+use Rattle.liquid_tags.specs.States.{nothing_yet}
+use Rattle.liquid_eval.specs.Reached.{Enter}
 use Rattle.liquid_values.specs.Names.{Found, value, given, is_item, holds_item, items_in}
 
 abbrev pub text_or_empty : Plain → List ℕ
@@ -43,17 +44,17 @@ abbrev pub separator : Plain → Query SiteFault (List ℕ)
 separator (text (c ∷ cs)) = Give (c ∷ cs)
 separator v = Ask (SiteVar (codes "excerpt_separator")) (λ w. Give (text_or_empty w))
 
+-- converted where the item is Markdown
+abbrev pub converted : Place → ItemName → List ℕ → Query SiteFault Plain
+converted p n t =
+    Ask (Var n (codes "ext")) (λ ext. Ask (SiteVar (codes "markdown_ext")) (λ names.
+    if is_listed (text_or_empty names) (text_or_empty ext) then (if nat_lt most_text (length (html t)) then fails p OutputTooLong else Give (text (html t))) else Give (text t)))
+
 module _ (enter : Enter) where
   -- a text as a template of its own, which is entered from a tag
   abbrev pub evaluated : Place → Place → Result Tree Fault → Query SiteFault (List ℕ)
   evaluated tag start (Ok t) = bind (enter tag start t nothing_yet) (λ r. Give r.state.out)
   evaluated tag start (Err f) = Fail (site_fault start.file f.line f.kind)
-
-  -- converted where the item is Markdown
-  abbrev pub converted : Place → ItemName → List ℕ → Query SiteFault Plain
-  converted p n t =
-      Ask (Var n (codes "ext")) (λ ext. Ask (SiteVar (codes "markdown_ext")) (λ names.
-      if is_listed (text_or_empty names) (text_or_empty ext) then (if nat_lt most_text (length (html t)) then fails p OutputTooLong else Give (text (html t))) else Give (text t)))
 
   abbrev pub front_excerpt : Place → ItemName → Query SiteFault Plain
   front_excerpt p n =

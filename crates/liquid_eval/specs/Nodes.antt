@@ -12,17 +12,23 @@ use Rattle.liquid_grammar.specs.Trees.{Tree, done, leaf, block, part}
 use Rattle.liquid_eval.specs.declared.signal.Signal.{Signal}
 use Rattle.liquid_eval.specs.declared.signal.Signal.TheVariants.{Next, Break, Continue}
 use Rattle.liquid_values.specs.Places.{Place, Manner, of_body, of_excerpt, of_layout, at_line, silenced, fails}
-use Rattle.liquid_values.specs.Names.{Excerpting, given, no_excerpts}
+use Rattle.liquid_values.specs.Names.{Excerpting, given, own_excerpt}
 use Rattle.liquid_eval.specs.Excerpts.{excerpt}
-use Rattle.liquid_eval.specs.States.{State, nothing_yet, Reached, reached, onward, text_written, Enter}
-use Rattle.liquid_eval.specs.Variables.{output, assigned, increment, decrement, cycle}
-use Rattle.liquid_eval.specs.Branches.{if_block, unless_block, case_block}
+use Rattle.liquid_tags.specs.declared.state.State.{State}
+use Rattle.liquid_tags.specs.States.{nothing_yet, text_written}
+use Rattle.liquid_tags.specs.Variables.{output, assigned, increment, decrement, cycle}
+use Rattle.liquid_tags.specs.Branches.{branch}
+use Rattle.liquid_eval.specs.Reached.{Reached, reached, onward, Enter, enter_part}
 use Rattle.liquid_eval.specs.Loops.{for_block}
 use Rattle.liquid_eval.specs.TableRows.{table_block}
 use Rattle.liquid_eval.specs.Includes.{include, include_relative}
-use Rattle.liquid_eval.specs.Links.{link, post_url}
+use Rattle.liquid_tags.specs.Links.{link, post_url}
 use Rattle.liquid_eval.specs.Captures.{capture, highlight}
-use Rattle.liquid_eval.specs.Blanks.{is_silent}
+use Rattle.liquid_tags.specs.Blanks.{is_silent}
+
+-- what follows a node is evaluated unless a loop ends, or goes on, there
+abbrev pub follow : Reached → Query SiteFault Reached → Query SiteFault Reached
+follow r next = elim r.signal [ Next ↦ next | Break ↦ Give r | Continue ↦ Give r ]
 
 module _ (excerpts : Excerpting) (enter : Enter) where
   abbrev pub leaf_node : Place → Leaf → State → Query SiteFault Reached
@@ -34,33 +40,27 @@ module _ (excerpts : Excerpting) (enter : Enter) where
   leaf_node p (leaves.Decrement x) s = bind (decrement p x s) onward
   leaf_node p leaves.Break s = Give (reached s Break)
   leaf_node p leaves.Continue s = Give (reached s Continue)
-  leaf_node p (leaves.Include i) s = include excerpts enter p i s
-  leaf_node p (leaves.IncludeRelative i) s = include_relative excerpts enter p i s
+  leaf_node p (leaves.Include i) s = include enter excerpts p i s
+  leaf_node p (leaves.IncludeRelative i) s = include_relative enter excerpts p i s
   leaf_node p (leaves.Link name) s = bind (link excerpts p name s) onward
   leaf_node p (leaves.PostUrl name) s = bind (post_url excerpts p name s) onward
 
+  abbrev pub branch_node : Place → Block → Tree → State → Query SiteFault Reached
+  branch_node p b parts s = bind (branch excerpts p s.assigned b parts) (λ body. enter_part enter p s body)
+
   abbrev pub block_node : Place → Block → Tree → State → Query SiteFault Reached
-  block_node p blocks.If parts s = if_block excerpts enter p s parts
-  block_node p blocks.Unless parts s = unless_block excerpts enter p s parts
-  block_node p (blocks.Case e) parts s = case_block excerpts enter p e s parts
-  block_node p (blocks.For l) parts s = for_block excerpts enter p l s parts
-  block_node p (blocks.TableRow l) parts s = table_block excerpts enter p l s parts
+  block_node p blocks.If parts s = branch_node p blocks.If parts s
+  block_node p blocks.Unless parts s = branch_node p blocks.Unless parts s
+  block_node p (blocks.Case e) parts s = branch_node p (blocks.Case e) parts s
+  block_node p (blocks.For l) parts s = for_block enter excerpts p l parts s
+  block_node p (blocks.TableRow l) parts s = table_block enter excerpts p l parts s
   block_node p (blocks.Capture x) parts s = capture enter p x s parts
   block_node p (blocks.Highlight x) parts s = highlight enter p x s parts
 
-  -- a part by itself is no node
-  abbrev pub first_node : Place → Tree → State → Query SiteFault Reached
-  first_node p (leaf line l rest) s = leaf_node (at_line line p) l s
-  first_node p (block line b parts rest) s = block_node (silenced (is_silent b parts) (at_line line p)) b parts s
-  first_node p (part line head body rest) s = onward s
-  first_node p done s = onward s
-
-  -- what follows a node is evaluated unless a loop ends, or goes on, there
   abbrev pub nodes : Place → Tree → State → Query SiteFault Reached
   nodes p done s = onward s
-  nodes p (leaf line l rest) s = bind (leaf_node (at_line line p) l s) (λ r. elim r.signal [ Next ↦ nodes p rest r.state | Break ↦ Give r | Continue ↦ Give r ])
-  nodes p (block line b parts rest) s =
-      bind (block_node (silenced (is_silent b parts) (at_line line p)) b parts s) (λ r. elim r.signal [ Next ↦ nodes p rest r.state | Break ↦ Give r | Continue ↦ Give r ])
+  nodes p (leaf line l rest) s = bind (leaf_node (at_line line p) l s) (λ r. follow r (nodes p rest r.state))
+  nodes p (block line b parts rest) s = bind (block_node (silenced (is_silent b parts) (at_line line p)) b parts s) (λ r. follow r (nodes p rest r.state))
   nodes p (part line head body rest) s = nodes p rest s
 
 -- nodes with so many levels left to enter, where an excerpt is this with as many left
@@ -69,14 +69,15 @@ module _ (excerpts : ℕ → Excerpting) where
   entering zero tag p t s = fails tag Nesting
   entering (suc n) tag p t s = nodes (excerpts n) (entering n) p t s
 
-  -- a whole text: at most a hundred blocks, includes and excerpts stand in one another
-  abbrev pub evaluation_with : Place → Tree → Query SiteFault (List ℕ)
-  evaluation_with p t = bind (nodes (excerpts 100) (entering 100) p t nothing_yet) (λ r. Give r.state.out)
+  -- a whole text, where so many levels may be entered
+  abbrev pub evaluation_at : ℕ → Place → Tree → Query SiteFault (List ℕ)
+  evaluation_at levels p t = bind (nodes (excerpts levels) (entering levels) p t nothing_yet) (λ r. Give r.state.out)
 
+-- in an excerpt, items have the excerpts of their own
 abbrev pub none_made : ℕ → Excerpting
-none_made levels = no_excerpts
+none_made levels = own_excerpt
 
--- the front of an item's text is evaluated where nothing has an excerpt
+-- the front of an item's text is evaluated where no excerpt is made
 abbrev pub excerpts_made : ℕ → Excerpting
 excerpts_made levels p n = bind (excerpt (entering none_made levels) p n) given
 
@@ -85,5 +86,6 @@ excerpts_in of_excerpt = none_made
 excerpts_in of_body = excerpts_made
 excerpts_in (of_layout own content layout) = excerpts_made
 
+-- at most a hundred blocks, includes and excerpts stand in one another
 abbrev pub evaluation : Place → Tree → Query SiteFault (List ℕ)
-evaluation p t = evaluation_with (excerpts_in p.manner) p t
+evaluation p t = evaluation_at (excerpts_in p.manner) 100 p t

@@ -1,71 +1,68 @@
 -- `tablerow`. After the reference of Liquid 4 (Shopify), "Tags", "Iteration".
-use Rattle.std.specs.Prelude.{ℕ, zero, suc, pos, negsuc, ◌+◌, ◌-◌, ◌/◌, ◌%◌, ◌==◌, ◌&&◌, not, Bool, true, false, List, [], ◌∷◌, ◌++◌, length, codes, if◌then◌else◌, Option, Some, None, Result, Ok, Err}
+use Rattle.std.specs.Prelude.{ℕ, suc, ◌+◌, ◌==◌, ◌&&◌, not, List, [], ◌∷◌, ◌++◌, length, codes, if◌then◌else◌, Option, Some, None}
 use Rattle.site_base.specs.Decimal.{decimal}
-use Rattle.site_base.specs.Plain.{Plain, nil, bool, int, hash, Pairs, no_pairs, pair}
-use Rattle.site_base.specs.declared.faults.FaultKind.{FaultKind}
+use Rattle.site_base.specs.Plain.{Plain}
 use Rattle.site_base.specs.declared.faults.SiteFault.{SiteFault}
 use Rattle.read_record.specs.Queries.{Query, Give, bind}
 use Rattle.liquid_grammar.specs.declared.tag.Loop.{Loop}
-use Rattle.liquid_grammar.specs.declared.tag.LoopKey.TheVariants.{Columns}
 use Rattle.liquid_grammar.specs.Trees.{Tree}
-use Rattle.liquid_eval.specs.declared.signal.Signal.TheVariants.{Next, Break, Continue}
-use Rattle.liquid_values.specs.Members.{count_value}
-use Rattle.liquid_values.specs.Places.{Place, in_loop}
-use Rattle.liquid_eval.specs.States.{State, Reached, onward, written, Enter}
-use Rattle.liquid_eval.specs.Conditions.{is_nil}
-use Rattle.liquid_eval.specs.Elements.{part_expr, number_or_none, cut_elements}
-use Rattle.liquid_values.specs.Names.{Excerpting}
-use Rattle.liquid_eval.specs.Expressions.{expression}
 use Rattle.liquid_values.specs.LoopValues.{row_of, column_of, ends_row, row_loop}
-use Rattle.liquid_eval.specs.Loops.{body_of}
+use Rattle.liquid_values.specs.Names.{Excerpting}
+use Rattle.liquid_values.specs.Places.{Place, in_loop}
+use Rattle.liquid_tags.specs.declared.state.State.{State}
+use Rattle.liquid_tags.specs.declared.tables.Grid.{Grid}
+use Rattle.liquid_tags.specs.Nodes.{body_of}
+use Rattle.liquid_tags.specs.States.{written}
+use Rattle.liquid_tags.specs.Tables.{table}
+use Rattle.liquid_eval.specs.declared.signal.Signal.TheVariants.{Next, Break, Continue}
+use Rattle.liquid_eval.specs.Reached.{Reached, onward, Enter}
 
--- how many columns a row has: the whole list where none are given, or fewer than one
-abbrev pub columns_of : Option ℕ → ℕ → ℕ
-columns_of None len = len
-columns_of (Some zero) len = len
-columns_of (Some (suc n)) len = suc n
+abbrev pub first_row : List ℕ
+first_row = codes "<tr class=\"row1\">\n"
 
-abbrev pub row_start : ℕ → List ℕ
-row_start n = codes "<tr class=\"row" ++ (decimal n ++ codes "\">")
-
-abbrev pub row_end : List ℕ
-row_end = codes "</tr>\n"
+abbrev pub last_row : List ℕ
+last_row = codes "</tr>\n"
 
 abbrev pub cell_start : ℕ → List ℕ
 cell_start n = codes "<td class=\"col" ++ (decimal n ++ codes "\">")
 
+-- the end of a cell and of its row, and the start of the next
+abbrev pub next_row : ℕ → List ℕ
+next_row n = codes "</td></tr>\n<tr class=\"row" ++ (decimal n ++ codes "\">")
+
 -- behind a cell: the next row where this one is full and more elements follow
 abbrev pub cell_end : ℕ → ℕ → ℕ → List ℕ
-cell_end len columns passed =
-    codes "</td>" ++ (if ends_row columns passed && not (passed + 1 == len) then row_end ++ row_start (row_of columns passed + 2) else [])
+cell_end len columns passed = if ends_row columns passed && not (passed + 1 == len) then next_row (row_of columns passed + 2) else codes "</td>"
 
-module _ (excerpts : Excerpting) (enter : Enter) where
-  abbrev pub cell_place : Place → List ℕ → ℕ → ℕ → ℕ → Plain → Place
-  cell_place p x len columns passed v = in_loop ((x, v) ∷ (codes "tablerowloop", row_loop len columns passed) ∷ p.locals) p.around p
+abbrev pub cell_place : Place → List ℕ → ℕ → ℕ → ℕ → Plain → Place
+cell_place p x len columns passed v = in_loop ((x, v) ∷ (codes "tablerowloop", row_loop len columns passed) ∷ p.locals) p.around p
 
-  -- the cells that are left; a cell in which the loop ends is closed
+-- a cell in which the loop ends is closed
+abbrev pub close_cell : Place → ℕ → ℕ → ℕ → Reached → (State → Query SiteFault State) → Query SiteFault State
+close_cell p len columns passed r next = elim r.signal [
+  | Next ↦ bind (written p (cell_end len columns passed) r.state) next
+  | Break ↦ written p (codes "</td>") r.state
+  | Continue ↦ bind (written p (cell_end len columns passed) r.state) next
+]
+
+module _ (enter : Enter) where
+  -- the cells that are left
   abbrev pub cells : Place → List ℕ → Tree → ℕ → ℕ → ℕ → List Plain → State → Query SiteFault State
   cells p x body len columns passed [] s = Give s
   cells p x body len columns passed (v ∷ vs) s =
       bind (written p (cell_start (column_of columns passed + 1)) s) (λ t.
-      bind (enter p (cell_place p x len columns passed v) body t) (λ r. elim r.signal [
-        | Next ↦ bind (written p (cell_end len columns passed) r.state) (λ u. cells p x body len columns (suc passed) vs u)
-        | Break ↦ written p (codes "</td>") r.state
-        | Continue ↦ bind (written p (cell_end len columns passed) r.state) (λ u. cells p x body len columns (suc passed) vs u)
-      ]))
+      bind (enter p (cell_place p x len columns passed v) body t) (λ r. close_cell p len columns passed r (λ u. cells p x body len columns (suc passed) vs u)))
 
-  abbrev pub table : Place → List ℕ → Tree → ℕ → List Plain → State → Query SiteFault Reached
-  table p x parts columns vs s =
-      bind (written p (row_start 1 ++ codes "\n") s) (λ t.
-      bind (cells p x (body_of parts) (length vs) columns 0 vs t) (λ u.
-      bind (written p row_end u) onward))
-
-  abbrev pub table_of : Place → Loop → State → Tree → Plain → Query SiteFault Reached
-  table_of p l s parts v =
-      bind (cut_elements excerpts p l s v) (λ vs.
-      bind (number_or_none excerpts p s (part_expr Columns l.parts)) (λ given.
-      table p l.name parts (columns_of given (length vs)) vs s))
+  abbrev pub rows : Place → List ℕ → Tree → Grid → State → Query SiteFault Reached
+  rows p x parts t s =
+      bind (written p first_row s) (λ begun.
+      bind (cells p x (body_of parts) (length t.elements) t.columns 0 t.elements begun) (λ filled.
+      bind (written p last_row filled) onward))
 
   -- nil writes nothing
-  abbrev pub table_block : Place → Loop → State → Tree → Query SiteFault Reached
-  table_block p l s parts = bind (expression excerpts p s.assigned l.list) (λ v. elim (is_nil v) [ true ↦ onward s | false ↦ table_of p l s parts v ])
+  abbrev pub rows_if : Place → List ℕ → Tree → State → Option Grid → Query SiteFault Reached
+  rows_if p x parts s None = onward s
+  rows_if p x parts s (Some t) = rows p x parts t s
+
+  abbrev pub table_block : Excerpting → Place → Loop → Tree → State → Query SiteFault Reached
+  table_block excerpts p l parts s = bind (table excerpts p s.assigned l) (λ t. rows_if p l.name parts s t)

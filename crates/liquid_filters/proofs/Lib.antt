@@ -13,6 +13,7 @@ pub mod PartLaws
 pub mod SelectionLaws
 pub mod SortLaws
 pub mod SplitLaws
+pub mod StretchLaws
 pub mod TableLaws
 pub mod UrlLaws
 pub mod WhiteLaws

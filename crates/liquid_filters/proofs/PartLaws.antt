@@ -12,7 +12,7 @@ use Rattle.liquid_filters.specs.Replacements.{replaced, replaced_once}
 abbrev front_cases : List ℕ → List ℕ → Bool → Bool
 front_cases ws t b = elim b as (λ x. Bool) [ true ↦ begins_with ws t | false ↦ false ]
 
-begins_front : (ms back : List ℕ) → begins_with ms (ms ++ back) ≡ true
+pub begins_front : (ms back : List ℕ) → begins_with ms (ms ++ back) ≡ true
 begins_front [] back = refl
 begins_front (m ∷ ms) back = ap (front_cases ms (ms ++ back)) (eq-eqb m m refl) ∙ begins_front ms back
 
@@ -27,7 +27,7 @@ begins_is (m ∷ ms) (c ∷ cs) e = go (m == c) refl (λ h. begins_is ms cs h) e
         (found.0, ap (λ x. x ∷ cs) (sym (eqb-true m c same)) ∙ ap (λ (xs : List ℕ). m ∷ xs) found.1)
     go false same further h = absurd cc
 
-begins_lacks : (ms s : List ℕ) → ((rest : List ℕ) → s ≡ ms ++ rest → ⊥) → begins_with ms s ≡ false
+pub begins_lacks : (ms s : List ℕ) → ((rest : List ℕ) → s ≡ ms ++ rest → ⊥) → begins_with ms s ≡ false
 begins_lacks ms s none = go (begins_with ms s) refl
   where
     go : (b : Bool) → begins_with ms s ≡ b → b ≡ false

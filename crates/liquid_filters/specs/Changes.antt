@@ -7,10 +7,11 @@ use Rattle.site_base.specs.Values.{value_text}
 use Rattle.site_base.specs.declared.faults.FaultKind.{FaultKind}
 use Rattle.liquid_filters.specs.Arguments.{no_more}
 use Rattle.liquid_filters.specs.Marks.{marked}
+use Rattle.liquid_filters.specs.Stretches.{stripped}
 use Rattle.liquid_filters.specs.Urls.{url_byte}
 use Rattle.liquid_filters.specs.White.{without_front, without_end}
 use Rattle.liquid_filters.specs.declared.changes.TextChange.{TextChange}
-use Rattle.liquid_filters.specs.declared.changes.TextChange.TheVariants.{Capitalize, Downcase, Escape, EscapeOnce, Lstrip, NewlineToBr, Rstrip, Strip, StripNewlines, Upcase, UrlEncode}
+use Rattle.liquid_filters.specs.declared.changes.TextChange.TheVariants.{Capitalize, Downcase, Escape, EscapeOnce, Lstrip, NewlineToBr, Rstrip, Strip, StripHtml, StripNewlines, Upcase, UrlEncode}
 use Rattle.liquid_filters.specs.declared.marks.Mark.TheVariants as mark
 use Rattle.liquid_filters.specs.declared.urls.UrlCode.TheVariants as url_code
 
@@ -28,6 +29,7 @@ changed Lstrip t = without_front t
 changed NewlineToBr t = marked mark.LineBreak t
 changed Rstrip t = without_end t
 changed Strip t = without_end (without_front t)
+changed StripHtml t = stripped t
 changed StripNewlines t = marked mark.LineEnd t
 changed Upcase t = map to_ascii_uppercase t
 changed UrlEncode t = flat_map (url_byte url_code.Query) t

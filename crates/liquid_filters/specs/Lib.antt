@@ -10,6 +10,7 @@ pub mod Keyed
 pub mod Limits
 pub mod Lists
 pub mod Marks
+pub mod MissingEnds
 pub mod Numbers
 pub mod Numerals
 pub mod Parts
@@ -21,6 +22,7 @@ pub mod Sortings
 pub mod Spans
 pub mod Splitting
 pub mod Stops
+pub mod Stretches
 pub mod Table
 pub mod Taken
 pub mod Texts

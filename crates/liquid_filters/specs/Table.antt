@@ -11,7 +11,7 @@ use Rattle.liquid_filters.specs.declared.numbers.NumberFilter.{NumberFilter}
 use Rattle.liquid_filters.specs.declared.numbers.NumberFilter.TheVariants.{Abs, AtLeast, AtMost, Ceil, DividedBy, Floor, Minus, Modulo, Plus, Round, Times}
 use Rattle.liquid_filters.specs.Changes.{change_filter}
 use Rattle.liquid_filters.specs.declared.changes.TextChange.{TextChange}
-use Rattle.liquid_filters.specs.declared.changes.TextChange.TheVariants.{Capitalize, Downcase, Escape, EscapeOnce, Lstrip, NewlineToBr, Rstrip, Strip, StripNewlines, Upcase, UrlEncode}
+use Rattle.liquid_filters.specs.declared.changes.TextChange.TheVariants.{Capitalize, Downcase, Escape, EscapeOnce, Lstrip, NewlineToBr, Rstrip, Strip, StripHtml, StripNewlines, Upcase, UrlEncode}
 use Rattle.liquid_filters.specs.Dates.{date}
 use Rattle.liquid_filters.specs.Lists.{list_filter}
 use Rattle.liquid_filters.specs.declared.lists.ListFilter.{ListFilter}
@@ -105,6 +105,7 @@ rows =
     ∷ (codes "sort_natural", sort_filter SortNatural)
     ∷ (codes "split", splitting)
     ∷ (codes "strip", changing Strip)
+    ∷ (codes "strip_html", changing StripHtml)
     ∷ (codes "strip_newlines", changing StripNewlines)
     ∷ (codes "times", number Times)
     ∷ (codes "truncate", spanning Truncate)

@@ -8,6 +8,7 @@ ghost use Rattle.liquid_filters.specs.Changes.{change_filter, capitalized, chang
 use crate::arguments::no_more;
 use crate::marks::{Mark, marked};
 use crate::stop::Stop;
+use crate::stretches::stripped;
 use crate::urls::{UrlCode, percent_encoded};
 use crate::white::{without_end, without_front};
 use site_base::{Memory, Text, Value, value_text};
@@ -24,6 +25,7 @@ pub enum TextChange {
     NewlineToBr,
     Rstrip,
     Strip,
+    StripHtml,
     StripNewlines,
     Upcase,
     UrlEncode,
@@ -43,7 +45,8 @@ pub(crate) fn change_filter(
     Ok(Value::Text(changed(alloc, change, text.as_str())?))
 }
 
-fn changed(alloc: Global, change: TextChange, text: &str) -> Result<Text, Memory>
+/// What a change makes of a text.
+pub fn changed(alloc: Global, change: TextChange, text: &str) -> Result<Text, Memory>
     ensures { IfOk result (λ made. made ≡ changed change text.now) }
 {
     match change {
@@ -55,6 +58,7 @@ fn changed(alloc: Global, change: TextChange, text: &str) -> Result<Text, Memory
         TextChange::NewlineToBr => Text::from_string(marked(alloc, Mark::LineBreak, text)?),
         TextChange::Rstrip => Text::copy(alloc, without_end(text)),
         TextChange::Strip => Text::copy(alloc, without_end(without_front(text))),
+        TextChange::StripHtml => Text::from_string(stripped(alloc, text)?),
         TextChange::StripNewlines => Text::from_string(marked(alloc, Mark::LineEnd, text)?),
         TextChange::Upcase => Text::from_string(text.to_ascii_uppercase(alloc)?),
         TextChange::UrlEncode => Text::from_string(percent_encoded(alloc, UrlCode::Query, text)?),

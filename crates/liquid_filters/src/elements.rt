@@ -52,7 +52,7 @@ impl<'a> Elements<'a> {
 }
 
 /// How many numbers a range has, of which there may be only so many.
-pub(crate) fn range_count(first: i64, last: i64) -> Result<u64, FaultKind>
+pub fn range_count(first: i64, last: i64) -> Result<u64, FaultKind>
     ensures { result ≡ range_count (range_len first last) }
 {
     let count = range_len(first, last);

@@ -29,7 +29,7 @@ pub enum FilterName {
 }
 
 // The table.
-const ROWS: [(&str, FilterName); 47] = [
+const ROWS: [(&str, FilterName); 48] = [
     ("abs", FilterName::Number(NumberFilter::Abs)),
     ("append", FilterName::Text(TextFilter::Append)),
     ("at_least", FilterName::Number(NumberFilter::AtLeast)),
@@ -74,6 +74,7 @@ const ROWS: [(&str, FilterName); 47] = [
     ("sort_natural", FilterName::Sort(Sorting::SortNatural)),
     ("split", FilterName::Split),
     ("strip", FilterName::Change(TextChange::Strip)),
+    ("strip_html", FilterName::Change(TextChange::StripHtml)),
     (
         "strip_newlines",
         FilterName::Change(TextChange::StripNewlines),

@@ -94,8 +94,8 @@ fn default(alloc: Global, input: &Value, other: &Value) -> Result<Value, Stop>
     }
 }
 
-// Whether it is nil, false or empty.
-fn is_blank(value: &Value) -> bool
+/// Whether a value is nil, false or empty.
+pub fn is_blank(value: &Value) -> bool
     ensures { result ≡ is_blank (plain value.now) }
 {
     match value {

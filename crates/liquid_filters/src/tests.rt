@@ -352,6 +352,44 @@ fn filters_that_replace(rt: HostRuntime) -> Result<(), Fail> {
     Ok(())
 }
 
+const STRETCHES: &[(&str, &str, &[&str], &str)] = &[
+    ("strip_html", "a<b>c</b>d", &[], "s3:acd"),
+    ("strip_html", "<>a<b c='>'>d", &[], "s4:a'>d"),
+    ("strip_html", "a < b", &[], "s5:a < b"),
+    ("strip_html", "a<b\nc>d", &[], "s2:ad"),
+    (
+        "strip_html",
+        "a<script>b<i>c</i></script>d</script>e",
+        &[],
+        "s3:ade",
+    ),
+    ("strip_html", "a<script", &[], "s8:a<script"),
+    ("strip_html", "<script>a", &[], "s1:a"),
+    ("strip_html", "a<SCRIPT>b</SCRIPT>c", &[], "s3:abc"),
+    ("strip_html", "a<!-- b > c -->d", &[], "s2:ad"),
+    ("strip_html", "a<!-->b-->c", &[], "s2:ac"),
+    ("strip_html", "<!--->a", &[], "s1:a"),
+    ("strip_html", "<!-- <script> -->a</script>b", &[], "s2:ab"),
+    ("strip_html", "<style>a<!--</style>b-->", &[], "s4:b-->"),
+    ("strip_html", "<scriptx>a</script >b</script>c", &[], "s1:c"),
+    ("strip_html", "<a<!-- > -->b>c", &[], "s1:c"),
+    ("strip_html", "<<!--b-->script>c</script>d", &[], "s2:cd"),
+    ("strip_html", "é<é>è<!--ü-->ö", &[], "s6:éèö"),
+    ("strip_html", "a<!--b<!--c", &[], "s11:a<!--b<!--c"),
+    ("strip_html", "a>b<", &[], "s4:a>b<"),
+    ("strip_html", "<!--a<!--b-->c<!--d", &[], "s6:c<!--d"),
+    ("strip_html", "", &[], "s0:"),
+    ("strip_html", "a", &[""], "F14"),
+];
+
+#[test]
+fn a_filter_that_drops_stretches(rt: HostRuntime) -> Result<(), Fail> {
+    for row in STRETCHES {
+        assert!(rt; gives_of_texts(rt.alloc(), row) == Ok(true));
+    }
+    Ok(())
+}
+
 const FROM_URLS: &[(&str, &str, &[&str], &str)] = &[
     ("url_decode", "a+b%2f%C3%A9", &[], "s6:a b/é"),
     ("url_decode", "%2B+", &[], "s2:+ "),

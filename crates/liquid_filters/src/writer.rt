@@ -21,7 +21,7 @@ impl Model for Writer {
 }
 
 impl Writer {
-    ghost use Rattle.std.specs.Prelude.{◌≡◌, ◌++◌, [], IfOk};
+    ghost use Rattle.std.specs.Prelude.{◌≡◌, ◌++◌, [], IfOk, length};
     ghost use Rattle.site_base.specs.Values.{value_text};
     ghost use Rattle.site_base.specs.View.{plain};
     ghost use Rattle.liquid_filters.specs.Writing.{Writes};
@@ -33,6 +33,13 @@ impl Writer {
         Writer {
             text: String::new(alloc),
         }
+    }
+
+    /// How many bytes were written.
+    pub fn len(&self) -> usize
+        ensures { result ≡ length self.now }
+    {
+        self.text.len()
     }
 
     /// Adds a text at the end. OutputTooLong comes exactly where there would be more than a text may have.

@@ -8,11 +8,13 @@ mod node;
 mod parsing;
 mod tags;
 mod template;
+mod templates;
 
 pub use error::ParseError;
 pub use node::Node;
 pub use parsing::parse;
 pub use template::{First, Template, first_of};
+pub use templates::{SharedTemplate, Templates};
 
 #[cfg(test)]
 mod tests;

@@ -1,5 +1,6 @@
-use crate::{Node, ParseError, Template, first_of, parse};
+use crate::{Node, ParseError, Templates, first_of, parse};
 use liquid_grammar::Leaf;
+use site_base::Text;
 use std::alloc::Global;
 use std::process::Abort;
 use std::test::*;
@@ -366,9 +367,8 @@ fn refuses_more_tags(rt: HostRuntime) -> Result<(), Fail> {
     named(&rt, rt.alloc(), &rows)
 }
 
-// The texts of a template without blocks.
-fn texts_are(template: &Template, wanted: &[&str]) -> bool {
-    let nodes = template.nodes();
+// Whether these are the texts of a template without blocks.
+fn are_texts(nodes: &[Node], wanted: &[&str]) -> bool {
     let mut same = nodes.len() == wanted.len();
     for (node, text) in nodes.iter().zip(wanted) {
         same = same
@@ -385,11 +385,50 @@ fn keeps_texts_as_they_are(rt: HostRuntime) -> Result<(), Fail> {
     let template = parse(rt.alloc(), "{% raw %}{{ a }}{% endraw %}b")
         .ok()
         .ok_or("a template")?;
-    assert!(rt; texts_are(&template, &["{{ a }}", "b"]));
+    assert!(rt; are_texts(template.nodes(), &["{{ a }}", "b"]));
     let template = parse(rt.alloc(), "é{% comment %}ü{% endcomment %} ö")
         .ok()
         .ok_or("a template")?;
-    assert!(rt; texts_are(&template, &["é", " ö"]));
+    assert!(rt; are_texts(template.nodes(), &["é", " ö"]));
+    Ok(())
+}
+
+// Whether a text is the template of these texts.
+fn has_texts(
+    alloc: Global,
+    templates: &mut Templates,
+    text: &str,
+    wanted: &[&str],
+) -> Result<bool, Fail> {
+    let text = Text::copy(alloc, text)?;
+    match templates.template(alloc, &text) {
+        Ok(template) => Ok(are_texts(template.nodes(), wanted)),
+        Err(_) => Ok(false),
+    }
+}
+
+#[test]
+fn finds_templates_again(rt: HostRuntime) -> Result<(), Fail> {
+    let mut templates = Templates::new(rt.alloc());
+    for _ in 0..3 {
+        assert!(rt;
+            has_texts(
+                rt.alloc(),
+                &mut templates,
+                "a{% comment %}b{% endcomment %}c",
+                &["a", "c"]
+            )?
+        );
+        assert!(rt;
+            has_texts(
+                rt.alloc(),
+                &mut templates,
+                "{% raw %}{{ b{% endraw %}",
+                &["{{ b"]
+            )?
+        );
+        assert!(rt; !has_texts(rt.alloc(), &mut templates, "{{ b", &["{{ b"])?);
+    }
     Ok(())
 }
 

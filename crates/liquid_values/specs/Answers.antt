@@ -6,6 +6,8 @@ use Rattle.site_base.specs.View.{plain}
 use Rattle.site_base.specs.declared.value.Value.{Value}
 use Rattle.site_base.specs.declared.faults.FaultKind.{FaultKind}
 use Rattle.site_base.specs.declared.faults.SiteFault.{SiteFault}
+use Rattle.read_record.specs.Answers.{Stops}
+use Rattle.read_record.specs.Queries.{Query, Give, Fail, Trace, Ran, RanTo}
 use Rattle.read_record.specs.declared.stop.Stop.{Stop}
 use Rattle.read_record.specs.declared.stop.Stop.TheVariants as stop
 use Rattle.liquid_filters.specs.declared.stop.Filtered.{Filtered}
@@ -51,6 +53,18 @@ AnsweredAt p (filtered.Fault k) (Err e) = IsFault (fault_at p k) e
 AnsweredAt p (filtered.Needs j) (Err e) = e ≡ stop.Needs j
 AnsweredAt p filtered.Memory (Err e) = e ≡ stop.Memory
 AnsweredAt p answer result = ⊥
+
+-- a call that changes something leaves what a run comes to
+abbrev pub Advances : {F A : Type 0} → Ran F A → Result (Unit {0}) (Stop F) → A → Trace → Type 0
+Advances run (Ok done) a t = run ≡ RanTo a t
+Advances run (Err e) a t = Stops run e t
+
+-- the same, of a call that looks nothing up
+abbrev pub Settles : {F A : Type 0} → Query F A → Result (Unit {0}) (Stop F) → A → Type 0
+Settles q (Ok done) a = q ≡ Give a
+Settles q (Err (stop.Fault f)) a = q ≡ Fail f
+Settles q (Err (stop.Needs j)) a = ⊥
+Settles q (Err stop.Memory) a = Unit {0}
 
 -- a filter of the name was found
 abbrev pub IsKnown : Filtered → Type 0

@@ -6,7 +6,7 @@ use Rattle.std.specs.Str.{bytes_eq}
 use Rattle.site_base.specs.Plain.{Plain, nil, int, text, list, hash, site_item, Items, no_items, item, Pairs, no_pairs, pair, get}
 use Rattle.site_base.specs.declared.faults.SiteFault.{SiteFault}
 use Rattle.site_base.specs.declared.item_name.ItemName.{ItemName}
-use Rattle.read_record.specs.declared.key.Key.TheVariants.{Paginator, SiteVar, Data}
+use Rattle.read_record.specs.declared.key.Key.TheVariants.{Paginator, SiteVar, Data, Var}
 use Rattle.read_record.specs.Queries.{Query, Give, Ask, bind}
 use Rattle.liquid_filters.specs.Answers.{limited}
 use Rattle.liquid_filters.specs.Dates.{date}
@@ -28,9 +28,9 @@ given v = Give (value v)
 abbrev pub Excerpting : Type 0
 Excerpting = Place → ItemName → Query SiteFault Found
 
--- nothing has an excerpt in an excerpt
-abbrev pub no_excerpts : Excerpting
-no_excerpts p n = given nil
+-- the item's own excerpt, which is nil where it has none
+abbrev pub own_excerpt : Excerpting
+own_excerpt p n = Ask (Var n (codes "excerpt")) given
 
 abbrev pub jekyll : Plain
 jekyll = hash (pair (codes "environment") (text (codes "development")) (pair (codes "version") (text (codes "4")) no_pairs))

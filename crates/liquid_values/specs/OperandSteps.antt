@@ -1,11 +1,8 @@
 -- An operand by its steps, each on a stack of what names and members stand for.
-use Rattle.std.specs.Prelude.{ℕ, List, [], ◌∷◌, ◌++◌, map, reverse, Option, Some, None, ◌≡◌, Result, Ok, Err}
+use Rattle.std.specs.Prelude.{ℕ, List, [], ◌∷◌, ◌++◌, map, reverse, Option, Some, None}
 use Rattle.site_base.specs.Plain.{Plain, nil, Pairs}
 use Rattle.site_base.specs.declared.faults.SiteFault.{SiteFault}
-use Rattle.read_record.specs.Answers.{Stops}
-use Rattle.read_record.specs.declared.stop.Stop.{Stop}
-use Rattle.read_record.specs.declared.stop.Stop.TheVariants as stop
-use Rattle.read_record.specs.Queries.{Query, Give, Fail, bind, Trace, Ran, RanTo}
+use Rattle.read_record.specs.Queries.{Query, Give, bind}
 use Rattle.liquid_grammar.specs.declared.step.Step.{Step}
 use Rattle.liquid_grammar.specs.declared.step.Step.TheVariants as steps
 use Rattle.liquid_values.specs.declared.found.Found.{Found}
@@ -64,15 +61,3 @@ top_of (Some f) st = found_of f ∷ st
 
 abbrev pub stack_of : Stack → Standing
 stack_of s = top_of s.top (reverse (map found_of s.below.items))
-
--- a call leaves the stack that a run comes to
-abbrev pub Advances : Ran SiteFault Standing → Result (Unit {0}) (Stop SiteFault) → Standing → Trace → Type 0
-Advances run (Ok done) st t = run ≡ RanTo st t
-Advances run (Err e) st t = Stops run e t
-
--- a call that looks nothing up leaves what a query gives
-abbrev pub Settles : Query SiteFault Standing → Result (Unit {0}) (Stop SiteFault) → Standing → Type 0
-Settles q (Ok done) st = q ≡ Give st
-Settles q (Err (stop.Fault f)) st = q ≡ Fail f
-Settles q (Err (stop.Needs j)) st = ⊥
-Settles q (Err stop.Memory) st = Unit {0}

@@ -6,7 +6,7 @@ use Rattle.read_record.specs.declared.key.Key.{Key}
 use Rattle.read_record.specs.declared.key.Key.TheVariants.{Source, Content, Output, Var, SiteVar, Data, Moment}
 use Rattle.read_record.specs.Forms.{has_form, IsFormed}
 use Rattle.read_record.specs.Queries.{View, Known}
-use Rattle.liquid_values.specs.Names.{no_excerpts, Excerpting}
+use Rattle.liquid_values.specs.Names.{own_excerpt, Excerpting}
 use Rattle.std.specs.Prelude.{ℕ}
 
 abbrev pub echo : View
@@ -31,5 +31,5 @@ echo-formed (Output n) v h = formed-at (Output n) (text (codes "output")) v refl
 echo-formed Moment v h = formed-at Moment (int (pos 0)) v refl (cc)
 echo-formed k v h = formed-at k nil v refl (cc)
 
-abbrev pub none : ℕ → Excerpting
-none levels = no_excerpts
+abbrev pub own : ℕ → Excerpting
+own levels = own_excerpt

@@ -17,7 +17,7 @@ use std::alloc::Global;
 
 /// What a filter of Liquid makes of a value.
 #[tactic(auto, using(crate::proofs::FilterLaws::answered_runs))]
-pub(crate) fn apply_liquid<'a, L: Look>(
+pub fn apply_liquid<'a, L: Look>(
     alloc: Global,
     place: &Place<'a>,
     filter: liquid_filters::FilterName,

@@ -24,7 +24,7 @@ use std::alloc::Global;
 /// The member of this name.
 pub(crate) fn member<'a, X: Excerpts, L: Look>(
     alloc: Global,
-    excerpts: &X,
+    excerpts: &mut X,
     place: &Place<'a>,
     found: Found<'a>,
     name: &str,
@@ -43,7 +43,7 @@ pub(crate) fn member<'a, X: Excerpts, L: Look>(
 
 fn value_member<'a, X: Excerpts, L: Look>(
     alloc: Global,
-    excerpts: &X,
+    excerpts: &mut X,
     place: &Place<'a>,
     value: &Value,
     name: &str,
@@ -60,7 +60,7 @@ fn value_member<'a, X: Excerpts, L: Look>(
 
 fn item_member<'a, X: Excerpts, L: Look>(
     alloc: Global,
-    excerpts: &X,
+    excerpts: &mut X,
     place: &Place<'a>,
     item: &ItemName,
     name: &str,
@@ -138,7 +138,7 @@ fn output_of<'a, L: Look>(
 /// What stands in brackets names a member, or is a place.
 pub(crate) fn indexed<'a, X: Excerpts, L: Look>(
     alloc: Global,
-    excerpts: &X,
+    excerpts: &mut X,
     place: &Place<'a>,
     found: Found<'a>,
     index: &Value,

@@ -16,12 +16,15 @@ mod site_members;
 mod stack;
 mod stop;
 
-pub use excerpts::Excerpts;
+pub use excerpts::{Excerpts, own_excerpt};
+pub use filters::apply_liquid;
 pub use found::Found;
 pub use locals::{Bound, ForLoop, Locals, RowLoop};
+pub use loop_values::{column_of, count_value, ends_row, row_of};
 pub use mode::Mode;
 pub use operands::operand;
 pub use place::Place;
+pub use site_members::{holds_item, items_in};
 pub use stop::Stop;
 
 #[cfg(test)]

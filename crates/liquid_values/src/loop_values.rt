@@ -14,7 +14,7 @@ use site_base::{Hash, Memory, Text, Value};
 use std::alloc::Global;
 
 /// A count as a value; one that no `i64` holds is nil.
-pub(crate) fn count_value(count: u128) -> Value
+pub fn count_value(count: u128) -> Value
     ensures { plain result ≡ count_value count }
 {
     match i64::try_from(count) {
@@ -121,7 +121,7 @@ fn push(alloc: Global, hash: &mut Hash, key: &str, value: Value) -> Result<(), M
 }
 
 /// The row of the element behind so many, counted from 0.
-pub(crate) fn row_of(columns: u64, passed: u64) -> u64
+pub fn row_of(columns: u64, passed: u64) -> u64
     ensures { result ≡ row_of columns passed }
 {
     match passed.checked_div(columns) {
@@ -131,7 +131,7 @@ pub(crate) fn row_of(columns: u64, passed: u64) -> u64
 }
 
 /// Its column, counted from 0.
-pub(crate) fn column_of(columns: u64, passed: u64) -> u64
+pub fn column_of(columns: u64, passed: u64) -> u64
     ensures { result ≡ column_of columns passed }
 {
     match passed.checked_rem(columns) {
@@ -141,7 +141,7 @@ pub(crate) fn column_of(columns: u64, passed: u64) -> u64
 }
 
 /// Whether it is the last of its row.
-pub(crate) fn ends_row(columns: u64, passed: u64) -> bool
+pub fn ends_row(columns: u64, passed: u64) -> bool
     ensures { result ≡ ends_row columns passed }
 {
     u128::from(column_of(columns, passed)) + 1 == u128::from(columns)

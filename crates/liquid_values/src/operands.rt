@@ -4,10 +4,10 @@ ghost use Rattle.site_base.specs.View.{plain};
 ghost use Rattle.site_base.specs.declared.faults.SiteFault.{SiteFault};
 ghost use Rattle.read_record.specs.Queries.{run};
 ghost use Rattle.read_record.specs.Answers.{Finds};
-ghost use Rattle.liquid_values.specs.Answers.{found_of, in_found, in_plain};
+ghost use Rattle.liquid_values.specs.Answers.{found_of, in_found, in_plain, Advances, Settles};
 ghost use Rattle.liquid_values.specs.Names.{named as variable, value_of};
 ghost use Rattle.liquid_values.specs.Operands as operands;
-ghost use Rattle.liquid_values.specs.OperandSteps.{stack_of, pushed, member_step, index_step, range_step, one_step, Advances, Settles};
+ghost use Rattle.liquid_values.specs.OperandSteps.{stack_of, pushed, member_step, index_step, range_step, one_step};
 ghost use Rattle.liquid_values.specs.Standing.{place_of};
 
 use crate::excerpts::Excerpts;
@@ -31,7 +31,7 @@ use std::alloc::Global;
 #[tactic(auto, using(read_record::proofs::CallLaws::binds))]
 pub fn operand<'a, X: Excerpts, L: Look>(
     alloc: Global,
-    excerpts: &X,
+    excerpts: &mut X,
     place: &Place<'a>,
     assigned: &Hash,
     operand: &Operand,
@@ -47,7 +47,7 @@ pub fn operand<'a, X: Excerpts, L: Look>(
 // What an operand stands for, by its steps.
 fn found<'a, X: Excerpts, L: Look>(
     alloc: Global,
-    excerpts: &X,
+    excerpts: &mut X,
     place: &Place<'a>,
     assigned: &Hash,
     operand: &Operand,
@@ -69,7 +69,7 @@ fn found<'a, X: Excerpts, L: Look>(
 #[tactic(auto, using(read_record::proofs::CallLaws::binds))]
 fn take_step<'a, X: Excerpts, L: Look>(
     alloc: Global,
-    excerpts: &X,
+    excerpts: &mut X,
     place: &Place<'a>,
     assigned: &Hash,
     step: &Step,
@@ -119,7 +119,7 @@ fn take_variable<'a, L: Look>(
 #[tactic(auto, using(read_record::proofs::CallLaws::binds))]
 fn take_member<'a, X: Excerpts, L: Look>(
     alloc: Global,
-    excerpts: &X,
+    excerpts: &mut X,
     place: &Place<'a>,
     name: &str,
     stack: &mut Stack<'a>,
@@ -139,7 +139,7 @@ fn take_member<'a, X: Excerpts, L: Look>(
 #[tactic(auto, using(read_record::proofs::CallLaws::binds))]
 fn take_index<'a, X: Excerpts, L: Look>(
     alloc: Global,
-    excerpts: &X,
+    excerpts: &mut X,
     place: &Place<'a>,
     stack: &mut Stack<'a>,
     look: &mut L,

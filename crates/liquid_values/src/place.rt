@@ -1,7 +1,7 @@
 // Where an evaluation stands.
 ghost use Rattle.std.specs.Prelude.{◌≡◌};
 ghost use Rattle.liquid_values.specs.Answers.{IsFault, FoundAt, AnsweredAt, IsKnown};
-ghost use Rattle.liquid_values.specs.Places.{fault_at};
+ghost use Rattle.liquid_values.specs.Places.{at_line, fault_at, silenced};
 ghost use Rattle.liquid_values.specs.Standing.{place_of};
 
 use crate::Mode;
@@ -31,8 +31,32 @@ pub struct Place<'a> {
 }
 
 impl<'a> Place<'a> {
+    /// The same place, in another line.
+    pub fn at_line(&self, line: u64) -> Place<'a>
+        ensures at { place_of result ≡ at_line line (place_of self.now) }
+        ensures levels { result.levels ≡ self.now.levels }
+    {
+        Place { line, ..*self }
+    }
+
+    /// The same place, in a block that writes nothing, or in one that does.
+    pub fn silenced(&self, quiet: bool) -> Place<'a>
+        ensures at { place_of result ≡ silenced quiet (place_of self.now) }
+        ensures levels { result.levels ≡ self.now.levels }
+    {
+        Place { quiet, ..*self }
+    }
+
+    /// The same place, from which so many blocks, includes and excerpts may be entered yet.
+    pub fn at_levels(&self, levels: u32) -> Place<'a>
+        ensures at { place_of result ≡ place_of self.now }
+        ensures levels { result.levels ≡ levels }
+    {
+        Place { levels, ..*self }
+    }
+
     /// The fault of the tag.
-    pub(crate) fn fault(&self, alloc: Global, kind: FaultKind) -> Stop
+    pub fn fault(&self, alloc: Global, kind: FaultKind) -> Stop
         ensures { IsFault (fault_at (place_of self.now) kind) result }
     {
         match self.file.copy(alloc) {
@@ -46,11 +70,7 @@ impl<'a> Place<'a> {
     }
 
     /// A value, or the fault of the tag.
-    pub(crate) fn found<T: Drop>(
-        &self,
-        alloc: Global,
-        answer: Result<T, FaultKind>,
-    ) -> Result<T, Stop>
+    pub fn found<T: Drop>(&self, alloc: Global, answer: Result<T, FaultKind>) -> Result<T, Stop>
         ensures { FoundAt (place_of self.now) answer result }
     {
         match answer {
@@ -60,7 +80,7 @@ impl<'a> Place<'a> {
     }
 
     /// What a filter answered, or the fault of the tag.
-    pub(crate) fn answered(&self, alloc: Global, answer: Filtered) -> Result<Value, Stop>
+    pub fn answered(&self, alloc: Global, answer: Filtered) -> Result<Value, Stop>
         requires { IsKnown answer }
         ensures { AnsweredAt (place_of self.now) answer result }
     {

@@ -102,7 +102,7 @@ fn related(alloc: Global, item: &ItemName, posts: &Value) -> Result<Value, Memor
     }
 }
 
-pub(crate) fn items_in(value: &Value) -> &[Value]
+pub fn items_in(value: &Value) -> &[Value]
     ensures { items_of result.now ≡ items_in (plain value.now) }
 {
     match value {
@@ -112,7 +112,7 @@ pub(crate) fn items_in(value: &Value) -> &[Value]
 }
 
 /// Whether the item is among the values.
-pub(crate) fn holds_item(item: &ItemName, values: &[Value]) -> bool
+pub fn holds_item(item: &ItemName, values: &[Value]) -> bool
     ensures { result ≡ holds_item item.now (items_of values.now) }
 {
     for value in values {

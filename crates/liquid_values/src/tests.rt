@@ -4,7 +4,7 @@ ghost use Rattle.site_base.specs.Plain.{text};
 ghost use Rattle.read_record.specs.Answers.{IsReply};
 ghost use Rattle.read_record.specs.Queries.{Known};
 
-use crate::{Bound, Excerpts, ForLoop, Found, Locals, Mode, Place, Stop, operand};
+use crate::{Bound, Excerpts, ForLoop, Found, Locals, Mode, Place, Stop, operand, own_excerpt};
 use liquid_expr::read_expr;
 use read_record::{Answer, Key, Look};
 use site_base::{FaultKind, Hash, ItemName, List, Memory, SitePath, Text, Value, same_code};
@@ -47,23 +47,23 @@ impl Look for Echo {
     }
 }
 
-/// Nothing has an excerpt.
+/// No excerpt is made.
 #[derive(Drop)]
-struct None;
+struct Own;
 
-impl Excerpts for None {
-    ghost use Rattle.liquid_values.specs.Samples.{none};
+impl Excerpts for Own {
+    ghost use Rattle.liquid_values.specs.Samples.{own};
 
-    ghost excerpts = { none };
+    ghost excerpts = { own };
 
     fn excerpt<'a, L: Look>(
-        &self,
-        _alloc: Global,
+        &mut self,
+        alloc: Global,
         _place: &Place<'a>,
-        _item: &ItemName,
-        _look: &mut L,
+        item: &ItemName,
+        look: &mut L,
     ) -> Result<Found<'a>, Stop> {
-        Ok(Found::Value(Value::Nil))
+        own_excerpt(alloc, item, look)
     }
 }
 
@@ -102,7 +102,7 @@ fn has(alloc: Global, mode: &Mode, row: &(&str, &str)) -> Result<bool, Memory> {
     let outer = ForLoop {
         len: 2,
         passed: 1,
-        parent: Option::None,
+        parent: None,
     };
     let turn = ForLoop {
         len: 3,
@@ -129,7 +129,7 @@ fn has(alloc: Global, mode: &Mode, row: &(&str, &str)) -> Result<bool, Memory> {
         Ok(expr) => expr,
         Err(_) => return Ok(false),
     };
-    match operand(alloc, &None, &place, &assigned, &expr.operand, &mut Echo) {
+    match operand(alloc, &mut Own, &place, &assigned, &expr.operand, &mut Echo) {
         Ok(value) => Ok(same_code(&value, row.1.as_bytes())),
         Err(Stop::Fault(fault)) => Ok(fault_text(fault.kind) == row.1 && fault.line == 4),
         Err(Stop::Needs(_)) => Ok(false),
@@ -174,7 +174,7 @@ const NAMES: &[(&str, &str)] = &[
     ("page[page.title]", "s5:title"),
     ("page.content", "s7:content"),
     ("page.output", "s6:output"),
-    ("page.excerpt", "n"),
+    ("page.excerpt", "s7:excerpt"),
     ("site", "n"),
     ("site.title", "s5:title"),
     ("site[\"title\"]", "s5:title"),

@@ -1,0 +1,34 @@
+# What Jekyll makes of templates: reads lines of JSON, {t, page}, and writes {o}, a text, or {e}, an error.
+ENV["TZ"] = "Etc/GMT-2"
+require "json"
+require "tmpdir"
+require "jekyll"
+Jekyll.logger.log_level = :error
+site = File.join(__dir__, "site")
+Dir.chdir(site)
+config = Jekyll.configuration("source" => site, "destination" => File.join(Dir.tmpdir, "templates-out"), "quiet" => true,
+  "liquid" => {"error_mode" => "strict"}, "permalink" => "date", "disable_disk_cache" => true)
+$site = Jekyll::Site.new(config)
+$site.reset; $site.read; $site.generate
+def page(name)
+  $site.pages.find { |p| p.relative_path == name } || $site.posts.docs.find { |p| p.relative_path == name }
+end
+$n = 0
+STDIN.each_line do |line|
+  $n += 1
+  row = JSON.parse(line)
+  item = page(row["page"] || "p.html")
+  payload = $site.site_payload
+  payload["page"] = item.to_liquid
+  (row["payload"] || {}).each { |k, v| payload[k] = v }
+  begin
+    info = { :registers => { :site => $site, :page => payload["page"] }, :strict_filters => false, :strict_variables => false }
+    text = $site.liquid_renderer.file("row#{$n}.html").parse(row["t"]).render!(payload, info)
+    puts JSON.generate({o: text})
+  rescue SystemStackError => e
+    puts JSON.generate({e: "stack"})
+  rescue Exception => e
+    puts JSON.generate({e: "#{e.class}: #{e.message}"[0, 300]})
+  end
+  STDOUT.flush
+end

@@ -1,0 +1,13 @@
+pub mod BlankLaws
+pub mod BranchLaws
+pub mod ConditionLaws
+pub mod ElementLaws
+pub mod FolderLaws
+pub mod FrontLaws
+pub mod HighlightLaws
+pub mod IncludeLaws
+pub mod NextLaws
+pub mod NodeLaws
+pub mod NumberLaws
+pub mod StateLaws
+pub mod WalkLaws

@@ -1,0 +1,14 @@
+use Rattle.site_base.specs.Plain.{Plain}
+use Rattle.site_base.specs.Values.{value_text}
+use Rattle.site_base.specs.View.{plain}
+use Rattle.liquid_values.proofs.PlaceLaws.{settles_then}
+use Rattle.liquid_values.specs.Standing.{place_of}
+use Rattle.liquid_tags.specs.Expressions.{expression}
+use Rattle.liquid_tags.specs.States.{written}
+use Rattle.liquid_tags.proofs.variables.output.Goals as goal
+
+pub returns-clause-gives : goal.returns-clause-gives
+returns-clause-gives g c =
+    let ex = g.X.Excerpts.excerpts c.args.place.now.levels in let p = place_of c.args.place.now in
+    settles_then (g.L.Look.view c.args.look.now) (g.L.Look.trace c.args.look.now) (expression ex p c.args.state.now.assigned c.args.expr.now) (λ (v : Plain). written p (value_text v) c.args.state.now)
+    (plain c.in_ok-value.value) (g.L.Look.trace c.expression.new.look) c.write_value.result c.write_value.new.self c.in_ok-value.ensures.gives c.write_value.ensures

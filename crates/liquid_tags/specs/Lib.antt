@@ -1,0 +1,17 @@
+pub mod Answers
+pub mod Blanks
+pub mod Branches
+pub mod Conditions
+pub mod Elements
+pub mod Expressions
+pub mod FileNames
+pub mod Fronts
+pub mod Highlights
+pub mod Includes
+pub mod Links
+pub mod Nodes
+pub mod Sources
+pub mod States
+pub mod Tables
+pub mod ValueLists
+pub mod Variables
