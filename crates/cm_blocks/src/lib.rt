@@ -15,8 +15,6 @@ mod open_walk;
 mod opening;
 mod reaching;
 mod reading;
-#[cfg(test)]
-mod tests;
 mod walk;
 
 pub use kinds::{Leaf, Token};

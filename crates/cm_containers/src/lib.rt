@@ -10,6 +10,3 @@ pub use kinds::{Container, Matched};
 pub use matching::{Entered, match_line};
 pub use open_containers::OpenContainers;
 pub use spots::{Spot, behind, behind_white, shift};
-
-#[cfg(test)]
-mod tests;

@@ -14,6 +14,3 @@ mod targets;
 pub use inlines::Inlines;
 pub use node::{Node, Opening, Run, Target};
 pub use reading::read_inlines;
-
-#[cfg(test)]
-mod tests;

@@ -17,8 +17,3 @@ mod writer;
 pub use convert::CommonMark;
 pub use markdown_grammar::{Convert, HtmlError};
 pub use printer::to_html;
-
-#[cfg(test)]
-mod rows;
-#[cfg(test)]
-mod tests;

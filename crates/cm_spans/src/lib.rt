@@ -21,6 +21,3 @@ pub use missing_runs::MissingRuns;
 pub use spans::{Span, Taken, span_at};
 pub use tags::html_tag;
 pub use words::words_len;
-
-#[cfg(test)]
-mod tests;

@@ -26,6 +26,3 @@ pub use list_marks::ListMark;
 pub use starts::line_start;
 pub use tags::{closing_tag, open_tag};
 pub use texts::{is_blank, run, trim};
-
-#[cfg(test)]
-mod tests;

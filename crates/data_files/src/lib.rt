@@ -15,6 +15,3 @@ pub use format::Format;
 pub use json_texts::read_json;
 pub use refusal::Refusal;
 pub use tables::{read_csv, read_tsv};
-
-#[cfg(test)]
-mod tests;

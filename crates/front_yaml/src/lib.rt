@@ -31,8 +31,3 @@ mod text_lines;
 pub use faults::{YamlError, YamlFault};
 pub use front_matter::{Front, split_front};
 pub use reading::{read_mapping, read_yaml};
-
-#[cfg(test)]
-mod standard_examples;
-#[cfg(test)]
-mod tests;

@@ -18,6 +18,3 @@ pub use dates::DateFilter;
 pub use filter_name::FilterName;
 pub use filtering::jekyll_filter;
 pub use lists::ListFilter;
-
-#[cfg(test)]
-mod tests;

@@ -27,6 +27,3 @@ pub use reads::{
     read_params, read_values,
 };
 pub use stop::ReadExprError;
-
-#[cfg(test)]
-mod tests;

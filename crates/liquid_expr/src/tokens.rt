@@ -116,36 +116,3 @@ pub(crate) fn rest<'a>(tokens: Tokens<'a>, len: usize) -> Tokens<'a>
         places: places_behind(tokens.places, len),
     }
 }
-
-#[cfg(test)]
-mod tests {
-    use super::*;
-
-    // How many tokens a text has, or nothing where it has none.
-    fn count(alloc: Global, text: &str) -> Option<usize> {
-        let places = token_places(alloc, text).ok()??;
-        Some(places.list.len())
-    }
-
-    const COUNTS: &[(&str, Option<usize>)] = &[
-        ("", Some(0)),
-        (" \t\n", Some(0)),
-        ("a-1.b", Some(3)),
-        ("a [ 'x]' ]", Some(4)),
-        ("(1..-2)", Some(5)),
-        ("1.5.2", Some(3)),
-        ("a<>b<=c", Some(5)),
-        ("x=9223372036854775808", Some(3)),
-        ("a - b", None),
-        ("'a", None),
-        ("a ! b", None),
-        ("é", None),
-    ];
-
-    #[test]
-    fn reads_tokens(rt: HostRuntime) {
-        for (text, len) in COUNTS {
-            assert!(rt; count(rt.alloc(), text) == *len, "at {text}");
-        }
-    }
-}

@@ -55,6 +55,3 @@ pub use texts::TextFilter;
 pub use urls::{UrlCode, percent_encoded};
 pub use white::{is_white, without_end, without_front};
 pub use writer::Writer;
-
-#[cfg(test)]
-mod tests;

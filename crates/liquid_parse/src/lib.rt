@@ -15,6 +15,3 @@ pub use node::Node;
 pub use parsing::parse;
 pub use template::{First, Template, first_of};
 pub use templates::{SharedTemplate, Templates};
-
-#[cfg(test)]
-mod tests;

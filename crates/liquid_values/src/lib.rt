@@ -26,6 +26,3 @@ pub use operands::operand;
 pub use place::Place;
 pub use site_members::{holds_item, items_in};
 pub use stop::Stop;
-
-#[cfg(test)]
-mod tests;

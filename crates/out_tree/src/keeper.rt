@@ -219,6 +219,3 @@ fn all_marked(alloc: Global, paths: Vec<SitePath>) -> Result<PathMap<State>, Mem
         None => unreachable!(),
     }
 }
-
-#[cfg(test)]
-mod tests;

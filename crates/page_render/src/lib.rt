@@ -10,6 +10,3 @@ mod piece;
 mod render;
 
 pub use render::render_thin;
-
-#[cfg(test)]
-mod tests;

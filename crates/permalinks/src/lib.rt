@@ -14,6 +14,3 @@ pub use placeholder::Placeholder;
 pub use slug::slugify;
 pub use template::{UrlError, url, url_by};
 pub use values::Values;
-
-#[cfg(test)]
-mod tests;

@@ -29,6 +29,3 @@ pub use stop::Stop;
 pub use tally::Tally;
 pub use traced::{Traced, render_traced};
 pub use world::{Finished, World};
-
-#[cfg(test)]
-mod tests;

@@ -45,6 +45,3 @@ pub type PathList = Sequence<SitePath>;
 
 /// The words of a command line, without the program's name.
 pub type Words = TextList;
-
-#[cfg(test)]
-mod tests;

@@ -10,20 +10,16 @@ mod room;
 mod sharing;
 mod writing;
 
+use crate::{ItemName, Text};
 pub use coding::code;
 pub use equality::{Unlike, compare, equals, is_true};
 pub use matching::same_code;
 pub use sharing::copy;
-pub use writing::value_text;
-
-#[cfg(test)]
-mod tests;
-
-use crate::{ItemName, Text};
 use std::alloc::Global;
 use std::collections::BTreeMap;
 use std::marker::Model;
 use std::sync::Arc;
+pub use writing::value_text;
 
 /// A value. Contracts see it as its plain tree.
 #[derive(Drop)]

@@ -14,8 +14,6 @@ mod scope;
 mod scopes;
 mod settings;
 mod table;
-#[cfg(test)]
-mod tests;
 mod texts;
 mod value_error;
 mod values;

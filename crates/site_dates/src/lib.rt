@@ -14,6 +14,3 @@ mod shape;
 pub use format::{FormatError, format_moment};
 pub use moment::{FIRST_MOMENT, if_moment, read_moment};
 pub use offset::read_offset;
-
-#[cfg(test)]
-mod tests;

@@ -10,6 +10,3 @@ pub use choosing::{covers, is_brought_in, is_hidden, is_taken_out, without_slash
 pub use names::{extension, file_name, folder, stem};
 pub use place::Place;
 pub use post_name::{DatedName, dated_name, is_post_name};
-
-#[cfg(test)]
-mod tests;

@@ -36,6 +36,3 @@ pub use lookup::variable;
 pub use matter::own_variables;
 pub use static_file::StaticFile;
 pub use titles::title;
-
-#[cfg(test)]
-mod tests;

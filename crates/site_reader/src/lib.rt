@@ -24,6 +24,3 @@ pub use reading::read_site;
 pub use site::{Includes, Layouts, Site, SiteItems, Statics};
 pub use site_error::SiteError;
 pub use site_item::SiteItem;
-
-#[cfg(test)]
-mod tests;

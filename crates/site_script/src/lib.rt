@@ -13,6 +13,3 @@ mod std_input;
 pub use line::{Line, ScriptKind};
 pub use reader::{ScriptReader, next_line};
 pub use std_input::StdInput;
-
-#[cfg(test)]
-mod tests;

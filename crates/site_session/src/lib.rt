@@ -15,6 +15,3 @@ pub use output::Output;
 pub use reply::Reply;
 pub use session::Session;
 pub use why::{Why, Whys};
-
-#[cfg(test)]
-mod tests;

@@ -15,6 +15,3 @@ pub use classes::{Class, class_len, class_run};
 pub use extensions::is_listed;
 pub use fronts::{begins, begins_in_lower_case, byte_at, starts_with_byte};
 pub use numbers::number;
-
-#[cfg(test)]
-mod tests;

@@ -10,6 +10,3 @@ mod reading;
 pub use faults::{UsageKind, WordsError};
 pub use orders::{Options, Order};
 pub use reading::read_words;
-
-#[cfg(test)]
-mod tests;

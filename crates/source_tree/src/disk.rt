@@ -114,6 +114,3 @@ fn read_file<R: Files + AllocGlobal>(
     }
     Err(ReadError::Failed)
 }
-
-#[cfg(test)]
-mod tests;

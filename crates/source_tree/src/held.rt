@@ -237,6 +237,3 @@ impl Held {
         Ok(self.len())
     }
 }
-
-#[cfg(test)]
-mod tests;

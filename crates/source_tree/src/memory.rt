@@ -136,6 +136,3 @@ impl SourceTree for MemorySource {
         }
     }
 }
-
-#[cfg(test)]
-mod tests;

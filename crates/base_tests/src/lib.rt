@@ -1,0 +1,11 @@
+//! What the calls at the bottom answer for rows of values, texts and records.
+#![tactic(auto)]
+
+#[cfg(test)]
+mod ends;
+#[cfg(test)]
+mod records;
+#[cfg(test)]
+mod stretches;
+#[cfg(test)]
+mod values;

@@ -1,0 +1,392 @@
+// The lines of whole scripts, each as a short text.
+ghost use Rattle.std.specs.Prelude.{None};
+
+use site_base::{ByteSource, Failed, MemoryInput};
+use site_script::{Line, ScriptReader, StdInput, next_line};
+use std::alloc::{AllocError, Allocator, Global};
+use std::cell::Cell;
+use std::io;
+use std::io::{BufRead, ErrorKind, Read};
+
+// An input that gives no more than so many bytes at first, and then the others.
+#[derive(Drop)]
+struct CutInput {
+    bytes: Vec<u8>,
+    place: usize,
+    cut: usize,
+}
+
+impl ByteSource for CutInput {
+    ghost left = { λ _. None };
+
+    ghost failures = { λ _. 0 };
+
+    fn read(&mut self, into: &mut [u8]) -> Result<usize, Failed> {
+        let end = if self.place < self.cut {
+            self.cut
+        } else {
+            self.bytes.len()
+        };
+        let rest = self.bytes.get(self.place..end).unwrap_or(&[]);
+        let count = into.len().min(rest.len());
+        into[..count].copy_from_slice(&rest[..count]);
+        self.place = self.place.saturating_add(count);
+        Ok(count)
+    }
+}
+
+fn shown(alloc: Global, line: &Line) -> Result<String, AllocError> {
+    match line {
+        Line::Scan => format!(in alloc; "scan"),
+        Line::Build => format!(in alloc; "build"),
+        Line::End => format!(in alloc; "end"),
+        Line::Eof => format!(in alloc; "eof"),
+        Line::Failed => format!(in alloc; "failed"),
+        Line::Memory => format!(in alloc; "memory"),
+        Line::Time(seconds) => format!(in alloc; "time {seconds}"),
+        Line::Delete(path) => {
+            let path = path.text();
+            format!(in alloc; "delete {path}")
+        }
+        Line::Put(path, bytes) => {
+            let path = path.text();
+            let bytes = bytes.as_slice();
+            format!(in alloc; "put {path} {bytes:?}")
+        }
+        Line::Bad(number, kind) => {
+            let kind = kind.number();
+            format!(in alloc; "bad {number} {kind}")
+        }
+    }
+}
+
+// All lines of an input, up to the second that is the end.
+fn all_lines<I: ByteSource>(alloc: Global, input: &mut I) -> Result<String, AllocError> {
+    let mut reader = ScriptReader::new();
+    let mut lines = String::new(alloc);
+    for _ in 0..20 {
+        let line = next_line(alloc, &mut reader, input);
+        lines.push_str(shown(alloc, &line)?.as_str())?;
+        if let Line::Eof = line {
+            return Ok(lines);
+        }
+        lines.push_str(", ")?;
+    }
+    Ok(lines)
+}
+
+fn lines_of(alloc: Global, script: &[u8]) -> Result<String, AllocError> {
+    let mut input = MemoryInput::new(script.to_vec(alloc)?, Vec::new(alloc));
+    all_lines(alloc, &mut input)
+}
+
+// Whether a script has these lines.
+fn has_lines(alloc: Global, script: &[u8], lines: &str) -> bool {
+    match lines_of(alloc, script) {
+        Ok(told) => told.as_str() == lines,
+        Err(_) => false,
+    }
+}
+
+const SCRIPTS: &[(&str, &str)] = &[
+    ("", "eof"),
+    ("scan\nbuild\nend\n", "scan, build, end, eof"),
+    ("scan", "scan, eof"),
+    ("scan\r\nend\r\nscan\n", "scan, end, eof"),
+    (
+        "delete a/b.md\ndelete x y\n",
+        "delete a/b.md, delete x y, eof",
+    ),
+    (
+        "time 0\ntime 253402214399",
+        "time 0, time 253402214399, eof",
+    ),
+    ("put a 0\nscan\n", "put a [], scan, eof"),
+    ("put a 0", "put a [], eof"),
+    (
+        "put a b.md 3\r\na\nbbuild",
+        "put a b.md [97, 10, 98], build, eof",
+    ),
+    ("put a 3\n\n\n\nx\n", "put a [10, 10, 10], bad 2 3, eof"),
+    ("\n", "bad 1 3, eof"),
+    ("x\n", "bad 1 3, eof"),
+    ("scan\n\nscan\n", "scan, bad 2 3, eof"),
+    ("scan\r", "bad 1 3, eof"),
+    ("scan\r\r\n", "bad 1 3, eof"),
+    ("scan \n", "bad 1 3, eof"),
+    ("Scan\n", "bad 1 3, eof"),
+    ("put\n", "bad 1 3, eof"),
+    ("put \n", "bad 1 3, eof"),
+    ("put a\n", "bad 1 3, eof"),
+    ("delete\n", "bad 1 3, eof"),
+    ("time\n", "bad 1 3, eof"),
+    ("put  1\nx", "bad 1 4, eof"),
+    ("put /a 1\nx", "bad 1 4, eof"),
+    ("put a/../b 01\nx", "bad 1 4, eof"),
+    ("delete \n", "bad 1 4, eof"),
+    ("delete a//b\n", "bad 1 4, eof"),
+    ("put a \nx", "bad 1 5, eof"),
+    ("put a x\n", "bad 1 5, eof"),
+    ("put a 01\nx", "bad 1 5, eof"),
+    ("put a +1\nx", "bad 1 5, eof"),
+    ("put a 16777217\n", "bad 1 5, eof"),
+    ("put a 18446744073709551617\nx", "bad 1 5, eof"),
+    ("put a 16777216\n", "bad 1 6, eof"),
+    ("put x.md 10\nabcd", "bad 1 6, eof"),
+    ("put a 1", "bad 1 6, eof"),
+    ("time 253402214400\n", "bad 1 9, eof"),
+    ("time -1\n", "bad 1 9, eof"),
+    ("time 01\n", "bad 1 9, eof"),
+    ("time \n", "bad 1 9, eof"),
+];
+
+fn have_lines(alloc: Global, scripts: &[(&str, &str)]) -> bool {
+    scripts.iter().all(|(script, lines)| has_lines(alloc, script.as_bytes(), lines))
+}
+
+#[test]
+fn reads_lines(rt: HostRuntime) {
+    assert!(rt; have_lines(rt.alloc(), SCRIPTS));
+}
+
+#[test]
+fn reads_bytes_that_are_no_text(rt: HostRuntime) {
+    assert!(rt; has_lines(rt.alloc(), b"\xff\n", "bad 1 2, eof"));
+    assert!(rt; has_lines(rt.alloc(), b"put \xc3 1\nx", "bad 1 2, eof"));
+    assert!(rt; has_lines(rt.alloc(), b"put a 2\n\xff\x00", "put a [255, 0], eof"));
+}
+
+// A byte, how many of it stand in a line, the line's end, and what is read.
+const LONG_LINES: &[(u8, usize, &str, &str)] = &[
+    (b'x', 2048, "\n", "bad 1 3, eof"),
+    (b'x', 2048, "\r\n", "bad 1 3, eof"),
+    (b'x', 2048, "", "bad 1 3, eof"),
+    (b'x', 2049, "\n", "bad 1 1, eof"),
+    (b'x', 2049, "\r\n", "bad 1 1, eof"),
+    (b'x', 2049, "", "bad 1 1, eof"),
+    (b'x', 9000, "\n", "bad 1 1, eof"),
+    (b'\xff', 2048, "\n", "bad 1 2, eof"),
+    (b'\xff', 2049, "\n", "bad 1 1, eof"),
+];
+
+fn long_line(alloc: Global, byte: u8, count: usize, end: &str) -> Result<Vec<u8>, AllocError> {
+    let mut line = vec![in alloc; byte; count]?;
+    line.extend_from_slice(end.as_bytes())?;
+    Ok(line)
+}
+
+fn are_counted(alloc: Global, rows: &[(u8, usize, &str, &str)]) -> bool {
+    rows.iter().all(|(byte, count, end, lines)| match long_line(alloc, *byte, *count, end) {
+        Ok(line) => has_lines(alloc, line.as_slice(), lines),
+        Err(_) => false,
+    })
+}
+
+#[test]
+fn counts_the_bytes_of_a_line(rt: HostRuntime) {
+    assert!(rt; are_counted(rt.alloc(), LONG_LINES));
+}
+
+const SESSION: &[u8] =
+    b"put index.html 44\n---\ntitle: Hi\n---\n<h1>{{ page.title }}</h1>\nbuild\nbuild\nend\n";
+
+fn lines_at_cut(alloc: Global, cut: usize) -> Result<String, AllocError> {
+    let mut input = CutInput {
+        bytes: SESSION.to_vec(alloc)?,
+        place: 0,
+        cut,
+    };
+    all_lines(alloc, &mut input)
+}
+
+fn is_read_at_cut(alloc: Global, cut: usize, lines: &str) -> bool {
+    match lines_at_cut(alloc, cut) {
+        Ok(told) => told.as_str() == lines,
+        Err(_) => false,
+    }
+}
+
+#[test]
+fn reads_the_same_at_every_cut(rt: HostRuntime) {
+    match lines_of(rt.alloc(), SESSION) {
+        Ok(whole) => {
+            let whole = whole.as_str();
+            assert!(rt; whole.starts_with("put index.html [45, 45, 45, 10, 116,"));
+            assert!(rt; whole.ends_with("49, 62, 10], build, build, end, eof"));
+            assert!(rt; (0..SESSION.len()).all(|cut| is_read_at_cut(rt.alloc(), cut, whole)));
+        }
+        Err(_) => assert!(rt; false, "no lines"),
+    }
+}
+
+fn longest_put(alloc: Global) -> Result<Vec<u8>, AllocError> {
+    let mut script = b"put a 16777216\n".to_vec(alloc)?;
+    script.extend_from_slice(vec![in alloc; b'x'; 16_777_216]?.as_slice())?;
+    script.extend_from_slice(b"scan\n")?;
+    Ok(script)
+}
+
+// Whether the next line puts so many of this byte.
+fn puts(alloc: Global, input: &mut MemoryInput, count: usize, byte: u8) -> bool {
+    match next_line(alloc, &mut ScriptReader::new(), input) {
+        Line::Put(path, bytes) => {
+            let bytes = bytes.as_slice();
+            path.text() == "a" && bytes.len() == count && bytes.iter().all(|b| *b == byte)
+        }
+        _ => false,
+    }
+}
+
+#[test]
+fn reads_the_longest_file(rt: HostRuntime) {
+    match longest_put(rt.alloc()) {
+        Ok(script) => {
+            let mut input = MemoryInput::new(script, Vec::new(rt.alloc()));
+            assert!(rt; puts(rt.alloc(), &mut input, 16_777_216, b'x') && input.len() == 5);
+        }
+        Err(_) => assert!(rt; false, "no memory"),
+    }
+}
+
+// The call that fails, and what is read. Each byte of a line is one call, and so is a body, and the end.
+const FAILING_CALLS: &[(u64, &str)] = &[
+    (1, "failed, eof"),
+    (5, "failed, eof"),
+    (6, "scan, failed, eof"),
+    (14, "scan, failed, eof"),
+    (15, "scan, put a [120, 121], failed, eof"),
+    (20, "scan, put a [120, 121], failed, eof"),
+    (21, "scan, put a [120, 121], build, failed, eof"),
+];
+
+fn lines_failing_at(alloc: Global, call: u64) -> Result<String, AllocError> {
+    let script = b"scan\nput a 2\nxybuild".to_vec(alloc)?;
+    let mut input = MemoryInput::new(script, vec![in alloc; call]?);
+    all_lines(alloc, &mut input)
+}
+
+fn are_stopped(alloc: Global, rows: &[(u64, &str)]) -> bool {
+    rows.iter().all(|(call, lines)| match lines_failing_at(alloc, *call) {
+        Ok(told) => told.as_str() == *lines,
+        Err(_) => false,
+    })
+}
+
+#[test]
+fn stops_where_the_input_fails(rt: HostRuntime) {
+    assert!(rt; are_stopped(rt.alloc(), FAILING_CALLS));
+}
+
+// The next line, and its number.
+const TO_THE_END: &[(&str, u64)] = &[("scan", 1), ("end", 2), ("eof", 2), ("eof", 2)];
+
+fn is_next(
+    alloc: Global,
+    reader: &mut ScriptReader,
+    input: &mut MemoryInput,
+    text: &str,
+    number: u64,
+) -> bool {
+    let line = next_line(alloc, reader, input);
+    match shown(alloc, &line) {
+        Ok(told) => told.as_str() == text && reader.number() == number,
+        Err(_) => false,
+    }
+}
+
+fn leave_five_bytes(alloc: Global, rows: &[(&str, u64)]) -> bool {
+    let Ok(script) = b"scan\nend\nscan\n".to_vec(alloc) else {
+        return false;
+    };
+    let mut input = MemoryInput::new(script, Vec::new(alloc));
+    let mut reader = ScriptReader::new();
+    for (text, number) in rows {
+        if !is_next(alloc, &mut reader, &mut input, text, *number) {
+            return false;
+        }
+    }
+    input.len() == 5
+}
+
+#[test]
+fn leaves_what_follows_the_end(rt: HostRuntime) {
+    assert!(rt; ScriptReader::new().number() == 0);
+    assert!(rt; leave_five_bytes(rt.alloc(), TO_THE_END));
+}
+
+#[test]
+fn reads_standard_input(rt: HostRuntime) {
+    let mut input = StdInput::new(rt);
+    assert_eq!(rt; input.read(&mut [0; 4]), Ok(0));
+}
+
+// The pieces that the reads of an input give one after another, and None where one fails.
+const PIECES: [Option<&'static [u8]>; 6] = [
+    Some(b"sc"),
+    Some(b"an\nput a 4\nx"),
+    Some(b"yz"),
+    Some(b"\nbuil"),
+    None,
+    Some(b"d"),
+];
+
+// An input whose reads give pieces.
+#[derive(Drop)]
+struct PieceInput {
+    turn: Cell<usize>,
+}
+
+#[derive(Drop)]
+struct Piece {
+    bytes: Option<&'static [u8]>,
+}
+
+impl Read for Piece {
+    fn read(&mut self, into: &mut [u8]) -> io::Result<usize> {
+        let Some(bytes) = self.bytes else {
+            return Err(io::Error::from(ErrorKind::Other));
+        };
+        let count = into.len().min(bytes.len());
+        into[..count].copy_from_slice(&bytes[..count]);
+        Ok(count)
+    }
+}
+
+impl BufRead for Piece {
+    fn fill_buf(&mut self) -> io::Result<&[u8]> {
+        Ok(&[])
+    }
+
+    fn consume(&mut self, _amount: usize) {}
+}
+
+impl Input for PieceInput {
+    type Reader = Piece;
+
+    fn read_line<A: Allocator + Clone>(&self, _buf: &mut String<A>) -> io::Result<usize> {
+        Ok(0)
+    }
+
+    fn lines<A: Allocator>(&self, alloc: A) -> io::Lines<Piece, A> {
+        self.reader().lines(alloc)
+    }
+
+    fn reader(&self) -> Piece {
+        let turn = self.turn.get();
+        self.turn.set(turn.saturating_add(1));
+        Piece {
+            bytes: PIECES.get(turn).copied().unwrap_or(Some(&[])),
+        }
+    }
+}
+
+#[test]
+fn reads_pieces_of_standard_input(rt: HostRuntime) {
+    let mut input = StdInput::new(PieceInput { turn: Cell::new(0) });
+    match all_lines(rt.alloc(), &mut input) {
+        Ok(lines) => assert!(rt; lines.as_str() == "scan, put a [120, 121, 122, 10], failed, eof"),
+        Err(_) => assert!(rt; false, "no lines"),
+    }
+    let mut next = [0; 2];
+    assert!(rt; input.read(&mut next) == Ok(1) && next == [b'd', 0]);
+}

@@ -1,0 +1,11 @@
+//! What items, whole sites, pages and builds come to, for rows of them.
+#![tactic(auto)]
+
+#[cfg(test)]
+mod builds;
+#[cfg(test)]
+mod items;
+#[cfg(test)]
+mod pages;
+#[cfg(test)]
+mod sites;
