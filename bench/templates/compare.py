@@ -26,26 +26,21 @@ def rows(paths):
             assert t is not None, (path, n, line)
             yield dict(path=path.split('/')[-1], n=n, group=group, page=page, file=opts.get('file',page), mode=mode, kind=kind, known=known, skip=skip, t=unescape(t), e=unescape(e), rt=t, re=e)
 if __name__ == '__main__':
-    mark = '--mark' in sys.argv; marks = {}
-    paths = [a for a in sys.argv[1:] if a != '--mark'] or sorted(glob.glob(os.path.join(HERE, 'rows', '*.txt')))
+    paths = sys.argv[1:] or sorted(glob.glob(os.path.join(HERE, 'rows', '*.txt')))
     rs = [r for r in rows(paths) if r['kind'] == 'text' and r['mode'] == 'Body' and not r['skip']]
     inp = '\n'.join(json.dumps(dict(t=r['t'], page=r['page'])) for r in rs) + '\n'
     out = subprocess.run(['ruby', os.path.join(HERE, 'oracle.rb')], input=inp, capture_output=True, text=True)
-    if out.stderr: print(out.stderr[:2000])
-    outs = [json.loads(l) for l in out.stdout.splitlines()]
+    if out.stderr:
+        print(out.stderr[:2000])
+    outs = [json.loads(line) for line in out.stdout.splitlines()]
     assert len(outs) == len(rs), (len(outs), len(rs))
-    same = diff = 0
+    same = 0
     for r, o in zip(rs, outs):
         got = o.get('o') if 'o' in o else '!' + o['e']
-        agree = got == r['e'] or (got.startswith('!') and r['e'].startswith('!') and True)
-        if agree: same += 1
-        else: diff += 1
-        if agree and r['known']: print(f"AGREES NOW {r['path']}:{r['n']}")
-        if not agree and not r['known']:
+        agrees = got == r['e'] or (got.startswith('!') and r['e'].startswith('!'))
+        same += agrees
+        if agrees and r['known']:
+            print(f"AGREES NOW {r['path']}:{r['n']}")
+        if not agrees and not r['known']:
             print(f"{r['path']}:{r['n']} {r['rt']}\n   want {r['e'][:300]!r}\n   ruby {got[:300]!r}")
-            if mark: marks.setdefault(r['path'], set()).add(r['n'])
-    print('same', same, 'differ', diff, 'of', len(rs))
-    for p, ns in marks.items():
-        f='/work/tmp/h2/rows/'+p; ls=open(f,encoding='utf-8').read().split('\n')
-        for n in ns: ls[n-1]='~'+ls[n-1]
-        open(f,'w',encoding='utf-8').write('\n'.join(ls))
+    print('same', same, 'differ', len(rs) - same, 'of', len(rs))
