@@ -8,13 +8,13 @@ KIB = 1024
 MIB = 1024 * KIB
 
 
-def measure(command, path):
-    """Wall seconds, peak bytes and status of one run that reads the file; what it writes is dropped."""
+def measure(command, path, made=os.devnull):
+    """Wall seconds, peak bytes and status of one run that reads the file; what it writes goes to another file, or is dropped."""
     started = time.perf_counter()
     child = os.fork()
     if child == 0:
         os.dup2(os.open(path, os.O_RDONLY), 0)
-        os.dup2(os.open(os.devnull, os.O_WRONLY), 1)
+        os.dup2(os.open(made, os.O_WRONLY | os.O_CREAT | os.O_TRUNC, 0o644), 1)
         os.execvp(command[0], command)
     _, status, usage = os.wait4(child, 0)
     return time.perf_counter() - started, usage.ru_maxrss * KIB, os.waitstatus_to_exitcode(status)

@@ -1,5 +1,6 @@
 -- Worked rows.
-use Rattle.std.proofs.Common.{◌≡◌, ℕ, List, [], ◌∷◌, codes, refl, pos}
+use Rattle.std.proofs.Common.{◌≡◌, codes, refl}
+use Rattle.std.specs.Fmt.{digits}
 use Rattle.site_base.specs.Recursion.{down}
 use Rattle.site_base.specs.Decimal.{decimal}
 use Rattle.site_base.specs.declared.faults.FaultKind.TheVariants as kind
@@ -95,7 +96,7 @@ unfolding cut_from down decimal tokens_after many_after operand operand_in expre
 row_19 = refl
 
 row_20 : evaluated_text (codes "{% tablerow i in (1..3) cols:2 %}{{ i }}{% endtablerow %}") ≡ Gave (codes "<tr class=\"row1\">\n<td class=\"col1\">1</td><td class=\"col2\">2</td></tr>\n<tr class=\"row2\"><td class=\"col1\">3</td></tr>\n")
-unfolding cut_from down decimal tokens_after many_after operand operand_in expression test_at condition assignment cycle loop_at name_len tag_item tag_words rows jekyll.rows marked_after entering
+unfolding cut_from down decimal digits tokens_after many_after operand operand_in expression test_at condition assignment cycle loop_at name_len tag_item tag_words rows jekyll.rows marked_after entering
 row_20 = refl
 
 row_21 : evaluated_text (codes "{% if \"abc\" contains \"b\" %}y{% endif %}{% if nil contains \"b\" %}y{% endif %}") ≡ Gave (codes "y")
@@ -151,7 +152,7 @@ unfolding cut_from down decimal tokens_after many_after operand operand_in expre
 row_33 = refl
 
 row_34 : evaluated_text (codes "{% for i in (1..2) %}{% tablerow j in (1..2) %}{{ forloop.index }}{% endtablerow %}{% endfor %}") ≡ Gave (codes "<tr class=\"row1\">\n<td class=\"col1\">1</td><td class=\"col2\">1</td></tr>\n<tr class=\"row1\">\n<td class=\"col1\">2</td><td class=\"col2\">2</td></tr>\n")
-unfolding cut_from down decimal tokens_after many_after operand operand_in expression test_at condition assignment cycle loop_at name_len tag_item tag_words rows jekyll.rows marked_after entering
+unfolding cut_from down decimal digits tokens_after many_after operand operand_in expression test_at condition assignment cycle loop_at name_len tag_item tag_words rows jekyll.rows marked_after entering
 row_34 = refl
 
 row_35 : evaluated_text (codes "{% tablerow i in (1..0) %}{{ i }}{% endtablerow %}") ≡ Gave (codes "<tr class=\"row1\">\n</tr>\n")
@@ -167,7 +168,7 @@ unfolding cut_from down decimal tokens_after many_after operand operand_in expre
 first_when = refl
 
 row_whole : evaluated_text (codes "{% tablerow i in (1..2) %}{{ tablerowloop.col }}{{ tablerowloop.col_last }}{% endtablerow %}") ≡ Gave (codes "<tr class=\"row1\">\n<td class=\"col1\">1false</td><td class=\"col2\">2true</td></tr>\n")
-unfolding cut_from down decimal tokens_after many_after operand operand_in expression test_at condition assignment cycle loop_at name_len tag_item tag_words rows jekyll.rows marked_after entering
+unfolding cut_from down decimal digits tokens_after many_after operand operand_in expression test_at condition assignment cycle loop_at name_len tag_item tag_words rows jekyll.rows marked_after entering
 row_whole = refl
 
 division : evaluated_text (codes "{{ -7 | divided_by: 2 }} {{ -7 | modulo: 3 }}") ≡ Gave (codes "-4 2")

@@ -1,5 +1,5 @@
 -- The texts of includes. After Jekyll 4's manual, "Includes".
-use Rattle.std.specs.Prelude.{ℕ, List, [], ◌∷◌, codes, if◌then◌else◌, Option, Some, None}
+use Rattle.std.specs.Prelude.{ℕ, List, ◌∷◌, codes, if◌then◌else◌, Option, Some, None}
 use Rattle.site_base.specs.Plain.{Plain}
 use Rattle.site_base.specs.declared.faults.SiteFault.{SiteFault}
 use Rattle.read_record.specs.Queries.{Query, Give, bind}
@@ -21,9 +21,12 @@ include_locals (Some v) locals = (codes "include", v) ∷ locals
 abbrev pub outward : Place → Signal → Signal
 outward p signal = if p.looping then signal else Next
 
+abbrev pub included_place : Place → includes.Included → Place
+included_place p i = in_include i.file (include_locals i.given p.locals) p
+
 module _ (enter : Enter) where
   abbrev pub entered : Place → State → includes.Included → Query SiteFault Reached
-  entered p s i = bind (enter p (in_include i.file (include_locals i.given p.locals) p) i.tree s) (λ r. Give (reached r.state (outward p r.signal)))
+  entered p s i = bind (enter p (included_place p i) i.tree s) (λ r. Give (reached r.state (outward p r.signal)))
 
   abbrev pub include : Excerpting → Place → IncludeTag → State → Query SiteFault Reached
   include excerpts p i s = bind (includes.include excerpts p s.assigned i) (λ found. entered p s found)

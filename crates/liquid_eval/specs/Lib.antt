@@ -1,8 +1,12 @@
+pub mod Answers
 pub mod Captures
+pub mod Evaluations
 pub mod Excerpts
+pub mod Firsts
 pub mod Includes
 pub mod Loops
 pub mod Nodes
 pub mod Reached
 pub mod Samples
 pub mod TableRows
+pub mod Works

@@ -1,5 +1,5 @@
 -- `for`. After the reference of Liquid 4 (Shopify), "Tags", "Iteration".
-use Rattle.std.specs.Prelude.{ℕ, suc, List, [], ◌∷◌, length, codes}
+use Rattle.std.specs.Prelude.{ℕ, ◌+◌, List, [], ◌∷◌, length, codes}
 use Rattle.site_base.specs.Plain.{Plain}
 use Rattle.site_base.specs.declared.faults.SiteFault.{SiteFault}
 use Rattle.read_record.specs.Queries.{Query, Give, bind}
@@ -24,16 +24,20 @@ turn_place p x len passed v =
 abbrev pub go_on : Reached → Query SiteFault State → Query SiteFault State
 go_on r next = elim r.signal [ Next ↦ next | Break ↦ Give r.state | Continue ↦ next ]
 
+-- a turn for each of the elements that are left, behind so many
+abbrev pub taking : (ℕ → Plain → State → Query SiteFault Reached) → ℕ → List Plain → State → Query SiteFault State
+taking turn passed [] s = Give s
+taking turn passed (v ∷ vs) s = bind (turn passed v s) (λ r. go_on r (taking turn (passed + 1) vs r.state))
+
 module _ (enter : Enter) where
-  -- the elements that are left, of so many
-  abbrev pub each : Place → List ℕ → Tree → ℕ → ℕ → List Plain → State → Query SiteFault State
-  each p x body len passed [] s = Give s
-  each p x body len passed (v ∷ vs) s = bind (enter p (turn_place p x len passed v) body s) (λ r. go_on r (each p x body len (suc passed) vs r.state))
+  -- the turn of an element, of so many
+  abbrev pub turn : Place → List ℕ → Tree → ℕ → ℕ → Plain → State → Query SiteFault Reached
+  turn p x body len passed v s = enter p (turn_place p x len passed v) body s
 
   -- the part without an element stands where there is none
   abbrev pub over : Place → List ℕ → Tree → List Plain → State → Query SiteFault Reached
   over p x parts [] s = enter_part enter p s (else_of parts)
-  over p x parts (v ∷ vs) s = bind (each p x (body_of parts) (length (v ∷ vs)) 0 (v ∷ vs) s) onward
+  over p x parts (v ∷ vs) s = bind (taking (turn p x (body_of parts) (length (v ∷ vs))) 0 (v ∷ vs) s) onward
 
   abbrev pub for_block : Excerpting → Place → Loop → Tree → State → Query SiteFault Reached
   for_block excerpts p l parts s = bind (loop_elements excerpts p s.assigned l) (λ vs. over p l.name parts vs s)

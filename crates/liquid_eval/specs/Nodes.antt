@@ -2,14 +2,12 @@
 use Rattle.std.specs.Prelude.{ℕ, zero, suc, List}
 use Rattle.site_base.specs.declared.faults.FaultKind.TheVariants.{Nesting}
 use Rattle.site_base.specs.declared.faults.SiteFault.{SiteFault}
-use Rattle.site_base.specs.declared.item_name.ItemName.{ItemName}
 use Rattle.read_record.specs.Queries.{Query, Give, bind}
 use Rattle.liquid_grammar.specs.declared.item.Leaf.{Leaf}
 use Rattle.liquid_grammar.specs.declared.item.Leaf.TheVariants as leaves
 use Rattle.liquid_grammar.specs.declared.item.Block.{Block}
 use Rattle.liquid_grammar.specs.declared.item.Block.TheVariants as blocks
 use Rattle.liquid_grammar.specs.Trees.{Tree, done, leaf, block, part}
-use Rattle.liquid_eval.specs.declared.signal.Signal.{Signal}
 use Rattle.liquid_eval.specs.declared.signal.Signal.TheVariants.{Next, Break, Continue}
 use Rattle.liquid_values.specs.Places.{Place, Manner, of_body, of_excerpt, of_layout, at_line, silenced, fails}
 use Rattle.liquid_values.specs.Names.{Excerpting, given, own_excerpt}

@@ -1,14 +1,14 @@
 -- A small site in which nothing is found but what is listed, and texts evaluated there; only rows and tests use it.
-use Rattle.std.specs.Prelude.{ℕ, List, [], pos, codes, if◌then◌else◌, Result, Ok, Err}
+use Rattle.std.specs.Prelude.{ℕ, List, pos, codes, if◌then◌else◌, Result, Ok, Err}
 use Rattle.std.specs.Str.{bytes_eq}
-use Rattle.site_base.specs.Plain.{Plain, nil, int, text, list, hash, site_item, no_items, item, no_pairs, pair}
+use Rattle.site_base.specs.Plain.{Plain, nil, int, text, list, site_item, no_items, item}
 use Rattle.site_base.specs.declared.faults.SiteFault.{SiteFault}
 use Rattle.site_base.specs.declared.item_name.ItemName.{ItemName}
 use Rattle.read_record.specs.declared.key.Key.{Key}
-use Rattle.read_record.specs.declared.key.Key.TheVariants.{Source, Content, Output, Var, SiteVar, Include, Link, Post, Moment}
+use Rattle.read_record.specs.declared.key.Key.TheVariants.{Source, Content, Output, Var, SiteVar, Include, Link, Moment}
 use Rattle.read_record.specs.Queries.{Query, Fail, View, Known, Met, interpret}
 use Rattle.liquid_grammar.specs.Trees.{Tree, Fault, tree}
-use Rattle.liquid_values.specs.Places.{Place, of_body, at_start, site_fault}
+use Rattle.liquid_values.specs.Places.{of_body, at_start, site_fault}
 use Rattle.liquid_eval.specs.Nodes.{evaluation}
 
 abbrev pub page : ItemName

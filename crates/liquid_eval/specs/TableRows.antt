@@ -1,6 +1,6 @@
 -- `tablerow`. After the reference of Liquid 4 (Shopify), "Tags", "Iteration".
-use Rattle.std.specs.Prelude.{ℕ, suc, ◌+◌, ◌==◌, ◌&&◌, not, List, [], ◌∷◌, ◌++◌, length, codes, if◌then◌else◌, Option, Some, None}
-use Rattle.site_base.specs.Decimal.{decimal}
+use Rattle.std.specs.Prelude.{ℕ, ◌+◌, ◌==◌, ◌&&◌, not, List, ◌∷◌, ◌++◌, length, codes, if◌then◌else◌, Option, Some, None}
+use Rattle.std.specs.Fmt.{decimal}
 use Rattle.site_base.specs.Plain.{Plain}
 use Rattle.site_base.specs.declared.faults.SiteFault.{SiteFault}
 use Rattle.read_record.specs.Queries.{Query, Give, bind}
@@ -14,8 +14,10 @@ use Rattle.liquid_tags.specs.declared.tables.Grid.{Grid}
 use Rattle.liquid_tags.specs.Nodes.{body_of}
 use Rattle.liquid_tags.specs.States.{written}
 use Rattle.liquid_tags.specs.Tables.{table}
+use Rattle.liquid_eval.specs.declared.signal.Signal.{Signal}
 use Rattle.liquid_eval.specs.declared.signal.Signal.TheVariants.{Next, Break, Continue}
-use Rattle.liquid_eval.specs.Reached.{Reached, onward, Enter}
+use Rattle.liquid_eval.specs.Loops.{taking}
+use Rattle.liquid_eval.specs.Reached.{Reached, reached, onward, Enter}
 
 abbrev pub first_row : List ℕ
 first_row = codes "<tr class=\"row1\">\n"
@@ -37,26 +39,24 @@ cell_end len columns passed = if ends_row columns passed && not (passed + 1 == l
 abbrev pub cell_place : Place → List ℕ → ℕ → ℕ → ℕ → Plain → Place
 cell_place p x len columns passed v = in_loop ((x, v) ∷ (codes "tablerowloop", row_loop len columns passed) ∷ p.locals) p.around p
 
--- a cell in which the loop ends is closed
-abbrev pub close_cell : Place → ℕ → ℕ → ℕ → Reached → (State → Query SiteFault State) → Query SiteFault State
-close_cell p len columns passed r next = elim r.signal [
-  | Next ↦ bind (written p (cell_end len columns passed) r.state) next
-  | Break ↦ written p (codes "</td>") r.state
-  | Continue ↦ bind (written p (cell_end len columns passed) r.state) next
-]
+-- a cell in which the loop ends is closed alone
+abbrev pub closing : ℕ → ℕ → ℕ → Signal → List ℕ
+closing len columns passed Next = cell_end len columns passed
+closing len columns passed Break = codes "</td>"
+closing len columns passed Continue = cell_end len columns passed
 
 module _ (enter : Enter) where
-  -- the cells that are left
-  abbrev pub cells : Place → List ℕ → Tree → ℕ → ℕ → ℕ → List Plain → State → Query SiteFault State
-  cells p x body len columns passed [] s = Give s
-  cells p x body len columns passed (v ∷ vs) s =
+  -- the cell of an element, of so many
+  abbrev pub cell : Place → List ℕ → Tree → ℕ → ℕ → ℕ → Plain → State → Query SiteFault Reached
+  cell p x body len columns passed v s =
       bind (written p (cell_start (column_of columns passed + 1)) s) (λ t.
-      bind (enter p (cell_place p x len columns passed v) body t) (λ r. close_cell p len columns passed r (λ u. cells p x body len columns (suc passed) vs u)))
+      bind (enter p (cell_place p x len columns passed v) body t) (λ r.
+      bind (written p (closing len columns passed r.signal) r.state) (λ u. Give (reached u r.signal))))
 
   abbrev pub rows : Place → List ℕ → Tree → Grid → State → Query SiteFault Reached
   rows p x parts t s =
       bind (written p first_row s) (λ begun.
-      bind (cells p x (body_of parts) (length t.elements) t.columns 0 t.elements begun) (λ filled.
+      bind (taking (cell p x (body_of parts) (length t.elements) t.columns) 0 t.elements begun) (λ filled.
       bind (written p last_row filled) onward))
 
   -- nil writes nothing

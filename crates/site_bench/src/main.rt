@@ -2,6 +2,7 @@
 #![tactic(auto)]
 
 mod claims;
+mod templates;
 
 use cm_print::{HtmlError, to_html};
 use data_files::{DataError, read_data};
@@ -15,6 +16,7 @@ use std::process::ExitCode;
 use std::rt::Clock;
 use std::thread::Threads;
 use std::{env, io};
+use templates::PageError;
 
 // The status of a run whose input is refused, whose words are wrong, or that failed.
 const REFUSED: u8 = 1;
@@ -34,6 +36,9 @@ fn main(rt: HostRuntime) -> ExitCode {
         Some(word) if word.as_str() == "claims" => {
             ExitCode::from(claim_times(&rt, rt.alloc(), text.as_str()))
         }
+        Some(word) if word.as_str() == "evaluate-time" => {
+            ExitCode::from(evaluate_time(&rt, rt.alloc(), text.as_str()))
+        }
         Some(word) => ExitCode::from(status(rt, word.as_str(), text.as_str())),
         None => ExitCode::from(USAGE),
     }
@@ -49,6 +54,7 @@ fn status(rt: HostRuntime, word: &str, text: &str) -> u8 {
         "csv" => data(rt, "_data/bench.csv", text),
         "tsv" => data(rt, "_data/bench.tsv", text),
         "liquid" => liquid(rt, text),
+        "evaluate" => evaluate(rt, text),
         "markdown" => markdown(rt, text),
         _ => USAGE,
     }
@@ -90,6 +96,33 @@ fn liquid(rt: HostRuntime, text: &str) -> u8 {
         Ok(_) => 0,
         Err(ParseError::Fault(_, _)) => REFUSED,
         Err(ParseError::Memory) => FAILED,
+    }
+}
+
+// The status of evaluating the template of a page. The text that it comes to is written.
+fn evaluate(rt: HostRuntime, page: &str) -> u8 {
+    match templates::page_text(rt.alloc(), page) {
+        Ok(text) => written(rt, text.as_str()),
+        Err(error) => page_status(error),
+    }
+}
+
+// The status of the same. The nanoseconds that parsing and evaluating the template took are written.
+fn evaluate_time<R: Clock + Print>(rt: &R, alloc: Global, page: &str) -> u8 {
+    let taken = match templates::timed(rt, alloc, page) {
+        Ok(taken) => taken,
+        Err(error) => return page_status(error),
+    };
+    match println!(rt; "{}", taken.as_nanos()) {
+        Ok(()) => 0,
+        Err(_) => FAILED,
+    }
+}
+
+fn page_status(error: PageError) -> u8 {
+    match error {
+        PageError::Fault => REFUSED,
+        PageError::Memory | PageError::Clock => FAILED,
     }
 }
 

@@ -1,0 +1,131 @@
+// Whole texts.
+ghost use Rattle.std.specs.Prelude.{◌≡◌};
+ghost use Rattle.read_record.specs.Answers.{Finds};
+ghost use Rattle.read_record.specs.Queries.{run};
+ghost use Rattle.liquid_values.specs.Places.{at_start};
+ghost use Rattle.liquid_values.specs.Standing.{manner_of, place_of};
+ghost use Rattle.liquid_eval.specs.Evaluations.{answer_of};
+ghost use Rattle.liquid_eval.specs.Nodes.{evaluation, evaluation_at};
+
+use crate::evaluating::run_nodes;
+use crate::excerpts::{MadeExcerpts, OwnExcerpts};
+use crate::starting::whole_place;
+use liquid_parse::{Template, Templates};
+use liquid_tags::{Nodes, State, Tools};
+use liquid_values::{Excerpts, Locals, Mode, Place, Stop};
+use markdown_grammar::Convert;
+use read_record::Look;
+use site_base::{ItemName, SiteFault, SitePath, Text};
+use std::alloc::Global;
+
+// How many blocks, includes and excerpts may stand in one another.
+const MOST_LEVELS: u32 = 100;
+
+/// What the evaluation of a template comes to.
+#[derive(Drop)]
+pub enum Evaluated {
+    Text(Text),
+    /// The first fault that was met.
+    Fault(SiteFault),
+    /// The item that has to be rendered first.
+    Needs(u32),
+    Memory,
+}
+
+impl From<Result<Text, Stop>> for Evaluated {
+    fn from(text: Result<Text, Stop>) -> Evaluated
+        ensures { answer_of result ≡ text }
+    {
+        match text {
+            Ok(text) => Evaluated::Text(text),
+            Err(Stop::Fault(fault)) => Evaluated::Fault(fault),
+            Err(Stop::Needs(item)) => Evaluated::Needs(item),
+            Err(Stop::Memory) => Evaluated::Memory,
+        }
+    }
+}
+
+/// Evaluates templates. The texts of includes and of excerpts are parsed once, and found again by their bytes.
+#[derive(Drop)]
+pub struct Evaluator<'c, C> {
+    tools: Tools<'c, MadeExcerpts<'c, C>, C>,
+}
+
+impl<'c, C: Convert> Evaluator<'c, C> {
+    /// One that has parsed nothing yet, with what makes HTML of Markdown.
+    pub fn new(alloc: Global, convert: &'c C) -> Evaluator<'c, C> {
+        Evaluator {
+            tools: Tools {
+                excerpts: MadeExcerpts {
+                    tools: Tools {
+                        excerpts: OwnExcerpts,
+                        convert,
+                        templates: Templates::new(alloc),
+                    },
+                },
+                convert,
+                templates: Templates::new(alloc),
+            },
+        }
+    }
+
+    /// Evaluates a template that stands in a file, for an item.
+    pub fn evaluate<'a, L: Look>(
+        &mut self,
+        alloc: Global,
+        template: &Template,
+        file: &'a SitePath,
+        page: &'a ItemName,
+        mode: &'a Mode,
+        look: &mut L,
+    ) -> Evaluated
+        ensures same { L.view look.new ≡ L.view look.old }
+        ensures gives { Finds (run (L.view look.old) (L.trace look.old) (evaluation (at_start file.now page.now (manner_of mode.now)) template.now)) (answer_of result) (L.trace look.new) }
+    {
+        let locals = Locals::Nothing;
+        let place = whole_place(file, page, mode, &locals, MOST_LEVELS);
+        let nodes = Nodes::of(template);
+        let text = match mode {
+            Mode::Excerpt => {
+                whole_text(alloc, &mut self.tools.excerpts.tools, &place, &nodes, look)
+            }
+            Mode::Body | Mode::Layout { .. } => {
+                whole_text(alloc, &mut self.tools, &place, &nodes, look)
+            }
+        };
+        Evaluated::from(text)
+    }
+}
+
+/// Evaluates a template that stands in a file, for an item. Where several are evaluated, an [`Evaluator`] parses each include once.
+pub fn evaluate<'a, C: Convert, L: Look>(
+    alloc: Global,
+    template: &Template,
+    file: &'a SitePath,
+    page: &'a ItemName,
+    mode: &'a Mode,
+    look: &mut L,
+    convert: &C,
+) -> Evaluated
+    ensures same { L.view look.new ≡ L.view look.old }
+    ensures gives { Finds (run (L.view look.old) (L.trace look.old) (evaluation (at_start file.now page.now (manner_of mode.now)) template.now)) (answer_of result) (L.trace look.new) }
+{
+    let mut evaluator = Evaluator::new(alloc, convert);
+    evaluator.evaluate(alloc, template, file, page, mode, look)
+}
+
+#[tactic(auto, using(crate::proofs::ReachLaws::reaches))]
+fn whole_text<'a, 'c, 'n, X: Excerpts, C: Convert, L: Look>(
+    alloc: Global,
+    tools: &mut Tools<'c, X, C>,
+    place: &Place<'a>,
+    nodes: &Nodes<'n>,
+    look: &mut L,
+) -> Result<Text, Stop>
+    ensures same { L.view look.new ≡ L.view look.old }
+    ensures gives { Finds (run (L.view look.old) (L.trace look.old) (evaluation_at X.excerpts place.now.levels (place_of place.now) nodes.now)) result (L.trace look.new) }
+{
+    let mut state = State::new(alloc);
+    run_nodes(alloc, tools, place, nodes, &mut state, look)?;
+    Ok(state.out.finish()?)
+}
