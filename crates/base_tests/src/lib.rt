@@ -4,6 +4,8 @@
 #[cfg(test)]
 mod ends;
 #[cfg(test)]
+mod memo;
+#[cfg(test)]
 mod records;
 #[cfg(test)]
 mod stretches;

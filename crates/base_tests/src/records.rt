@@ -17,7 +17,7 @@ use std::test::Fail;
 
 /// Two items, which are the parts 0 and 1 of one path. Each has one variable.
 #[derive(Drop)]
-struct Sample {
+pub(crate) struct Sample {
     first: ItemName,
     second: ItemName,
     variable: Value,
@@ -137,7 +137,7 @@ fn same(value: &Value, seen: &[u8]) -> Agreement
 
 /// What is known of item 0.
 #[derive(Drop)]
-struct First(Option<Outcome>);
+pub(crate) struct First(pub(crate) Option<Outcome>);
 
 impl Finished for First {
     ghost use Rattle.std.specs.Prelude.{◌==◌, None, if◌then◌else◌};
@@ -151,7 +151,7 @@ impl Finished for First {
 
 /// What the items of a sample mean.
 #[derive(Drop)]
-struct SampleItems;
+pub(crate) struct SampleItems;
 
 impl ItemMeaning for SampleItems {
     ghost use Rattle.read_record.specs.Samples.{sample_item};
@@ -289,15 +289,25 @@ fn page_of(alloc: Global, variable: &Value) -> Result<Outcome, Memory>
 fn name(alloc: Global, part: u32) -> Result<ItemName, Memory>
     ensures { IfOk result (λ name. name.part ≡ part) }
 {
-    match SitePath::read(alloc, "a.html") {
+    name_at(alloc, "a.html", part)
+}
+
+pub(crate) fn name_at(alloc: Global, path: &str, part: u32) -> Result<ItemName, Memory>
+    ensures { IfOk result (λ name. name.part ≡ part) }
+{
+    match SitePath::read(alloc, path) {
         Ok(path) => Ok(ItemName { path, part }),
         Err(_) => Err(Memory),
     }
 }
 
 fn make_sample(alloc: Global, variable: i64) -> Result<Sample, Memory> {
-    let first = name(alloc, 0)?;
-    let second = name(alloc, 1)?;
+    sample_at(alloc, "a.html", variable)
+}
+
+pub(crate) fn sample_at(alloc: Global, path: &str, variable: i64) -> Result<Sample, Memory> {
+    let first = name_at(alloc, path, 0)?;
+    let second = name_at(alloc, path, 1)?;
     Ok(Sample {
         first,
         second,
@@ -306,7 +316,7 @@ fn make_sample(alloc: Global, variable: i64) -> Result<Sample, Memory> {
     })
 }
 
-fn entry_of(
+pub(crate) fn entry_of(
     alloc: Global,
     world: &Sample,
     item: u32,

@@ -1,0 +1,4 @@
+pub mod Names
+pub mod Entries
+pub mod NameKeys
+pub mod SameNames

@@ -1,0 +1,8 @@
+//! The entries that are kept from build to build, each under the name of its item.
+#![tactic(auto)]
+
+mod by_name;
+mod memo;
+mod name_key;
+
+pub use memo::Memo;
