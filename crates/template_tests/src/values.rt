@@ -3,6 +3,7 @@ use crate::rows::{LATER, POST, is, is_at};
 use std::test::Fail;
 
 const VALUES: &[(&str, &str)] = &[
+    ("{{ 1 }}", "1"),
     (
         "{{ page.title }} {{ page[\"title\"] }} {{ page['title'] }} {{ page . title }} {{ page [ \"title\" ] }} {{page.title}} {{ page[page.nope] }}.",
         "Page Page Page Page Page Page .",
