@@ -69,7 +69,7 @@ impl<'c, C: Convert> Evaluator<'c, C> {
         }
     }
 
-    /// Evaluates a template that stands in a file, for an item.
+    /// Evaluates a template that stands in a file, for an item: `evaluate` tells what comes of it.
     pub fn evaluate<'a, L: Look>(
         &mut self,
         alloc: Global,
@@ -97,7 +97,14 @@ impl<'c, C: Convert> Evaluator<'c, C> {
     }
 }
 
-/// Evaluates a template that stands in a file, for an item. Where several are evaluated, an [`Evaluator`] parses each include once.
+/// Evaluates a template that stands in a file, for an item, as the reference of Liquid 4 (Shopify) and Jekyll 4's manual have it, with the
+/// differences that docs/PROFILE.md lists.
+///
+/// `mode` says what the text is: an item's body, the front of one, or a layout around it. All else is asked of `look`, each key where it
+/// is reached; `convert` makes the HTML of `markdownify` and of excerpts. It answers the text, of at most 16 MiB, or the first fault that
+/// was met, with its file and line (docs/FAULTS.md has each kind and when it comes), or the item that has to be rendered first.
+///
+/// Where several templates are evaluated, an [`Evaluator`] parses each include once.
 pub fn evaluate<'a, C: Convert, L: Look>(
     alloc: Global,
     template: &Template,
