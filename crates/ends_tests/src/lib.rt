@@ -16,4 +16,6 @@ mod memory_out;
 #[cfg(test)]
 mod memory_source;
 #[cfg(test)]
+mod sentences;
+#[cfg(test)]
 mod words;

@@ -1,6 +1,9 @@
 // The program: builds the site of the current folder into `_site`.
 #![tactic(auto)]
 
+mod telling;
+
+use crate::telling::end;
 use out_tree::DiskOut;
 use site_base::Words;
 use site_program::{Status, StdSink, run_jobs, run_once};
@@ -17,7 +20,7 @@ const NO_MOMENT: i64 = -1;
 fn main(rt: HostRuntime) -> ExitCode {
     let words = match words(&rt) {
         Ok(words) => words,
-        Err(status) => return ExitCode::from(status.number()),
+        Err(status) => return end(&rt, &status),
     };
     let mut source = DiskSource::new(rt);
     let mut out = DiskOut::new(rt);
@@ -43,7 +46,7 @@ fn main(rt: HostRuntime) -> ExitCode {
             &mut sink,
         )
     };
-    ExitCode::from(status.number())
+    end(&rt, &status)
 }
 
 // The words of the command line, without the program's name. Where they are no text, they have no kind of their own.

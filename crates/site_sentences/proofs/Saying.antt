@@ -1,0 +1,15 @@
+-- A line of parts says what it is to say.
+use Rattle.std.proofs.Common.{◌≡◌, ◌∙◌, ◌++◌, [], true, ap, Err, IfOk, Ok, Result, String}
+use Rattle.std.specs.String.{string_bytes}
+use Rattle.site_words.specs.declared.faults.UsageKind.{UsageKind}
+use Rattle.site_sentences.specs.Lines.{Says, Text, UsageSays, is_sentence, line_of, usage_code}
+
+pub says : {A E : Type 0} (result : Result (String A) E) (sentence place : Text) {code place' code' : Text} → is_sentence sentence ≡ true → place ≡ place' → code ≡ code'
+    → IfOk result (λ text. string_bytes text ≡ line_of place sentence code) → IfOk result (λ text. Says place' code' (string_bytes text))
+says (Ok text) sentence place {code} {place'} one at of is = (sentence, one, is ∙ ap (λ p. line_of p sentence code) at ∙ ap (λ c. line_of place' sentence c) of)
+says (Err e) sentence place one at of is = is
+
+-- the same with the commands behind it
+pub says_usage : (kind : UsageKind) (sentence commands : Text) {text line code : Text} → is_sentence sentence ≡ true → text ≡ line ++ commands → line ≡ line_of [] sentence code
+    → code ≡ usage_code kind → UsageSays kind text
+says_usage kind sentence commands one added is of = (sentence, commands, one, added ∙ ap (λ l. l ++ commands) (is ∙ ap (λ c. line_of [] sentence c) of))

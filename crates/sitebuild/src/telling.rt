@@ -1,0 +1,48 @@
+// What is said to a person.
+ghost use Rattle.std.specs.Prelude.{◌≡◌, IfOk};
+ghost use Rattle.std.specs.String.{string_bytes};
+ghost use Rattle.sitebuild.specs.Telling.{StatusSays, output_failure};
+
+use site_program::Status;
+use site_sentences::{
+    Failure, failure_line, failure_sentence, fault_line, script_line, usage_lines,
+};
+use std::alloc::{AllocError, Global};
+use std::process::ExitCode;
+
+/// The exit code of a run. Standard error is told how it ended, unless it was done; nothing comes of it where standard error fails.
+pub(crate) fn end(rt: &HostRuntime, status: &Status) -> ExitCode {
+    let _ = match status_text(rt.alloc(), status) {
+        Ok(text) => rt.eprint(text),
+        Err(_) => rt.eprintln(failure_sentence(Failure::Memory)),
+    };
+    ExitCode::from(status.number())
+}
+
+// What is said of a status: nothing where all is done.
+fn status_text(alloc: Global, status: &Status) -> Result<String, AllocError>
+    ensures { IfOk result (λ text. StatusSays status.now (string_bytes text)) }
+{
+    match status {
+        Status::Done => Ok(String::new(alloc)),
+        Status::Site(fault) => fault_line(alloc, fault),
+        Status::Usage(kind) => usage_lines(alloc, *kind),
+        Status::SourceFault => failure_line(alloc, Failure::Source),
+        Status::OutFault(count) => failure_line(alloc, output_failure(*count)),
+        Status::InputFault => failure_line(alloc, Failure::Input),
+        Status::SinkFault => failure_line(alloc, Failure::Sink),
+        Status::Script(number, kind) => script_line(alloc, *number, *kind),
+        Status::Memory => failure_line(alloc, Failure::Memory),
+    }
+}
+
+// How an output failed: at so many paths, or, where that is 0, by giving no list of its files.
+fn output_failure(count: u64) -> Failure
+    ensures { result ≡ output_failure count }
+{
+    if count == 0 {
+        Failure::List
+    } else {
+        Failure::Writes(count)
+    }
+}
