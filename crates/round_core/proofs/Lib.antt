@@ -1,0 +1,6 @@
+pub mod Listing
+pub mod MeantLaws
+pub mod FactLaws
+pub mod HandLaws
+pub mod OneWay
+mod Rows
