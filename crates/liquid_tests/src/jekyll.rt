@@ -238,6 +238,7 @@ const TEXTS: &[Row] = &[
         "s28:the-config-yml-file-Été-2x",
         "",
     ),
+    ("slugify", Given::Text("A b!"), Given::Absent, "s3:a-b", ""),
     ("slugify", Given::Text("a"), Given::Text("raw"), "F14", ""),
     (
         "normalize_whitespace",

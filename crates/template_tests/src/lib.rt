@@ -37,3 +37,5 @@ mod values;
 mod variables;
 #[cfg(test)]
 mod white;
+#[cfg(test)]
+mod worked;
