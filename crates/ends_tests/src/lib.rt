@@ -6,6 +6,8 @@ mod disk_out;
 #[cfg(test)]
 mod disk_source;
 #[cfg(test)]
+mod generator;
+#[cfg(test)]
 mod held;
 #[cfg(test)]
 mod keeping;

@@ -1,3 +1,4 @@
+use page_render::PageRenderer;
 use site_base::{Settings, SiteFault, SitePath};
 use site_session::Session;
 use std::alloc::Global;
@@ -14,7 +15,7 @@ fn first_fault(alloc: Global, path: &str, text: &str) -> Result<Option<SiteFault
     };
     let mut session = Session::open(alloc, settings, MOMENT);
     session.put(SitePath::read(alloc, path)?, text.as_bytes().to_vec(alloc)?)?;
-    match session.first_fault(alloc) {
+    match session.first_fault(alloc, &PageRenderer::new(alloc)) {
         Ok(fault) => Ok(fault),
         Err(_) => Err("memory")?,
     }

@@ -6,6 +6,8 @@ mod builds;
 #[cfg(test)]
 mod items;
 #[cfg(test)]
-mod pages;
+mod paged_sites;
 #[cfg(test)]
 mod sites;
+#[cfg(test)]
+mod variables;

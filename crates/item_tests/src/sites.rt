@@ -231,8 +231,8 @@ const OF_CONFIGURATION: &[FaultRow] = &[
         "_config.yml",
     ),
     (
-        &[("_config.yml", "paginate: 2\n"), BAD_NUMBER],
-        FaultKind::Unbuilt,
+        &[("_config.yml", "paginate: 0\n"), BAD_NUMBER],
+        FaultKind::Config,
         0,
         "_config.yml",
     ),

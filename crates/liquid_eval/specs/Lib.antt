@@ -9,4 +9,5 @@ pub mod Nodes
 pub mod Reached
 pub mod Samples
 pub mod TableRows
+pub mod Texts
 pub mod Works

@@ -6,11 +6,12 @@ ghost use Rattle.liquid_values.specs.Places.{at_start};
 ghost use Rattle.liquid_values.specs.Standing.{manner_of, place_of};
 ghost use Rattle.liquid_eval.specs.Evaluations.{answer_of};
 ghost use Rattle.liquid_eval.specs.Nodes.{evaluation, evaluation_at};
+ghost use Rattle.liquid_eval.specs.Texts.{conversion, text_evaluation};
 
 use crate::evaluating::run_nodes;
-use crate::excerpts::{MadeExcerpts, OwnExcerpts};
+use crate::excerpts::{MadeExcerpts, OwnExcerpts, converted, text_or_empty};
 use crate::starting::whole_place;
-use liquid_parse::{Template, Templates};
+use liquid_parse::{ParseError, Template, Templates, parse};
 use liquid_tags::{Nodes, State, Tools};
 use liquid_values::{Excerpts, Locals, Mode, Place, Stop};
 use markdown_grammar::Convert;
@@ -54,6 +55,11 @@ pub struct Evaluator<'c, C> {
 impl<'c, C: Convert> Evaluator<'c, C> {
     /// One that has parsed nothing yet, with what makes HTML of Markdown.
     pub fn new(alloc: Global, convert: &'c C) -> Evaluator<'c, C> {
+        Evaluator::knowing(alloc, convert, Templates::new(alloc))
+    }
+
+    /// One that finds what was parsed before among these templates.
+    pub fn knowing(alloc: Global, convert: &'c C, templates: Templates) -> Evaluator<'c, C> {
         Evaluator {
             tools: Tools {
                 excerpts: MadeExcerpts {
@@ -64,9 +70,14 @@ impl<'c, C: Convert> Evaluator<'c, C> {
                     },
                 },
                 convert,
-                templates: Templates::new(alloc),
+                templates,
             },
         }
+    }
+
+    /// The templates that it knows now.
+    pub fn into_templates(self) -> Templates {
+        self.tools.templates
     }
 
     /// Evaluates a template that stands in a file, for an item: `evaluate` tells what comes of it.
@@ -82,18 +93,106 @@ impl<'c, C: Convert> Evaluator<'c, C> {
         ensures same { L.view look.new ≡ L.view look.old }
         ensures gives { Finds (run (L.view look.old) (L.trace look.old) (evaluation (at_start file.now page.now (manner_of mode.now)) template.now)) (answer_of result) (L.trace look.new) }
     {
+        let nodes = Nodes::of(template);
+        let text = self.evaluate_nodes(alloc, &nodes, file, page, mode, look);
+        Evaluated::from(text)
+    }
+
+    /// Evaluates the text of a file, for an item: the first fault of its syntax comes before all others, and otherwise
+    /// `evaluate` tells what comes of it. Its template is not kept.
+    pub fn evaluate_text<'a, L: Look>(
+        &mut self,
+        alloc: Global,
+        text: &Text,
+        file: &'a SitePath,
+        page: &'a ItemName,
+        mode: &'a Mode,
+        look: &mut L,
+    ) -> Result<Text, Stop>
+        ensures same { L.view look.new ≡ L.view look.old }
+        ensures gives { Finds (run (L.view look.old) (L.trace look.old) (text_evaluation (at_start file.now page.now (manner_of mode.now)) text.now)) result (L.trace look.new) }
+    {
+        match parse(alloc, text.as_str()) {
+            Ok(template) => {
+                let nodes = Nodes::of(&template);
+                self.evaluate_nodes(alloc, &nodes, file, page, mode, look)
+            }
+            Err(ParseError::Fault(line, kind)) => Err(Stop::Fault(SiteFault {
+                path: file.copy(alloc)?,
+                line,
+                kind,
+            })),
+            Err(ParseError::Memory) => Err(Stop::Memory),
+        }
+    }
+
+    /// The same, of a text that many evaluate: its template is kept, and found again by the text.
+    pub fn evaluate_shared<'a, L: Look>(
+        &mut self,
+        alloc: Global,
+        text: &Text,
+        file: &'a SitePath,
+        page: &'a ItemName,
+        mode: &'a Mode,
+        look: &mut L,
+    ) -> Result<Text, Stop>
+        ensures same { L.view look.new ≡ L.view look.old }
+        ensures gives { Finds (run (L.view look.old) (L.trace look.old) (text_evaluation (at_start file.now page.now (manner_of mode.now)) text.now)) result (L.trace look.new) }
+    {
+        match self.tools.templates.template(alloc, text) {
+            Ok(template) => {
+                let nodes = Nodes::of_shared(&template);
+                self.evaluate_nodes(alloc, &nodes, file, page, mode, look)
+            }
+            Err(ParseError::Fault(line, kind)) => Err(Stop::Fault(SiteFault {
+                path: file.copy(alloc)?,
+                line,
+                kind,
+            })),
+            Err(ParseError::Memory) => Err(Stop::Memory),
+        }
+    }
+
+    /// The HTML of an item's text, where the item's extension is one of Markdown; otherwise the text as it is. HTML that is
+    /// longer than a text may be is the fault `OutputTooLong` of the item, without a line.
+    #[tactic(auto, using(read_record::proofs::CallLaws::binds))]
+    pub fn convert<L: Look>(
+        &self,
+        alloc: Global,
+        item: &ItemName,
+        text: Text,
+        look: &mut L,
+    ) -> Result<Text, Stop>
+        ensures same { L.view look.new ≡ L.view look.old }
+        ensures gives { Finds (run (L.view look.old) (L.trace look.old) (conversion item.now text)) result (L.trace look.new) }
+    {
+        let locals = Locals::Nothing;
+        let mode = Mode::Body;
+        let place = whole_place(&item.path, item, &mode, &locals, MOST_LEVELS);
+        let made = converted(alloc, self.tools.convert, &place, item, text, look)?;
+        Ok(text_or_empty(alloc, made))
+    }
+
+    fn evaluate_nodes<'a, 'n, L: Look>(
+        &mut self,
+        alloc: Global,
+        nodes: &Nodes<'n>,
+        file: &'a SitePath,
+        page: &'a ItemName,
+        mode: &'a Mode,
+        look: &mut L,
+    ) -> Result<Text, Stop>
+        ensures same { L.view look.new ≡ L.view look.old }
+        ensures gives { Finds (run (L.view look.old) (L.trace look.old) (evaluation (at_start file.now page.now (manner_of mode.now)) nodes.now)) result (L.trace look.new) }
+    {
         let locals = Locals::Nothing;
         let place = whole_place(file, page, mode, &locals, MOST_LEVELS);
-        let nodes = Nodes::of(template);
-        let text = match mode {
-            Mode::Excerpt => {
-                whole_text(alloc, &mut self.tools.excerpts.tools, &place, &nodes, look)
-            }
+        match mode {
+            Mode::Excerpt => whole_text(alloc, &mut self.tools.excerpts.tools, &place, nodes, look),
             Mode::Body | Mode::Layout { .. } => {
-                whole_text(alloc, &mut self.tools, &place, &nodes, look)
+                whole_text(alloc, &mut self.tools, &place, nodes, look)
             }
-        };
-        Evaluated::from(text)
+        }
     }
 }
 

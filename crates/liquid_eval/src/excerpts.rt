@@ -261,9 +261,9 @@ fn entered_text<'a, 'c, C: Convert, L: Look>(
     Ok(state.out.finish()?)
 }
 
-// HTML, where the item is Markdown.
+/// HTML, where the item is Markdown.
 #[tactic(auto, using(read_record::proofs::CallLaws::binds, crate::proofs::ExcerptLaws::yields_runs))]
-fn converted<'a, C: Convert, L: Look>(
+pub(crate) fn converted<'a, C: Convert, L: Look>(
     alloc: Global,
     convert: &C,
     place: &Place<'a>,
@@ -300,7 +300,8 @@ fn html_of<'a, C: Convert>(
     }
 }
 
-fn text_or_empty(alloc: Global, value: Value) -> Text
+/// A text as it is, or the empty text in place of any other value.
+pub(crate) fn text_or_empty(alloc: Global, value: Value) -> Text
     ensures { result ≡ definitions.text_or_empty (plain value) }
 {
     match value {

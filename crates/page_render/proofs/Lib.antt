@@ -1,3 +1,2 @@
-pub mod Starts
-pub mod Letters
-pub mod PieceLemmas
+mod LayoutLaws
+mod RenderLaws

@@ -1,12 +1,11 @@
-//! What is made of the items of a site.
-//!
-//! A thin item has text in its body, and outputs `{{ page.KEY }}` that print its variables. Items of other forms (Markdown,
-//! layouts, other templates) are not built yet, and have the fault that says so.
+//! What is made of an item of a site: its text evaluated, converted where it is Markdown, and put into its layouts.
 #![tactic(auto)]
 
-mod body;
-mod key;
-mod piece;
-mod render;
+mod around;
+mod item;
+mod layout;
+mod layouts;
+mod renderer;
+mod templates_pool;
 
-pub use render::render_thin;
+pub use renderer::{PageMeaning, PageRenderer};

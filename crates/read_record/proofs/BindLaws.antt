@@ -1,5 +1,5 @@
 -- Queries one after another: how they may be grouped.
-use Rattle.std.proofs.Common.{◌≡◌, refl, ap}
+use Rattle.std.proofs.Common.{◌≡◌, refl}
 use Rattle.site_base.specs.Plain.{Plain}
 use Rattle.read_record.specs.Queries.{Query, Give, Fail, Ask, bind}
 

@@ -92,8 +92,6 @@ not-some : {A : Type 0} (o : Option A) → is_some o ≡ false → o ≡ None
 not-some None h = refl
 not-some (Some a) h = cc
 
--- an insert of a key that is new notes it
-pub inserted-noted : (old new : Reads) (k k' : Key) (bytes bytes' : List ℕ) → is_some (lookup (same_key k) old) ≡ false → k' ≡ k → bytes' ≡ bytes → new ≡ insert_entry same_key old k' bytes' → new ≡ noted k bytes old
-inserted-noted old new k k' bytes bytes' h e f g =
-    let none = not-some (lookup (same_key k) old) h in
-    g ∙ ap (λ j. insert_entry same_key old j bytes') e ∙ ap (λ b. insert_entry same_key old k b) f ∙ insert-new old k bytes none ∙ sym (ap (λ o. noted_after o k bytes old) none)
+-- an insert of a key that is new is a push
+pub inserted-new : (old new : Reads) (k k' : Key) (bytes : List ℕ) → lookup (same_key k) old ≡ None → k' ≡ k → new ≡ insert_entry same_key old k' bytes → new ≡ old ++ (k, bytes) ∷ []
+inserted-new old new k k' bytes none e g = g ∙ ap (λ j. insert_entry same_key old j bytes) e ∙ insert-new old k bytes none

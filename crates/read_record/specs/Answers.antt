@@ -1,5 +1,6 @@
 -- What calls answer, in terms of queries.
-use Rattle.std.specs.Prelude.{◌≡◌, List, [], ◌∷◌, ◌++◌, Result, Ok, Err}
+use Rattle.std.specs.Prelude.{◌≡◌, ℕ, List, [], ◌∷◌, ◌++◌, Result, Ok, Err}
+use Rattle.site_base.specs.Code.{code}
 use Rattle.site_base.specs.Plain.{Plain}
 use Rattle.site_base.specs.View.{plain}
 use Rattle.site_base.specs.declared.faults.SiteFault.{SiteFault}
@@ -20,6 +21,11 @@ abbrev pub IsReply : Reply → Answer → Type 0
 IsReply reply (answer.Seen v) = reply ≡ Known (plain v)
 IsReply reply (answer.Needs j) = reply ≡ Missing j
 IsReply reply answer.Memory = Unit {0}
+
+-- the bytes are the code of the value that the view gives
+abbrev pub IsCodeOf : Reply → List ℕ → Type 0
+IsCodeOf (Known v) bytes = bytes ≡ code v
+IsCodeOf (Missing j) bytes = ⊥
 
 -- the same, and where reads are kept, a value that was seen is noted
 abbrev pub IsNoted : Reply → Key → Trace → Answer → Trace → Type 0

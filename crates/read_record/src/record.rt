@@ -1,16 +1,13 @@
 // The record of what was read.
-ghost use Rattle.std.specs.Prelude.{◌≡◌, ◌<◌, [], Some, IfOk, OnOk, OnErr, length, slice_get};
+ghost use Rattle.std.specs.Prelude.{◌≡◌, ◌<◌, [], ◌∷◌, ◌++◌, Some, None, is_some, IfOk, OnOk, OnErr, length, slice_get};
 ghost use Rattle.std.specs.List.{IsDistinct};
-ghost use Rattle.std.specs.Map.{keys_of};
-ghost use Rattle.site_base.specs.Code.{code};
-ghost use Rattle.site_base.specs.View.{plain};
+ghost use Rattle.std.specs.Map.{keys_of, lookup};
 ghost use Rattle.read_record.specs.Keys.{same_key};
-ghost use Rattle.read_record.specs.Queries.{noted};
 
 use crate::Key;
 use crate::seen_code::SeenCode;
 use indexmap::IndexMap;
-use site_base::{Memory, Value};
+use site_base::Memory;
 use std::alloc::Global;
 use std::marker::Model;
 
@@ -83,16 +80,20 @@ impl Record {
         }
     }
 
-    /// Notes a read at the end, unless its key was read before. After `Memory` the record is as before.
-    pub(crate) fn note(&mut self, alloc: Global, key: &Key, value: &Value) -> Result<(), Memory>
-        ensures ok { OnOk result (self.new ≡ noted key.now (code (plain value.now)) self.old) }
+    /// Whether this key was read.
+    pub(crate) fn has(&self, key: &Key) -> bool
+        ensures { result ≡ is_some (lookup (same_key key.now) self.now) }
+    {
+        self.reads.contains_key(key)
+    }
+
+    /// Notes a read at the end, whose key was not read before. After `Memory` the record is as before.
+    pub(crate) fn add(&mut self, alloc: Global, key: &Key, seen: SeenCode) -> Result<(), Memory>
+        requires { lookup (same_key key.now) self.old ≡ None }
+        ensures ok { OnOk result (self.new ≡ self.old ++ (key.now, seen) ∷ []) }
         ensures err { OnErr result (self.new ≡ self.old) }
     {
-        if self.reads.contains_key(key) {
-            return Ok(());
-        }
         let key = key.copy(alloc)?;
-        let seen = SeenCode::of(alloc, value)?;
         self.reads.insert(key, seen)?;
         Ok(())
     }
@@ -104,7 +105,7 @@ impl Record {
         for place in 0..self.len() {
             let (key, seen) = self.pair_at(place);
             let key = key.copy(alloc)?;
-            let seen = seen.copy(alloc)?;
+            let seen = seen.share()?;
             reads.insert(key, seen)?;
         }
         Ok(Record { reads })

@@ -3,14 +3,14 @@ ghost use Rattle.std.specs.Prelude.{◌≡◌, IfOk};
 ghost use Rattle.site_base.specs.Code.{code};
 ghost use Rattle.site_base.specs.View.{plain};
 
-use site_base::{self, Memory, Value};
+use site_base::{self, Memory, SharedBytes, Value};
 use std::alloc::Global;
 use std::marker::Model;
 
-/// The code of a value, which clauses see as its bytes.
+/// The code of a value, which may have several holders. Clauses see its bytes.
 #[derive(Drop)]
 pub(crate) struct SeenCode {
-    bytes: Vec<u8>,
+    bytes: SharedBytes,
 }
 
 impl Model for SeenCode {
@@ -18,7 +18,7 @@ impl Model for SeenCode {
 
     ghost Value = { List ℕ };
 
-    ghost view = { λ seen. seen.bytes.items };
+    ghost view = { λ seen. seen.bytes };
 }
 
 impl SeenCode {
@@ -26,8 +26,15 @@ impl SeenCode {
         ensures { IfOk result (λ seen. seen ≡ code (plain value.now)) }
     {
         Ok(SeenCode {
-            bytes: site_base::code(alloc, value)?,
+            bytes: SharedBytes::from_vec(alloc, site_base::code(alloc, value)?)?,
         })
+    }
+
+    /// The code that a world keeps.
+    pub(crate) fn kept(bytes: SharedBytes) -> SeenCode
+        ensures { result ≡ bytes }
+    {
+        SeenCode { bytes }
     }
 
     pub(crate) fn as_slice(&self) -> &[u8]
@@ -36,11 +43,12 @@ impl SeenCode {
         self.bytes.as_slice()
     }
 
-    pub(crate) fn copy(&self, alloc: Global) -> Result<SeenCode, Memory>
-        ensures { IfOk result (λ copy. copy ≡ self.now) }
+    /// A further holder of the same code.
+    pub(crate) fn share(&self) -> Result<SeenCode, Memory>
+        ensures { IfOk result (λ seen. seen ≡ self.now) }
     {
         Ok(SeenCode {
-            bytes: self.bytes.to_vec(alloc)?,
+            bytes: self.bytes.share()?,
         })
     }
 }

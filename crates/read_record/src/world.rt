@@ -1,14 +1,14 @@
 // A site that answers look-ups.
-ghost use Rattle.std.specs.Prelude.{◌≡◌, ℕ, ◌<◌, List, Option, MatchOption, Some, None, length, slice_get};
+ghost use Rattle.std.specs.Prelude.{◌≡◌, ℕ, ◌<◌, List, Option, MatchOption, IfOk, IfSome, Some, None, length, slice_get};
 ghost use Rattle.site_base.specs.declared.item_name.ItemName.{ItemName};
 ghost use Rattle.read_record.specs.declared.outcome.Outcome.{Outcome};
 ghost use Rattle.read_record.specs.Forms.{IsFormed};
 ghost use Rattle.read_record.specs.Worlds.{Sight, Lawful};
 ghost use Rattle.read_record.specs.Records.{agreement_of};
-ghost use Rattle.read_record.specs.Answers.{IsReply};
+ghost use Rattle.read_record.specs.Answers.{IsCodeOf, IsReply};
 
 use crate::{Agreement, Answer, Key, Outcome};
-use site_base::ItemName;
+use site_base::{ItemName, Memory, SharedBytes};
 use std::alloc::Global;
 
 /// The outcomes that are known.
@@ -44,6 +44,18 @@ pub trait World {
     fn look<F: Finished>(&self, alloc: Global, reader: u32, key: &Key, outs: &F) -> Answer
         requires { reader < length (names self.now) }
         ensures { IsReply (sight self.now reader (F.outcomes outs.now) key.now) result };
+
+    /// The code of what a look-up gives, where the world keeps it for all who ask: a record then holds a share of it, and
+    /// nobody makes it again.
+    fn shared_code<F: Finished>(
+        &self,
+        alloc: Global,
+        reader: u32,
+        key: &Key,
+        outs: &F,
+    ) -> Result<Option<SharedBytes>, Memory>
+        requires { reader < length (names self.now) }
+        ensures { IfOk result (λ kept. IfSome kept (λ bytes. IsCodeOf (sight self.now reader (F.outcomes outs.now) key.now) bytes)) };
 
     /// Whether a look-up gives the value whose code was seen; it takes no memory.
     fn agrees<F: Finished>(&self, reader: u32, key: &Key, outs: &F, seen: &[u8]) -> Agreement

@@ -7,3 +7,7 @@ mod memo;
 mod records;
 #[cfg(test)]
 mod rounds;
+#[cfg(test)]
+mod serial;
+#[cfg(test)]
+mod text_code;

@@ -11,7 +11,9 @@ use read_record::{
     Agreement, Answer, Checked, Entry, Finished, ItemMeaning, Key, Look, Outcome, Record, Rendered,
     Renderer, Tally, Traced, World, check, render_traced,
 };
-use site_base::{ItemName, Memory, SitePath, Text, Value, copy, same_code, value_text};
+use site_base::{
+    ItemName, Memory, SharedBytes, SitePath, Text, Value, copy, same_code, value_text,
+};
 use std::alloc::Global;
 use std::test::Fail;
 
@@ -77,6 +79,16 @@ impl World for Sample {
             Key::Moment => Answer::Seen(Value::Int(0)),
             _ => Answer::Seen(Value::Nil),
         }
+    }
+
+    fn shared_code<F: Finished>(
+        &self,
+        _alloc: Global,
+        _reader: u32,
+        _key: &Key,
+        _outs: &F,
+    ) -> Result<Option<SharedBytes>, Memory> {
+        Ok(None)
     }
 
     fn agrees<F: Finished>(&self, reader: u32, key: &Key, outs: &F, seen: &[u8]) -> Agreement {

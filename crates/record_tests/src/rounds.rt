@@ -1,36 +1,41 @@
 // Lists of events over a small site of three items, and what they leave.
-ghost use Rattle.std.specs.Prelude.{◌≡◌, IfOk, IsTrue, codes};
+ghost use Rattle.std.specs.Prelude.{◌≡◌, ◌≢◌, IfOk, IsTrue, codes};
 ghost use Rattle.site_base.specs.View.{plain};
-ghost use Rattle.read_record.specs.Queries.{Gave, Known, run};
+ghost use Rattle.site_base.specs.Plain.{text};
+ghost use Rattle.read_record.specs.Queries.{View, Trace, Gave, Known, run, ran};
 ghost use Rattle.read_record.specs.Records.{agreement_of};
 ghost use Rattle.read_record.specs.Outcomes.{met_of};
 ghost use Rattle.read_record.specs.Answers.{IsReply, Renders};
 ghost use Rattle.read_record.specs.Forms.{is_words};
-ghost use Rattle.round_core.specs.Samples.{content_reply, page_of, sample_item};
+ghost use Rattle.round_core.specs.Samples.{content_reply, page_of, variable_page, sample_item};
 
+use crate::text_code::is_text_code;
 use memo_table::Memo;
 use read_record::{
     Agreement, Answer, Checked, Entry, Finished, ItemMeaning, Key, Look, Outcome, Rendered,
     Renderer, Tally, Traced, World, render_traced,
 };
 use round_core::{Core, CoreError, Event, Hand, Made, run};
-use site_base::{ItemName, Memory, SitePath, Text, Value, copy, same_code, value_text};
+use site_base::{
+    FaultKind, ItemName, Memory, SharedBytes, SiteFault, SitePath, Text, Value, copy, is_true,
+    same_code, value_text,
+};
 use std::alloc::Global;
 
-/// Three items, which are the parts 0, 1 and 2 of one path. The others show the content of item 1: its source where they stand
-/// before it, and what was made of it where they stand behind it.
+/// Three items, which are the parts 0, 1 and 2 of one path. Item 1 shows its variable. The others show the content of item 1: its
+/// source where they stand before it, and what was made of it where they stand behind it.
 #[derive(Drop)]
-struct Three {
+pub(crate) struct Three {
     first: ItemName,
     second: ItemName,
     third: ItemName,
     source: Value,
-    made: Value,
+    variable: Value,
+    copied: u64,
     ghost first_part: { first.part ≡ 0 },
     ghost second_part: { second.part ≡ 1 },
     ghost third_part: { third.part ≡ 2 },
     ghost source_words: { IsTrue (is_words (plain source)) },
-    ghost made_words: { IsTrue (is_words (plain made)) },
 }
 
 impl World for Three {
@@ -40,15 +45,15 @@ impl World for Three {
 
     ghost names = { λ w. w.first ∷ w.second ∷ w.third ∷ [] };
 
-    ghost fixed = { λ _. 0 };
+    ghost fixed = { λ w. w.copied };
 
-    ghost sight = { λ w. sample_sight (plain w.source) (plain w.made) };
+    ghost sight = { λ w. sample_sight (plain w.source) (plain w.variable) };
 
     ghost names_differ = { λ w. sample-names_differ w.first w.second w.third w.first_part w.second_part w.third_part };
 
-    ghost lawful = { λ w. sample-lawful (plain w.source) (plain w.made) };
+    ghost lawful = { λ w. sample-lawful (plain w.source) (plain w.variable) };
 
-    ghost formed = { λ w. sample-formed (plain w.source) (plain w.made) w.source_words w.made_words };
+    ghost formed = { λ w. sample-formed (plain w.source) (plain w.variable) w.source_words };
 
     fn items(&self) -> u32 {
         3
@@ -65,22 +70,32 @@ impl World for Three {
     }
 
     fn fixed_bytes(&self) -> u64 {
-        0
+        self.copied
     }
 
     fn look<F: Finished>(&self, alloc: Global, reader: u32, key: &Key, outs: &F) -> Answer {
         match key {
-            Key::Var(_, _) => seen(alloc, &self.made),
-            Key::Content(_) => content(alloc, &self.source, &self.made, reader, outs),
+            Key::Var(_, _) => seen(alloc, &self.variable),
+            Key::Content(_) => content(alloc, &self.source, reader, outs),
             Key::Moment => Answer::Seen(Value::Int(0)),
             _ => Answer::Seen(Value::Nil),
         }
     }
 
+    fn shared_code<F: Finished>(
+        &self,
+        _alloc: Global,
+        _reader: u32,
+        _key: &Key,
+        _outs: &F,
+    ) -> Result<Option<SharedBytes>, Memory> {
+        Ok(None)
+    }
+
     fn agrees<F: Finished>(&self, reader: u32, key: &Key, outs: &F, seen: &[u8]) -> Agreement {
         match key {
-            Key::Var(_, _) => same(&self.made, seen),
-            Key::Content(_) => content_agrees(&self.source, &self.made, reader, outs, seen),
+            Key::Var(_, _) => same(&self.variable, seen),
+            Key::Content(_) => content_agrees(&self.source, reader, outs, seen),
             Key::Moment => same(&Value::Int(0), seen),
             _ => same(&Value::Nil, seen),
         }
@@ -96,51 +111,48 @@ fn seen(alloc: Global, value: &Value) -> Answer
     }
 }
 
-fn content<F: Finished>(
-    alloc: Global,
-    source: &Value,
-    made: &Value,
-    reader: u32,
-    outs: &F,
-) -> Answer
-    ensures { IsReply (content_reply (plain source.now) (plain made.now) reader (F.outcomes outs.now)) result }
+fn content<F: Finished>(alloc: Global, source: &Value, reader: u32, outs: &F) -> Answer
+    ensures { IsReply (content_reply (plain source.now) reader (F.outcomes outs.now)) result }
 {
     if reader < 2 {
         return seen(alloc, source);
     }
     match outs.done(1) {
-        Some(
-            Outcome::Done {
-                content: _,
-                output: _,
-            },
-        ) => seen(alloc, made),
+        Some(Outcome::Done { content, output: _ }) => seen_text(alloc, content),
         Some(Outcome::Fault(_)) => Answer::Needs(1),
         None => Answer::Needs(1),
     }
 }
 
-fn content_agrees<F: Finished>(
-    source: &Value,
-    made: &Value,
-    reader: u32,
-    outs: &F,
-    seen: &[u8],
-) -> Agreement
-    ensures { result ≡ agreement_of (content_reply (plain source.now) (plain made.now) reader (F.outcomes outs.now)) seen.now }
+fn seen_text(alloc: Global, content: &Text) -> Answer
+    ensures { IsReply (Known (text content.now)) result }
+{
+    match content.share(alloc) {
+        Ok(content) => Answer::Seen(Value::Text(content)),
+        Err(_) => Answer::Memory,
+    }
+}
+
+fn content_agrees<F: Finished>(source: &Value, reader: u32, outs: &F, seen: &[u8]) -> Agreement
+    ensures { result ≡ agreement_of (content_reply (plain source.now) reader (F.outcomes outs.now)) seen.now }
 {
     if reader < 2 {
         return same(source, seen);
     }
     match outs.done(1) {
-        Some(
-            Outcome::Done {
-                content: _,
-                output: _,
-            },
-        ) => same(made, seen),
+        Some(Outcome::Done { content, output: _ }) => same_text(content, seen),
         Some(Outcome::Fault(_)) => Agreement::Needs(1),
         None => Agreement::Needs(1),
+    }
+}
+
+fn same_text(content: &Text, seen: &[u8]) -> Agreement
+    ensures { result ≡ agreement_of (Known (text content.now)) seen.now }
+{
+    if is_text_code(content, seen) {
+        Agreement::Same
+    } else {
+        Agreement::Other
     }
 }
 
@@ -154,7 +166,7 @@ fn same(value: &Value, seen: &[u8]) -> Agreement
     }
 }
 
-struct ThreeItems;
+pub(crate) struct ThreeItems;
 
 impl ItemMeaning for ThreeItems {
     ghost use Rattle.round_core.specs.Samples.{sample_item};
@@ -162,7 +174,7 @@ impl ItemMeaning for ThreeItems {
     ghost item = { sample_item };
 }
 
-struct ThreeRenderer;
+pub(crate) struct ThreeRenderer;
 
 impl Renderer for ThreeRenderer {
     type Meaning = ThreeItems;
@@ -189,12 +201,38 @@ fn render_item<L: Look>(alloc: Global, name: &ItemName, look: &mut L) -> Rendere
     ensures same { L.view look.new ≡ L.view look.old }
     ensures outcome { Renders (run (L.view look.old) (L.trace look.old) (sample_item name.now)) result (L.trace look.new) }
 {
-    let key = if name.part == 1 {
-        own_key(alloc, name)
+    if name.part == 1 {
+        render_variable(alloc, name, look)
     } else {
-        content_key(alloc, name)
+        render_content(alloc, name, look)
+    }
+}
+
+fn render_variable<L: Look>(alloc: Global, name: &ItemName, look: &mut L) -> Rendered
+    requires { name.now.part ≡ 1 }
+    ensures same { L.view look.new ≡ L.view look.old }
+    ensures outcome { Renders (run (L.view look.old) (L.trace look.old) (sample_item name.now)) result (L.trace look.new) }
+{
+    let key = match own_key(alloc, name) {
+        Ok(key) => key,
+        Err(_) => return Rendered::Memory,
     };
-    let key = match key {
+    match look.look(alloc, &key) {
+        Answer::Seen(value) => match variable_page(alloc, name, &value) {
+            Ok(outcome) => Rendered::Out(outcome),
+            Err(_) => Rendered::Memory,
+        },
+        Answer::Needs(item) => Rendered::Needs(item),
+        Answer::Memory => Rendered::Memory,
+    }
+}
+
+fn render_content<L: Look>(alloc: Global, name: &ItemName, look: &mut L) -> Rendered
+    requires { name.now.part ≢ 1 }
+    ensures same { L.view look.new ≡ L.view look.old }
+    ensures outcome { Renders (run (L.view look.old) (L.trace look.old) (sample_item name.now)) result (L.trace look.new) }
+{
+    let key = match content_key(alloc, name) {
         Ok(key) => key,
         Err(_) => return Rendered::Memory,
     };
@@ -205,6 +243,20 @@ fn render_item<L: Look>(alloc: Global, name: &ItemName, look: &mut L) -> Rendere
         },
         Answer::Needs(item) => Rendered::Needs(item),
         Answer::Memory => Rendered::Memory,
+    }
+}
+
+fn variable_page(alloc: Global, name: &ItemName, variable: &Value) -> Result<Outcome, Memory>
+    ensures { IfOk result (λ outcome. (view : View) (trace : Trace) → run view trace (variable_page name.now (plain variable.now)) ≡ ran (met_of outcome) trace) }
+{
+    if is_true(variable) {
+        page_of(alloc, variable)
+    } else {
+        Ok(Outcome::Fault(SiteFault {
+            path: name.path.copy(alloc)?,
+            line: 1,
+            kind: FaultKind::Undefined,
+        }))
     }
 }
 
@@ -236,31 +288,46 @@ const SOURCE: &str = "*x*";
 
 const MADE: &str = "<p><em>x</em></p>\n";
 
-fn name(alloc: Global, part: u32) -> Result<ItemName, Memory>
+fn name(alloc: Global, path: &str, part: u32) -> Result<ItemName, Memory>
     ensures part { IfOk result (λ name. name.part ≡ part) }
-    ensures name { IfOk result (λ name. name ≡ record { path = codes "a.html"; part = part }) }
+    ensures name { IfOk result (λ name. name ≡ record { path = path.now; part = part }) }
 {
-    match SitePath::read(alloc, "a.html") {
+    match SitePath::read(alloc, path) {
         Ok(path) => Ok(ItemName { path, part }),
         Err(_) => Err(Memory),
     }
 }
 
-// A site whose second item has this source, of which this is made.
-fn make_three(alloc: Global, source: &str, made: &str) -> Result<Three, Memory>
+// A site whose second item has this source and this variable.
+fn make_three(alloc: Global, source: &str, variable: &str) -> Result<Three, Memory>
     ensures { IfOk result (λ three. three.second ≡ record { path = codes "a.html"; part = 1 }) }
 {
-    let first = name(alloc, 0)?;
-    let second = name(alloc, 1)?;
-    let third = name(alloc, 2)?;
     let source = Value::Text(Text::copy(alloc, source)?);
-    let made = Value::Text(Text::copy(alloc, made)?);
+    let variable = Value::Text(Text::copy(alloc, variable)?);
+    three_at(alloc, "a.html", source, variable, 0)
+}
+
+/// The same at a path, by values, beside which so many bytes are copied.
+pub(crate) fn three_at(
+    alloc: Global,
+    path: &str,
+    source: Value,
+    variable: Value,
+    copied: u64,
+) -> Result<Three, Memory>
+    requires { IsTrue (is_words (plain source)) }
+    ensures { IfOk result (λ three. three.second ≡ record { path = path.now; part = 1 }) }
+{
+    let first = name(alloc, path, 0)?;
+    let second = name(alloc, path, 1)?;
+    let third = name(alloc, path, 2)?;
     Ok(Three {
         first,
         second,
         third,
         source,
-        made,
+        variable,
+        copied,
     })
 }
 

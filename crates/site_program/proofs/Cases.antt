@@ -6,13 +6,13 @@ use Rattle.site_base.specs.Places.{Files}
 use Rattle.site_base.specs.declared.faults.SiteFault.{SiteFault}
 use Rattle.source_tree.specs.Scan.{scan_fault}
 use Rattle.out_tree.specs.Belief.{Belief, all_marked}
-use Rattle.out_tree.specs.Plan.{planned}
 use Rattle.out_tree.specs.declared.step.Step.{Step}
 use Rattle.site_reader.specs.Found.{Found}
+use Rattle.site_session.proofs.Full.{fault-now}
 use Rattle.site_session.specs.Full.{fault_of}
 use Rattle.site_session.specs.declared.output.Output.{Output}
 use Rattle.site_session.specs.Standing.{Standing}
-use Rattle.site_session.specs.Session.{Given, Event, Nothing, TheScan, TheList, TheSteps, event_of, full_now, scan, build, build_tree, build_reply, failed_in, output_failures, source_failures}
+use Rattle.site_session.specs.Session.{Given, Event, Nothing, TheScan, TheList, TheSteps, event_of, first_fault, full_now, plan, rendered_now, scan, build, build_tree, build_reply, failed_in, output_failures, source_failures}
 use Rattle.site_session.specs.Replies.{LeavesBy, Leaves, has_called_output}
 use Rattle.site_session.specs.declared.reply.Reply.{Reply}
 use Rattle.site_session.specs.declared.reply.Reply.TheVariants.{Scanned, ScanFailed, Faulty, Fine, Absent, Built, Marked, Unlisted, BadLine, Silent}
@@ -58,25 +58,25 @@ pub data BuildCase (given : Given) (now : Standing) (reply : Reply) : Type 0 whe
   NotListed : (output : Output) → full_now now ≡ Ok output → reply ≡ Unlisted → BuildCase given now reply
   Tried : (output : Output) (failed : List (List ℕ)) → full_now now ≡ Ok output → reply ≡ build_reply (all_marked given.output) output failed → BuildCase given now reply
 
-pub build_case : (given : Given) (now : Standing) (reply : Reply) (new : Standing) → now.belief ≡ None → build given now (full_now now) (event_of reply) ≡ (new, reply) → BuildCase given now reply
+pub build_case : (given : Given) (now : Standing) (reply : Reply) (new : Standing) → now.belief ≡ None → build given (rendered_now now) (full_now now) (event_of reply) ≡ (new, reply) → BuildCase given now reply
 build_case given now reply new unlisted answers = by (full_now now) refl answers
   where
     steps : Output → List Step
-    steps output = planned (all_marked given.output) output.tree output.keep
+    steps output = plan (all_marked given.output) output.written
 
-    of_event : (output : Output) (event : Event) → full_now now ≡ Ok output → build_tree given now output None event ≡ (new, reply) → BuildCase given now reply
+    of_event : (output : Output) (event : Event) → full_now now ≡ Ok output → build_tree given (rendered_now now) output None event ≡ (new, reply) → BuildCase given now reply
     of_event output TheList is e = NotListed output is (sym (ap (λ (p : Standing × Reply). p.1) e))
     of_event output Nothing is e = Tried output (failed_in (steps output) []) is (sym (ap (λ (p : Standing × Reply). p.1) e))
     of_event output TheScan is e = Tried output (failed_in (steps output) []) is (sym (ap (λ (p : Standing × Reply). p.1) e))
     of_event output (TheSteps paths) is e = Tried output (failed_in (steps output) paths) is (sym (ap (λ (p : Standing × Reply). p.1) e))
 
-    by : (f : Found Output) → full_now now ≡ f → build given now f (event_of reply) ≡ (new, reply) → BuildCase given now reply
+    by : (f : Found Output) → full_now now ≡ f → build given (rendered_now now) f (event_of reply) ≡ (new, reply) → BuildCase given now reply
     by (Err fault) is e = Faulted fault (sym (ap (λ (p : Standing × Reply). p.1) e)) is
-    by (Ok output) is e = of_event output (event_of reply) is (ap (λ (b : Option Belief). build_tree given now output b (event_of reply)) (sym unlisted) ∙ e)
+    by (Ok output) is e = of_event output (event_of reply) is (ap (λ (b : Option Belief). build_tree given (rendered_now now) output b (event_of reply)) (sym unlisted) ∙ e)
 
 -- where the scan has no fault, the fault is that of what the files stand for
 then_full : (now : Standing) {f : Found Output} → scan_fault (entries now.files) ≡ None → full_now now ≡ f → site_fault now ≡ fault_of f
-then_full now none is = ap (λ (s : Option SiteFault). option_or s (fault_of (full_now now))) none ∙ ap fault_of is
+then_full now none is = ap (λ (s : Option SiteFault). option_or s (first_fault now)) none ∙ fault-now now ∙ ap fault_of is
 
 -- what a run ends with after a scan that answered no number
 pub one_end : (given : Given) (old new : Standing) (reply : Reply) (told tells : Option Files) → ScanCase given old reply new → ((count : ℕ) → reply ≡ Scanned count → ⊥)
@@ -87,10 +87,10 @@ one_end given old new reply told tells (Failed is) other same =
     (record { comes = tt; left = same (ap has_called_output is) }, refl)
 one_end given old new reply told tells (Limited fault is some) other same =
     subst (λ (r : Reply). Ended (after_scan given old) told tells (reply_status r) × Replies given (after_scan given old) (reply_status r) (r ∷ [])) (sym is)
-    (record { comes = ap (λ (f : Option SiteFault). option_or f (fault_of (full_now (after_scan given old)))) some; left = same (ap has_called_output is) }, inl (some, refl))
+    (record { comes = ap (λ (f : Option SiteFault). option_or f (first_fault (after_scan given old))) some; left = same (ap has_called_output is) }, inl (some, refl))
 
 left_but : (now : Standing) (failed : List (List ℕ)) (told tells : Option Files) (belief : Option Belief) → Leaves now failed told tells belief → LeftBut failed now told tells
-left_but now failed told tells belief l = record { output = l.output; stands_for = l.stands_for; made = l.made }
+left_but now failed told tells belief l = record { written = l.written; stands_for = l.stands_for; made = l.made }
 
 -- what a run ends with after the reply to its build
 pub two_end : (given : Given) (first : Standing) (reply : Reply) (told tells : Option Files) (belief : Option Belief) → scan_fault (entries given.source) ≡ None
@@ -188,7 +188,7 @@ one_tells given old new reply told tells status is answers other same =
 -- and of one that ended at the reply to its build
 pub two_tells : (given : Given) (old mid last : Standing) (first reply : Reply) (count : ℕ) (told told_then tells : Option Files) (status : Status) → status ≡ reply_status reply
     → first ≡ Scanned count → old.belief ≡ None → scan given old (scan_fault (entries given.source)) (event_of first) ≡ (mid, first)
-    → build given mid (full_now mid) (event_of reply) ≡ (last, reply) → told_then ≡ told
+    → build given (rendered_now mid) (full_now mid) (event_of reply) ≡ (last, reply) → told_then ≡ told
     → LeavesBy mid reply told_then tells last.belief → (has_called_output reply ≡ false → tells ≡ told_then)
     → Tells given (after_scan given old) told tells status (reply_bytes given.why first ++ reply_bytes given.why reply)
 two_tells given old mid last first reply count told told_then tells status is number unlisted scans builds same leaves quiet =

@@ -7,8 +7,7 @@ use Rattle.std.proofs.lemmas.List.{append-nil, take-append-drop}
 use Rattle.site_base.specs.declared.faults.SiteFault.{SiteFault}
 use Rattle.source_tree.specs.Scan.{scan_fault}
 use Rattle.site_session.specs.Bytes.{fault_line, reply_bytes}
-use Rattle.site_session.specs.Full.{fault_of}
-use Rattle.site_session.specs.Session.{Given, Nothing, full_now, scan}
+use Rattle.site_session.specs.Session.{Given, Nothing, first_fault, scan}
 use Rattle.site_session.specs.Standing.{Standing}
 use Rattle.site_session.specs.declared.reply.Reply.TheVariants.{Scanned, Faulty}
 use Rattle.site_program.specs.Checks.{Checked, CheckTook, EndsAs, IsFrontOf, Said, SaidBoth, check_bytes, check_bytes_by, failed_bytes, verdict, verdict_status}
@@ -72,14 +71,14 @@ checked_by : (now : Standing) (f : Option SiteFault) → site_fault now ≡ f �
 checked_by now None is = is
 checked_by now (Some fault) is = is
 
-pub held_checked : (now : Standing) (s : Status) → scan_fault (entries now.files) ≡ None → EndsAs (verdict_status (fault_of (full_now now))) s → Checked now s
+pub held_checked : (now : Standing) (s : Status) → scan_fault (entries now.files) ≡ None → EndsAs (verdict_status (first_fault now)) s → Checked now s
 held_checked now s none (inl e) =
-    subst (λ x. Checked now x) (sym e) (checked_by now (fault_of (full_now now)) (ap (λ f. option_or f (fault_of (full_now now))) none))
+    subst (λ x. Checked now x) (sym e) (checked_by now (first_fault now) (ap (λ f. option_or f (first_fault now)) none))
 held_checked now s none (inr (inl e)) = subst (λ x. Checked now x) (sym e) tt
 held_checked now s none (inr (inr e)) = subst (λ x. Checked now x) (sym e) tt
 
 pub limit_checked : (now : Standing) (s : Status) (fault : SiteFault) → scan_fault (entries now.files) ≡ Some fault → EndsAs (Site fault) s → Checked now s
-limit_checked now s fault some (inl e) = subst (λ x. Checked now x) (sym e) (ap (λ f. option_or f (fault_of (full_now now))) some)
+limit_checked now s fault some (inl e) = subst (λ x. Checked now x) (sym e) (ap (λ f. option_or f (first_fault now)) some)
 limit_checked now s fault some (inr (inl e)) = subst (λ x. Checked now x) (sym e) tt
 limit_checked now s fault some (inr (inr e)) = subst (λ x. Checked now x) (sym e) tt
 
@@ -90,10 +89,10 @@ took_by given now before after None is = is
 took_by given now before after (Some fault) is = is
 
 pub held_took : (given : Given) (now : Standing) (before : List ℕ) (after : Option (List ℕ)) (s : Status) → scan_fault (entries given.source) ≡ None
-    → SaidBoth (reply_bytes false (scanned given)) (verdict (fault_of (full_now now))) (verdict_status (fault_of (full_now now))) before after s → CheckTook given now before after s
+    → SaidBoth (reply_bytes false (scanned given)) (verdict (first_fault now)) (verdict_status (first_fault now)) before after s → CheckTook given now before after s
 held_took given now before after s none (inl done) =
     subst (λ x. CheckTook given now before after x) (sym done.0)
-    (took_by given now before after (fault_of (full_now now)) (done.1 ∙ ap (λ f. Some (before ++ check_bytes_by given now f)) (sym none)))
+    (took_by given now before after (first_fault now) (done.1 ∙ ap (λ f. Some (before ++ check_bytes_by given now f)) (sym none)))
 held_took given now before after s none (inr (inl cut)) =
     subst (λ x. CheckTook given now before after x) (sym cut.0) (cut.1.0, inl (subst (λ f. IsFrontOf cut.1.0 (check_bytes_by given now f)) (sym none) cut.1.1), cut.1.2)
 held_took given now before after s none (inr (inr lack)) = subst (λ x. CheckTook given now before after x) (sym lack.0) lack.1

@@ -12,7 +12,6 @@ use Rattle.source_tree.specs.Put.{put_refusal}
 use Rattle.source_tree.specs.Scan.{scan_fault}
 use Rattle.source_tree.specs.declared.put_error.PutError.{PutError}
 use Rattle.out_tree.specs.Belief.{Belief, all_marked}
-use Rattle.out_tree.specs.Plan.{planned}
 use Rattle.site_reader.specs.Found.{Found}
 use Rattle.site_script.specs.Line.{line_number, ends}
 use Rattle.site_script.specs.Script.{Taken, first_line, is_bad, IsCutOff, IsFirst, IsFirstOr, ReadsFirst}
@@ -23,7 +22,7 @@ use Rattle.site_script.specs.declared.line.ScriptKind.{ScriptKind}
 use Rattle.site_session.specs.Standing.{Standing, Holds}
 use Rattle.site_session.specs.declared.output.Output.{Output}
 use Rattle.site_session.specs.Replies.{AllLeave, LineLeaves, has_called_output}
-use Rattle.site_session.specs.Session.{Given, Answers, Run, Nothing, event_of, step, put, scan, build, build_reply, build_tree, failed_in, full_now, source_failures, output_failures}
+use Rattle.site_session.specs.Session.{Given, Answers, Run, Nothing, event_of, step, put, scan, build, build_reply, build_tree, failed_in, full_now, plan, rendered_now, source_failures, output_failures}
 use Rattle.site_session.specs.Bytes.{reply_bytes, written}
 use Rattle.site_session.specs.declared.reply.Reply.{Reply}
 use Rattle.site_session.specs.declared.reply.Reply.TheVariants.{Scanned, ScanFailed, Faulty, Fine, Absent, Built, Marked, Unlisted, BadLine, Silent}
@@ -88,8 +87,8 @@ bad_build given old new bad kind (Err fault) e = let r = reply_is e in absurd (c
 bad_build given old new bad kind (Ok output) e = by old.belief e
   where
     by : (belief : Option Belief) → build_tree given old output belief Nothing ≡ (new, BadLine bad kind) → ⊥
-    by None e = bad_reply (all_marked given.output) output (failed_in (planned (all_marked given.output) output.tree output.keep) []) bad kind (reply_is e)
-    by (Some belief) e = bad_reply belief output (failed_in (planned belief output.tree output.keep) []) bad kind (reply_is e)
+    by None e = bad_reply (all_marked given.output) output (failed_in (plan (all_marked given.output) output.written) []) bad kind (reply_is e)
+    by (Some belief) e = bad_reply belief output (failed_in (plan belief output.written) []) bad kind (reply_is e)
 
 -- a bad line changes nothing
 bad_same : (given : Given) (old new : Standing) (number : ℕ) (at : Line) (bad : ℕ) (kind : ScriptKind) → Answers given old number at (BadLine bad kind) new → new ≡ old
@@ -97,7 +96,7 @@ bad_same given old new number line.Scan bad kind e = absurd (bad_scan given old 
 bad_same given old new number (line.Put path bytes) bad kind e = bad_put old new number path bytes bad kind (put_refusal old.files path bytes) e
 bad_same given old new number (line.Delete path) bad kind e = absurd (bad_delete (contains_key old.files path) bad kind (reply_is e))
 bad_same given old new number (line.Time seconds) bad kind e = let r = reply_is e in absurd (cc (r))
-bad_same given old new number line.Build bad kind e = absurd (bad_build given old new bad kind (full_now old) e)
+bad_same given old new number line.Build bad kind e = absurd (bad_build given (rendered_now old) new bad kind (full_now old) e)
 bad_same given old new number (line.Bad at kind') bad kind e = sym (ap (λ (p : Standing × Reply). p.0) e)
 bad_same given old new number line.End bad kind e = let r = reply_is e in absurd (cc (r))
 bad_same given old new number line.Eof bad kind e = let r = reply_is e in absurd (cc (r))

@@ -4,8 +4,7 @@ use Rattle.std.specs.FinMap.{entries}
 use Rattle.site_base.specs.declared.faults.SiteFault.{SiteFault}
 use Rattle.source_tree.specs.Scan.{scan_fault}
 use Rattle.site_session.specs.Bytes.{fault_line, reply_bytes}
-use Rattle.site_session.specs.Full.{fault_of}
-use Rattle.site_session.specs.Session.{Given, full_now}
+use Rattle.site_session.specs.Session.{Given, first_fault}
 use Rattle.site_session.specs.Standing.{Standing}
 use Rattle.site_program.specs.Once.{scanned, site_fault}
 use Rattle.site_program.specs.declared.status.Status.{Status}
@@ -35,7 +34,7 @@ verdict_status (Some fault) = Site fault
 -- what is written of a site: the fault of its scan, or the number of its files and the verdict
 abbrev pub check_bytes_by : Given → Standing → Option SiteFault → List ℕ
 check_bytes_by given now (Some fault) = fault_line fault
-check_bytes_by given now None = reply_bytes false (scanned given) ++ verdict (fault_of (full_now now))
+check_bytes_by given now None = reply_bytes false (scanned given) ++ verdict (first_fault now)
 
 abbrev pub check_bytes : Given → Standing → List ℕ
 check_bytes given now = check_bytes_by given now (scan_fault (entries given.source))

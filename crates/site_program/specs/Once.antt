@@ -6,10 +6,11 @@ use Rattle.site_base.specs.Places.{Files}
 use Rattle.site_base.specs.declared.faults.SiteFault.{SiteFault}
 use Rattle.source_tree.specs.Scan.{scan_fault}
 use Rattle.out_tree.specs.Belief.{all_marked}
-use Rattle.site_session.specs.Full.{fault_of}
+use Rattle.site_session.specs.Full.{full}
 use Rattle.site_session.specs.Standing.{Standing, MakesBut}
-use Rattle.site_session.specs.Session.{Given, full_now, report}
+use Rattle.site_session.specs.Session.{Given, first_fault, full_now, report}
 use Rattle.site_session.specs.declared.output.Output.{Output}
+use Rattle.site_session.specs.declared.output.Written.{Written}
 use Rattle.site_session.specs.declared.reply.Reply.{Reply}
 use Rattle.site_session.specs.declared.reply.Reply.TheVariants.{Scanned, ScanFailed, Faulty, Built, Marked, Unlisted}
 use Rattle.site_session.specs.Bytes.{written}
@@ -32,7 +33,7 @@ after_scan given first = record first { files = given.source }
 
 -- the first fault of a site: of the scan of its files, or else of what they stand for
 abbrev pub site_fault : Standing → Option SiteFault
-site_fault now = option_or (scan_fault (entries now.files)) (fault_of (full_now now))
+site_fault now = option_or (scan_fault (entries now.files)) (first_fault now)
 
 -- the answer to words with this usage kind, unless the sink fails or memory is wanting
 abbrev pub WasUsage : UsageKind → Status → Type 0
@@ -52,9 +53,9 @@ Answered now (Script number kind) = ⊥
 
 -- but for the paths that failed, the output is exactly what the site stands for
 pub record LeftBut (failed : List (List ℕ)) (now : Standing) (told tells : Option Files) : Type 0 where
-  pub output : Output
-  pub stands_for : full_now now ≡ Ok output
-  pub made : MakesBut failed output told tells
+  pub written : Written
+  pub stands_for : full now.files now.moment now.settings ≡ Ok written
+  pub made : MakesBut failed written told tells
 
 -- what the output has where it is told; after a failed sink or want of memory `OnceRun` tells what is believed of it
 abbrev pub Left : Standing → Option Files → Option Files → Status → Type 0

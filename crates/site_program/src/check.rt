@@ -3,8 +3,7 @@ ghost use Rattle.std.specs.Prelude.{◌≡◌, ◌≤◌, ℕ, List, Some, None,
 ghost use Rattle.site_base.specs.Ends.{Rose};
 ghost use Rattle.site_script.specs.Line.{is_moment};
 ghost use Rattle.site_session.specs.Bytes.{reply_bytes};
-ghost use Rattle.site_session.specs.Full.{fault_of};
-ghost use Rattle.site_session.specs.Session.{Given, full_now, start};
+ghost use Rattle.site_session.specs.Session.{Given, first_fault, start};
 ghost use Rattle.site_session.specs.declared.reply.Reply.TheVariants.{Scanned};
 ghost use Rattle.site_words.specs.declared.faults.UsageKind.{UsageKind};
 ghost use Rattle.site_program.specs.Checks.{Checked, CheckTook, EndsAs, Said, SaidBoth, verdict, verdict_status};
@@ -13,18 +12,21 @@ ghost use Rattle.site_program.specs.Runs.{reply_status};
 
 use crate::line::write_reply;
 use crate::status::{Status, status_of};
+use page_render::PageMeaning;
+use read_record::Renderer;
 use site_base::{ByteSink, Memory, Settings, SiteFault};
 use site_session::{Reply, Session};
 use source_tree::{ScanError, SourceTree};
 use std::alloc::Global;
 
 // Scans the source and, where that answers a number, tells the first fault of what its files stand for, or that they are clean.
-pub(crate) fn scan_and_check<S: SourceTree, K: ByteSink>(
+pub(crate) fn scan_and_check<S: SourceTree, K: ByteSink, R: Renderer<Meaning = PageMeaning>>(
     alloc: Global,
     settings: Settings,
     moment: i64,
     source: &mut S,
     sink: &mut K,
+    renderer: &R,
 ) -> Status
     requires { is_moment moment ≡ true }
     ensures told { (given : Given) → S.files source.old ≡ Some given.source → Checked (after_scan given (start settings moment)) result }
@@ -38,7 +40,7 @@ pub(crate) fn scan_and_check<S: SourceTree, K: ByteSink>(
 {
     let mut session = Session::open(alloc, settings, moment);
     match session.scan(alloc, source) {
-        Ok(count) => check_held(alloc, &session, count, sink),
+        Ok(count) => check_held(alloc, &session, count, sink, renderer),
         Err(ScanError::Failed) => tell(alloc, Reply::ScanFailed, sink),
         Err(ScanError::Limit(fault)) => tell(alloc, Reply::Faulty(fault), sink),
         Err(ScanError::Memory) => Status::Memory,
@@ -46,27 +48,38 @@ pub(crate) fn scan_and_check<S: SourceTree, K: ByteSink>(
 }
 
 // Tells how many files are held, and the verdict on them.
-fn check_held<K: ByteSink>(alloc: Global, session: &Session, count: u32, sink: &mut K) -> Status
-    ensures ends { EndsAs (verdict_status (fault_of (full_now session.now))) result }
+fn check_held<K: ByteSink, R: Renderer<Meaning = PageMeaning>>(
+    alloc: Global,
+    session: &Session,
+    count: u32,
+    sink: &mut K,
+    renderer: &R,
+) -> Status
+    ensures ends { EndsAs (verdict_status (first_fault session.now)) result }
     ensures took { (before : List ℕ) → K.taken sink.old ≡ Some before →
-        SaidBoth (reply_bytes false (Scanned count)) (verdict (fault_of (full_now session.now))) (verdict_status (fault_of (full_now session.now))) before (K.taken sink.new) result }
+        SaidBoth (reply_bytes false (Scanned count)) (verdict (first_fault session.now)) (verdict_status (first_fault session.now)) before (K.taken sink.new) result }
     ensures sink_fault { result ≡ Status.SinkFault → Rose (K.failures sink.old) (K.failures sink.new) }
 {
     match write_reply(alloc, false, &Reply::Scanned(count), sink) {
-        Ok(()) => judge_held(alloc, session, sink),
+        Ok(()) => judge_held(alloc, session, sink, renderer),
         Err(stop) => stop.status(),
     }
 }
 
 // Tells the first fault of what is held, or that it is clean.
-fn judge_held<K: ByteSink>(alloc: Global, session: &Session, sink: &mut K) -> Status
-    ensures ends { EndsAs (verdict_status (fault_of (full_now session.now))) result }
+fn judge_held<K: ByteSink, R: Renderer<Meaning = PageMeaning>>(
+    alloc: Global,
+    session: &Session,
+    sink: &mut K,
+    renderer: &R,
+) -> Status
+    ensures ends { EndsAs (verdict_status (first_fault session.now)) result }
     ensures took { (before : List ℕ) → K.taken sink.old ≡ Some before →
-        Said (verdict (fault_of (full_now session.now))) (verdict_status (fault_of (full_now session.now))) before (K.taken sink.new) result }
+        Said (verdict (first_fault session.now)) (verdict_status (first_fault session.now)) before (K.taken sink.new) result }
     ensures later { K.failures sink.old ≤ K.failures sink.new }
     ensures sink_fault { result ≡ Status.SinkFault → Rose (K.failures sink.old) (K.failures sink.new) }
 {
-    match session.first_fault(alloc) {
+    match session.first_fault(alloc, renderer) {
         Ok(fault) => tell_verdict(alloc, fault, sink),
         Err(Memory) => Status::Memory,
     }

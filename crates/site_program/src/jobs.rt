@@ -18,6 +18,8 @@ use crate::once::scan_and_build;
 use crate::status::Status;
 use crate::usage::{TopCall, read_order, tell_usage};
 use out_tree::OutTree;
+use page_render::PageMeaning;
+use read_record::{Renderer, Tally};
 use site_base::{ByteSink, ByteSource, Words};
 use site_script::{Line, ScriptReader, next_line};
 use site_session::{Reply, Session};
@@ -30,7 +32,14 @@ use std::sync::Wait;
 /// `build` and leaves the build out where the scan answers no number.
 ///
 /// It waits for its input, which may have no end.
-pub fn run_jobs<H: Wait, S: SourceTree, O: OutTree, I: ByteSource, K: ByteSink>(
+pub fn run_jobs<
+    H: Wait,
+    S: SourceTree,
+    O: OutTree,
+    I: ByteSource,
+    K: ByteSink,
+    R: Renderer<Meaning = PageMeaning>,
+>(
     rt: &H,
     alloc: Global,
     words: &Words,
@@ -39,6 +48,8 @@ pub fn run_jobs<H: Wait, S: SourceTree, O: OutTree, I: ByteSource, K: ByteSink>(
     out: &mut O,
     input: &mut I,
     sink: &mut K,
+    renderer: &R,
+    tally: &mut Tally,
 ) -> Status
     // A session does the lines of its script one after another, and takes no byte behind a line before it is done. It tells what it
     // did; each build leaves the output as its reply says, and no other line calls it.
@@ -80,9 +91,13 @@ pub fn run_jobs<H: Wait, S: SourceTree, O: OutTree, I: ByteSource, K: ByteSink>(
 {
     match read_order(alloc, words, TopCall::Jobs, moment) {
         Ok(order) => match order {
-            Order::Build(options) => scan_and_build(alloc, options, moment, source, out, sink),
+            Order::Build(options) => scan_and_build(
+                alloc, options, moment, source, out, sink, renderer, tally,
+            ),
             Order::Session(options) => {
-                run_session(rt, alloc, options, moment, source, out, input, sink)
+                run_session(
+                    rt, alloc, options, moment, source, out, input, sink, renderer, tally,
+                )
             }
             _ => unreachable!(),
         },
@@ -92,7 +107,14 @@ pub fn run_jobs<H: Wait, S: SourceTree, O: OutTree, I: ByteSource, K: ByteSink>(
 }
 
 // The script on the input.
-fn run_session<H: Wait, S: SourceTree, O: OutTree, I: ByteSource, K: ByteSink>(
+fn run_session<
+    H: Wait,
+    S: SourceTree,
+    O: OutTree,
+    I: ByteSource,
+    K: ByteSink,
+    R: Renderer<Meaning = PageMeaning>,
+>(
     rt: &H,
     alloc: Global,
     options: Options,
@@ -101,6 +123,8 @@ fn run_session<H: Wait, S: SourceTree, O: OutTree, I: ByteSource, K: ByteSink>(
     out: &mut O,
     input: &mut I,
     sink: &mut K,
+    renderer: &R,
+    tally: &mut Tally,
 ) -> Status
     requires { is_moment moment ≡ true }
     ensures run { (given : Given) (text before : List ℕ) → given.why ≡ options.why → S.files source.old ≡ Some given.source → O.contents out.old ≡ Some given.output →
@@ -121,11 +145,20 @@ fn run_session<H: Wait, S: SourceTree, O: OutTree, I: ByteSource, K: ByteSink>(
         out,
         input,
         sink,
+        renderer,
+        tally,
     )
 }
 
 // The lines on the input, one after another.
-fn do_lines<H: Wait, S: SourceTree, O: OutTree, I: ByteSource, K: ByteSink>(
+fn do_lines<
+    H: Wait,
+    S: SourceTree,
+    O: OutTree,
+    I: ByteSource,
+    K: ByteSink,
+    R: Renderer<Meaning = PageMeaning>,
+>(
     rt: &H,
     alloc: Global,
     why: bool,
@@ -134,6 +167,8 @@ fn do_lines<H: Wait, S: SourceTree, O: OutTree, I: ByteSource, K: ByteSink>(
     out: &mut O,
     input: &mut I,
     sink: &mut K,
+    renderer: &R,
+    tally: &mut Tally,
 ) -> Status
     ensures run { (given : Given) (text before : List ℕ) → given.why ≡ why → S.files source.old ≡ Some given.source → Holds (O.contents out.old) session.old.belief given.output →
         I.left input.old ≡ Some text → K.taken sink.old ≡ Some before →
@@ -155,6 +190,8 @@ fn do_lines<H: Wait, S: SourceTree, O: OutTree, I: ByteSource, K: ByteSink>(
             source,
             out,
             sink,
+            renderer,
+            tally,
         ) {
             Some(status) => return status,
             None => {}
@@ -164,7 +201,7 @@ fn do_lines<H: Wait, S: SourceTree, O: OutTree, I: ByteSource, K: ByteSink>(
 }
 
 // Does what a line says; `None` where the session goes on.
-fn turn<S: SourceTree, O: OutTree, K: ByteSink>(
+fn turn<S: SourceTree, O: OutTree, K: ByteSink, R: Renderer<Meaning = PageMeaning>>(
     alloc: Global,
     why: bool,
     session: &mut Session,
@@ -173,6 +210,8 @@ fn turn<S: SourceTree, O: OutTree, K: ByteSink>(
     source: &mut S,
     out: &mut O,
     sink: &mut K,
+    renderer: &R,
+    tally: &mut Tally,
 ) -> Option<Status>
     requires { IsInTime line }
     ensures next { (given : Given) (before : List ℕ) → given.why ≡ why → S.files source.old ≡ Some given.source → Holds (O.contents out.old) session.old.belief given.output →
@@ -194,7 +233,9 @@ fn turn<S: SourceTree, O: OutTree, K: ByteSink>(
         Line::Eof => Some(Status::Done),
         Line::Failed => Some(Status::InputFault),
         Line::Memory => Some(Status::Memory),
-        line => match do_line(alloc, why, session, number, line, source, out, sink) {
+        line => match do_line(
+            alloc, why, session, number, line, source, out, sink, renderer, tally,
+        ) {
             Ok(reply) => bad_status(reply),
             Err(stop) => Some(stop.status()),
         },

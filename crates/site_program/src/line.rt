@@ -11,6 +11,8 @@ ghost use Rattle.site_program.specs.Runs.{Stopped};
 
 use crate::status::Stop;
 use out_tree::OutTree;
+use page_render::PageMeaning;
+use read_record::{Renderer, Tally};
 use site_base::{ByteSink, Memory};
 use site_script::Line;
 use site_session::{Reply, Session};
@@ -18,7 +20,7 @@ use source_tree::SourceTree;
 use std::alloc::Global;
 
 // Does a line, and writes what is replied, with the reasons of a build where `why` asks for them.
-pub(crate) fn do_line<S: SourceTree, O: OutTree, K: ByteSink>(
+pub(crate) fn do_line<S: SourceTree, O: OutTree, K: ByteSink, R: Renderer<Meaning = PageMeaning>>(
     alloc: Global,
     why: bool,
     session: &mut Session,
@@ -27,6 +29,8 @@ pub(crate) fn do_line<S: SourceTree, O: OutTree, K: ByteSink>(
     source: &mut S,
     out: &mut O,
     sink: &mut K,
+    renderer: &R,
+    tally: &mut Tally,
 ) -> Result<Reply, Stop>
     requires { IsInTime line }
     ensures answers { (given : Given) → S.files source.old ≡ Some given.source → Holds (O.contents out.old) session.old.belief given.output →
@@ -51,7 +55,7 @@ pub(crate) fn do_line<S: SourceTree, O: OutTree, K: ByteSink>(
     ensures sink_later { K.failures sink.old ≤ K.failures sink.new }
     ensures sink_cause { result ≡ Err Stop.Sink → Rose (K.failures sink.old) (K.failures sink.new) }
 {
-    let reply = match session.answer(alloc, number, line, source, out) {
+    let reply = match session.answer(alloc, number, line, source, out, renderer, tally) {
         Ok(reply) => reply,
         Err(Memory) => return Err(Stop::Memory),
     };

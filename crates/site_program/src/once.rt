@@ -16,6 +16,8 @@ use crate::line::do_line;
 use crate::status::{Status, status_of};
 use crate::usage::{TopCall, read_order, tell_usage};
 use out_tree::OutTree;
+use page_render::{PageMeaning, PageRenderer};
+use read_record::{Renderer, Tally};
 use site_base::{ByteSink, Settings, Words};
 use site_script::Line;
 use site_session::{Reply, Session};
@@ -70,6 +72,7 @@ pub fn run_once<S: SourceTree, O: OutTree, K: ByteSink>(
     ensures out_fault { (count : ℕ) → result ≡ Status.OutFault count → min (O.failures out.old + max count 1) (2 ^ 64 - 1) ≤ O.failures out.new }
     ensures sink_fault { result ≡ Status.SinkFault → Rose (K.failures sink.old) (K.failures sink.new) }
 {
+    let renderer = PageRenderer::new(alloc);
     match read_order(alloc, words, TopCall::Once, moment) {
         Ok(order) => match order {
             Order::Once(settings) => {
@@ -78,9 +81,14 @@ pub fn run_once<S: SourceTree, O: OutTree, K: ByteSink>(
                     settings,
                     why: false,
                 };
-                scan_and_build(alloc, options, moment, source, out, sink)
+                let mut tally = Tally::new(alloc);
+                scan_and_build(
+                    alloc, options, moment, source, out, sink, &renderer, &mut tally,
+                )
             }
-            Order::Check(settings) => scan_and_check(alloc, settings, moment, source, sink),
+            Order::Check(settings) => {
+                scan_and_check(alloc, settings, moment, source, sink, &renderer)
+            }
             _ => unreachable!(),
         },
         Err(WordsError::Usage(kind)) => tell_usage(alloc, kind, sink),
@@ -89,13 +97,20 @@ pub fn run_once<S: SourceTree, O: OutTree, K: ByteSink>(
 }
 
 // The session over the script `scan`, `build`, where the build is left out if the scan answers no number.
-pub(crate) fn scan_and_build<S: SourceTree, O: OutTree, K: ByteSink>(
+pub(crate) fn scan_and_build<
+    S: SourceTree,
+    O: OutTree,
+    K: ByteSink,
+    R: Renderer<Meaning = PageMeaning>,
+>(
     alloc: Global,
     options: Options,
     moment: i64,
     source: &mut S,
     out: &mut O,
     sink: &mut K,
+    renderer: &R,
+    tally: &mut Tally,
 ) -> Status
     requires { is_moment moment ≡ true }
     ensures told { (given : Given) → S.files source.old ≡ Some given.source → O.contents out.old ≡ Some given.output →
@@ -122,6 +137,8 @@ pub(crate) fn scan_and_build<S: SourceTree, O: OutTree, K: ByteSink>(
         source,
         out,
         sink,
+        renderer,
+        tally,
     ) {
         Ok(scanned) => scanned,
         Err(stop) => return stop.status(),
@@ -139,6 +156,8 @@ pub(crate) fn scan_and_build<S: SourceTree, O: OutTree, K: ByteSink>(
         source,
         out,
         sink,
+        renderer,
+        tally,
     ) {
         Ok(built) => status_of(built),
         Err(stop) => stop.status(),

@@ -11,6 +11,8 @@ use Rattle.site_config.specs.Texts.{mapping}
 use Rattle.site_config.specs.declared.config.Config.{Config}
 use Rattle.site_items.specs.Matter as matter
 use Rattle.site_items.specs.Outcomes.{Outcome}
+use Rattle.site_reader.specs.Paginating.{HasSize}
+use Rattle.site_reader.specs.Placing.{config_path}
 use Rattle.site_reader.specs.Sites as sites
 use Rattle.site_reader.proofs.Weights.{file_found, found_before, found_value}
 
@@ -19,13 +21,9 @@ pub record IsFormed (config : Config) : Type 0 where
   pub forms : wrong_key (hash config.all) ≡ None
   pub says : config ≡ of.config (hash config.all)
 
-with_pages : (number : Option ℕ) (made config : Config) → ◌≡◌ {A = Outcome Config} (sites.with_pages number made) (Ok config) → made ≡ config
-with_pages None made config e = found_value made config e
-with_pages (Some number) made config e = absurd (cc (e))
-
 configured : (wrong : Option (List ℕ)) (ps : Pairs) (config : Config) → wrong ≡ wrong_key (hash ps) → ◌≡◌ {A = Outcome Config} (sites.configured wrong ps) (Ok config) → IsFormed config
 configured None ps config is e =
-    let made : of.config (hash ps) ≡ config = with_pages (of.config (hash ps)).paginate (of.config (hash ps)) config e in
+    let made : of.config (hash ps) ≡ config = found_value (of.config (hash ps)) config e in
     subst IsFormed made (record { forms = sym is; says = refl })
 configured (Some key) ps config is e = absurd (cc (e))
 
@@ -43,4 +41,11 @@ config_in (Some bytes) config e = by (is_utf8 bytes) e
     by false is = absurd (cc (is))
 
 pub config_formed : (files : Files) (config : Config) → sites.config files ≡ Ok config → IsFormed config
-config_formed files config e = config_in (get files sites.config_path) config (file_found sites.config_path (sites.config_in (get files sites.config_path)) config e)
+config_formed files config e = config_in (get files config_path) config (file_found config_path (sites.config_in (get files config_path)) config e)
+
+-- a configuration that a mapping says has the number that its value says
+pub has_size : (ps : Pairs) (config : Config) → config ≡ of.config (hash ps) → HasSize config
+has_size ps config is = subst HasSize (sym is) refl
+
+pub sized : {config : Config} → IsFormed config → HasSize config
+sized {config} formed = has_size config.all config formed.says

@@ -1,5 +1,5 @@
 -- Lists in which no two elements have the same name.
-use Rattle.std.proofs.Common.{◌≡◌, ◌≢◌, ℕ, ◌+◌, ◌≤◌, Bool, true, false, cond, is_some, List, [], ◌∷◌, Some, Less, Equal, Greater, Ordering, arith, refl, sym, ap, subst, ◌∙◌}
+use Rattle.std.proofs.Common.{◌≡◌, ◌≢◌, ℕ, ◌+◌, ◌≤◌, Bool, true, false, cond, is_some, List, [], ◌∷◌, map, Some, Less, Equal, Greater, Ordering, arith, refl, sym, ap, subst, ◌∙◌}
 use Rattle.std.specs.Cmp.{tied_itself}
 use Rattle.std.specs.Cmp.Lexicographic.{nat_list_cmp_total}
 use Rattle.std.specs.FinMap.{contains_key, entries, find, get-entries, nat_cmp-IsAntisymmetric, slice_cmp-IsAntisymmetric}
@@ -50,17 +50,35 @@ met : (b : Bool) (n : ℕ) → b ≡ true → 1 ≤ one b + n
 met true n is = omega arith
 met false n is = absurd (cc (is))
 
+-- no name stands twice in a list
+abbrev pub Distinct : {B : Type 0} → List B → Type 0
+Distinct [] = Unit {0}
+Distinct (n ∷ ns) = AllByRecursion (λ m. n ≢ m) ns × Distinct ns
+
+module _ {A B : Type 0} (name : A → B) where
+  of_names : (P : B → Type 0) (xs : List A) → AllByRecursion P (map name xs) → AllByRecursion (λ x. P (name x)) xs
+  of_names P [] all = tt
+  of_names P (x ∷ xs) all = (all.0, of_names P xs all.1)
+
+  pub distinct_differ : (xs : List A) → Distinct (map name xs) → Differ name xs
+  distinct_differ [] apart = λ i j d l m. absurd (omega (arith, m))
+  distinct_differ (x ∷ xs) apart =
+      AllPairs-cons (λ y z. name y ≢ name z) x xs (All-from_recursion (λ y. name x ≢ name y) xs (of_names (λ n. name x ≢ n) xs apart.0)) (distinct_differ xs apart.1)
+
 module _ {A : Type 0} (name : A → List ℕ) where
-  none_named : (q : List ℕ) (xs : List A) → weight (λ x. named q (name x)) xs ≡ 0 → AllByRecursion (λ x. q ≢ name x) xs
+  none_named : (q : List ℕ) (xs : List A) → weight (λ x. named q (name x)) xs ≡ 0 → AllByRecursion (λ n. q ≢ n) (map name xs)
   none_named q [] none = tt
   none_named q (x ∷ xs) none = (other q (name x) (none_first (same_path q (name x)) _ none), none_named q xs (omega (arith, none)))
 
   -- where each name stands there once at most
-  pub differ : (xs : List A) → ((q : List ℕ) → weight (λ x. named q (name x)) xs ≤ 1) → Differ name xs
-  differ [] once = λ i j d l m. absurd (omega (arith, m))
-  differ (x ∷ xs) once =
+  pub distinct : (xs : List A) → ((q : List ℕ) → weight (λ x. named q (name x)) xs ≤ 1) → Distinct (map name xs)
+  distinct [] once = tt
+  distinct (x ∷ xs) once =
       let alone : weight (λ y. named (name x) (name y)) xs ≡ 0 = none_behind (same_path (name x) (name x)) _ (itself (name x) (name x) refl) (once (name x)) in
-      AllPairs-cons (λ y z. name y ≢ name z) x xs (All-from_recursion (λ y. name x ≢ name y) xs (none_named (name x) xs alone)) (differ xs (λ q. omega (arith, once q)))
+      (none_named (name x) xs alone, distinct xs (λ q. omega (arith, once q)))
+
+  pub differ : (xs : List A) → ((q : List ℕ) → weight (λ x. named q (name x)) xs ≤ 1) → Differ name xs
+  differ xs once = distinct_differ name xs (distinct xs once)
 
   -- what holds of each name that stands there
   pub each_named : (P : List ℕ → Type 0) (xs : List A) → ((q : List ℕ) → 1 ≤ weight (λ x. named q (name x)) xs → P q) → AllByRecursion (λ x. P (name x)) xs

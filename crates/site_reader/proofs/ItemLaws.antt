@@ -3,6 +3,7 @@ use Rattle.std.proofs.Common.{◌≡◌, ℕ, ◌+◌, ◌≤◌, Bool, List, []
 use Rattle.std.specs.Prelude.{ℤ}
 use Rattle.site_config.specs.declared.config.Config.{Config}
 use Rattle.site_config.specs.declared.scope.Scope.{Scope}
+use Rattle.site_items.specs.Defaults.{by_strength}
 use Rattle.site_items.specs.Items.{item}
 use Rattle.site_items.specs.declared.item.Item.{Item}
 use Rattle.site_items.specs.declared.kind.Kind.{Kind}
@@ -14,7 +15,7 @@ use Rattle.site_reader.specs.Ranks.{Ranked, rank, rank_cmp, with_item}
 use Rattle.site_reader.specs.Sites as sites
 use Rattle.site_reader.specs.declared.rank.Rank.{Rank}
 use Rattle.site_reader.specs.declared.site_item.SiteItem.{SiteItem}
-use Rattle.site_reader.proofs.Weights.{each_adds, found_before, found_value, weight, weight-append, weight-insert_entry, weight-map}
+use Rattle.site_reader.proofs.Weights.{each_adds, found_before, found_value, weight, weight-append, weight-insert_entry, weight-map, weight_length}
 
 module _ (w : List ℕ → ℕ) where
   abbrev ranks : Ranked → ℕ
@@ -58,3 +59,8 @@ module _ (w : List ℕ → ℕ) where
 
   pub files_placed : (config : Config) (drafts : Bool) (files : List File) → weight (λ f. w f.1.0) (map (placed config drafts) files) ≡ weight (λ f. w f.0) files
   files_placed config drafts files = weight-map (λ f. w f.1.0) (placed config drafts) files
+
+-- there are no more items than files
+pub items_few : (config : Config) (now : ℤ) (future : Bool) (files : List Placed) (made : List SiteItem) → sites.items config now future files ≡ Ok made → length made ≤ length files
+items_few config now future files made e =
+    omega (arith, items_by_add (λ path. 1) (by_strength config.defaults) config now future files made e, weight_length made, weight_length files)

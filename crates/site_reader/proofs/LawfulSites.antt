@@ -1,10 +1,9 @@
 -- A site is lawful with its files.
-use Rattle.std.proofs.Common.{◌≡◌, ℕ, ◌≤◌, Bool, true, List, length, map, All, Option, Some, None, Result, Ok, Err, arith, ap, subst, ◌∙◌}
+use Rattle.std.proofs.Common.{◌≡◌, ℕ, ◌*◌, ◌≤◌, Bool, true, List, length, map, All, Option, Some, None, Result, Ok, Err, arith, ap, subst, ◌∙◌}
 use Rattle.std.specs.FinMap.{contains_key, entries, len, len-entries}
 use Rattle.std.specs.Prelude.{ℤ, IfOk, MatchResult}
 use Rattle.std.proofs.lemmas.List.Elements.{All-from_recursion}
 use Rattle.site_base.specs.Places.{Files}
-use Rattle.site_base.specs.declared.item_name.ItemName.{ItemName}
 use Rattle.site_base.specs.declared.settings.Settings.{Settings}
 use Rattle.site_config.specs.declared.config.Config.{Config}
 use Rattle.site_dates.specs.Moment.{IsMoment}
@@ -13,18 +12,20 @@ use Rattle.site_items.specs.declared.static_file.StaticFile.{StaticFile}
 use Rattle.site_reader.specs.Data.{data_tree}
 use Rattle.site_reader.specs.Found.{IsFirst}
 use Rattle.site_reader.specs.Lawful.{Differ, HasVariables, IsLawful, KnowsItself}
+use Rattle.site_reader.specs.Paginating.{paginated}
 use Rattle.site_reader.specs.Placing.{Placed, builds_drafts, builds_future, placed}
 use Rattle.site_reader.specs.Sites as sites
 use Rattle.site_reader.specs.declared.site.Site.{Site}
 use Rattle.site_reader.specs.declared.site_error.SiteError.{SiteError}
 use Rattle.site_reader.specs.declared.site_item.SiteItem.{SiteItem}
 use Rattle.source_tree.specs.Limits.{most_files}
-use Rattle.site_reader.proofs.ConfigurationLaws.{IsFormed, config_formed}
-use Rattle.site_reader.proofs.Differing.{differ, each_named, file_held, file_once, named}
+use Rattle.site_reader.proofs.ConfigurationLaws.{IsFormed, config_formed, sized}
+use Rattle.site_reader.proofs.Differing.{differ, distinct, distinct_differ, each_named, file_held, file_once, named}
 use Rattle.site_reader.proofs.IncludeLaws.{includes_differ}
 use Rattle.site_reader.proofs.ItemLaws.{copies_add, files_placed, items_by_add}
 use Rattle.site_reader.proofs.LayoutLaws.{layouts_differ, layouts_have}
-use Rattle.site_reader.proofs.VariableLaws.{items_know}
+use Rattle.site_reader.proofs.PagedItems.{ArePaged, paged_items}
+use Rattle.site_reader.proofs.VariableLaws.{AreOwn, items_know}
 use Rattle.site_reader.proofs.Weights.{found_before, found_value, weight, weight_length}
 
 -- ---- the parts of a site
@@ -32,7 +33,9 @@ use Rattle.site_reader.proofs.Weights.{found_before, found_value, weight, weight
 -- what was found in the files for each part of a site
 record Parts (config : Config) (now : ℤ) (future : Bool) (files : List Placed) (made : Site) : Type 0 where
   config_is : config ≡ made.config
-  items : sites.items config now future files ≡ Ok made.items
+  read : List SiteItem
+  items : sites.items config now future files ≡ Ok read
+  paged : paginated config read ≡ Ok made.items
   layouts : sites.layouts files ≡ Ok made.layouts
   includes : sites.includes files ≡ Ok made.includes
   copies : sites.copies config files ≡ made.statics
@@ -48,10 +51,13 @@ parts config now future files made e =
     let layouts = found_before (sites.layouts files) _ made tree.2 in
     let includes = found_before (sites.includes files) _ made layouts.2 in
     let items = found_before (sites.items config now future files) _ made includes.2 in
-    let is = clash_free _ _ made items.2 in
+    let paged = found_before (paginated config items.0) _ made items.2 in
+    let is = clash_free _ _ made paged.2 in
     record {
       config_is = ap (λ (s : Site). s.config) is;
-      items = items.1 ∙ ap (λ (s : Site). Ok s.items) is;
+      read = items.0;
+      items = items.1;
+      paged = paged.1 ∙ ap (λ (s : Site). Ok s.items) is;
       layouts = layouts.1 ∙ ap (λ (s : Site). Ok s.layouts) is;
       includes = includes.1 ∙ ap (λ (s : Site). Ok s.includes) is;
       copies = ap (λ (s : Site). s.statics) is;
@@ -70,11 +76,12 @@ module _ {files : Files} {now : ℤ} {settings : Settings} {config : Config} {ma
   here : Parts config now (builds_future config settings) (map (placed config (builds_drafts config settings)) (entries files)) made
   here = parts config now (builds_future config settings) (map (placed config (builds_drafts config settings)) (entries files)) made given.read
 
-  items_weigh : (w : List ℕ → ℕ) → weight (λ i. w i.name.path) made.items ≤ weight (λ f. w f.0) (entries files)
+  -- the items before pagination weigh no more than files
+  items_weigh : (w : List ℕ → ℕ) → weight (λ i. w i.name.path) here.read ≤ weight (λ f. w f.0) (entries files)
   items_weigh w =
       omega (
         arith,
-        items_by_add w (by_strength config.defaults) config now (builds_future config settings) (map (placed config (builds_drafts config settings)) (entries files)) made.items here.items,
+        items_by_add w (by_strength config.defaults) config now (builds_future config settings) (map (placed config (builds_drafts config settings)) (entries files)) here.read here.items,
         files_placed w config (builds_drafts config settings) (entries files),
       )
 
@@ -87,11 +94,6 @@ module _ {files : Files} {now : ℤ} {settings : Settings} {config : Config} {ma
         files_placed w config (builds_drafts config settings) (entries files),
       )
 
-  items_differ : Differ (λ (i : SiteItem). i.name) made.items
-  items_differ =
-      let paths : Differ (λ (i : SiteItem). i.name.path) made.items = differ (λ i. i.name.path) made.items (λ q. omega (arith, items_weigh (named q), file_once files q)) in
-      λ i j d l m e. paths i j d l m (ap (λ (n : ItemName). n.path) e)
-
   copies_differ : Differ (λ (s : StaticFile). s.path) made.statics
   copies_differ = differ (λ s. s.path) made.statics (λ q. omega (arith, copies_weigh (named q), file_once files q))
 
@@ -103,13 +105,21 @@ module _ {files : Files} {now : ℤ} {settings : Settings} {config : Config} {ma
   formed : IsFormed made.config
   formed = subst IsFormed here.config_is (config_formed files config given.config_read)
 
+  own : AreOwn config here.read
+  own = items_know config (by_strength config.defaults) now (builds_future config settings) (map (placed config (builds_drafts config settings)) (entries files)) here.read here.items
+
+  with_pages : ArePaged config here.read made.items
+  with_pages =
+      let paths = distinct (λ (i : SiteItem). i.name.path) here.read (λ q. omega (arith, items_weigh (named q), file_once files q)) in
+      paged_items config here.read made.items (sized (config_formed files config given.config_read)) paths own here.paged
+
   items_have : All (λ (item : SiteItem). KnowsItself item × HasVariables config item) made.items
-  items_have = items_know config (by_strength config.defaults) now (builds_future config settings) (map (placed config (builds_drafts config settings)) (entries files)) made.items here.items
+  items_have = All-from_recursion (λ (item : SiteItem). KnowsItself item × HasVariables config item) made.items with_pages.has
 
   lawful : IsLawful files made
   lawful = record {
-    few = omega (arith, weight_length made.items, weight_length (entries files), len-entries files, items_weigh (λ path. 1));
-    items_differ = items_differ;
+    few = omega (arith, with_pages.few, weight_length here.read, weight_length (entries files), len-entries files, items_weigh (λ path. 1));
+    items_differ = distinct_differ (λ (i : SiteItem). i.name) made.items with_pages.apart;
     layouts_differ = layouts_differ (map (placed config (builds_drafts config settings)) (entries files)) made.layouts here.layouts;
     includes_differ = includes_differ files config (builds_drafts config settings) made.includes here.includes;
     items_known = λ place other inside. (items_have place other inside).0;
@@ -128,6 +138,6 @@ read_lawfully files now settings config (Ok made) config_read moment is = lawful
 read_lawfully files now settings config (Err error) config_read moment is = tt
 
 -- what is held passes no limit
-pub few_under : (files : Files) (read : Result Site SiteError) → len files ≤ most_files → IfOk read (IsLawful files) → IfOk read (λ made. length made.items ≤ most_files)
+pub few_under : (files : Files) (read : Result Site SiteError) → len files ≤ most_files → IfOk read (IsLawful files) → IfOk read (λ made. length made.items ≤ 2 * most_files)
 few_under files (Ok made) within is = omega (arith, within, is.few)
 few_under files (Err error) within is = tt

@@ -8,6 +8,9 @@ mod ItemLaws
 mod LawfulSites
 mod LayoutLaws
 mod NeighbourLaws
+mod PageLaws
+mod PageRows
+mod PagedItems
 mod RankOrder
 mod RisingLaws
 mod VariableLaws

@@ -1,5 +1,5 @@
 -- The variables by which an item is known.
-use Rattle.std.proofs.Common.{◌≡◌, ℕ, Bool, true, false, ◌||◌, List, [], ◌∷◌, codes, length, nat_lt, Option, Some, None, Ok, Err, Less, Equal, Greater, Ordering, if◌then◌else◌, All, refl, sym, ap, subst, ◌∙◌}
+use Rattle.std.proofs.Common.{◌≡◌, ℕ, Bool, true, false, ◌||◌, List, [], ◌∷◌, codes, length, nat_lt, Option, Some, None, Ok, Err, Less, Equal, Greater, Ordering, if◌then◌else◌, refl, sym, ap, subst, ◌∙◌}
 use Rattle.std.specs.BTreeMap.{insert_entry}
 use Rattle.std.specs.List.{AllByRecursion}
 use Rattle.std.specs.Option.{unwrap_or}
@@ -7,7 +7,6 @@ use Rattle.std.specs.Ordering.{match_ordering}
 use Rattle.std.specs.Prelude.{ℤ, ◌==◌}
 use Rattle.std.proofs.Common.{inl, inr}
 use Rattle.std.specs.Str.{bytes_eq, is_utf8}
-use Rattle.std.proofs.lemmas.List.Elements.{All-from_recursion}
 use Rattle.site_base.specs.Chains.{◌>>=◌}
 use Rattle.site_base.specs.Plain.{Plain, nil, bool, hash, site_item, text, Pairs, no_pairs, pair, get, set}
 use Rattle.site_base.specs.declared.faults.FaultKind.TheVariants as fault
@@ -258,7 +257,7 @@ module _ (config : Config) where
   documents = length config.collections
 
   -- what is said of each item
-  abbrev Has : SiteItem → Type 0
+  abbrev pub Has : SiteItem → Type 0
   Has item = KnowsItself item × HasVariables config item
 
   knows_itself : (rank : Rank) (before behind : Option Rank) (made : Item) → IsKnown config rank.group rank.path made → Has (site_item_of documents rank before behind made)
@@ -267,12 +266,16 @@ module _ (config : Config) where
       let itself : KnowsItself (site_item_of documents rank before behind made) = record {
         path = ap (λ o. unwrap_or o nil) known.its_path;
         relative_path = ap (λ o. unwrap_or o nil) known.its_relative_path;
+        address = made.url;
+        own = λ _. refl;
         url = ap (λ o. unwrap_or o nil) known.its_url;
         ext = ap (λ o. unwrap_or o nil) known.its_ext;
       } in
       let variables : HasVariables config (site_item_of documents rank before behind made) = record {
         kind = is.1.kind;
         in_group = is.1.in_group;
+        address = made.url;
+        own = λ _. refl;
         given = is.1.given;
         moment = is.1.moment;
         previous = neighbour rank before;
@@ -280,18 +283,28 @@ module _ (config : Config) where
         previous_is = is_neighbour rank before;
         next_is = is_neighbour rank behind;
         are = ap (λ vars. hash (with_neighbours documents rank before behind vars)) is.1.are;
-        paginator = refl;
+        paginator = inl refl;
       } in
       (itself, variables)
+
+  pub all_own : (before : Option Rank) (es : Ranked) → AllByRecursion (λ (item : SiteItem). item.name.part ≡ 0) (site_items documents before es)
+  unfolding site_items
+  all_own before [] = tt
+  all_own before (e ∷ es) = (refl, all_own (Some e.0) es)
 
   all_know : (before : Option Rank) (es : Ranked) → AreKnown config es → AllByRecursion Has (site_items documents before es)
   unfolding site_items
   all_know before [] all = tt
   all_know before (e ∷ es) all = (knows_itself e.0 before _ e.1 all.0, all_know (Some e.0) es all.1)
 
-  pub items_know : (scopes : List Scope) (now : ℤ) (future : Bool) (files : List Placed) (made : List SiteItem) → sites.items_by scopes config now future files ≡ Ok made → All Has made
+  -- what is said of the items before pagination
+  pub record AreOwn (made : List SiteItem) : Type 0 where
+    pub parts : AllByRecursion (λ (item : SiteItem). item.name.part ≡ 0) made
+    pub has : AllByRecursion Has made
+
+  pub items_know : (scopes : List Scope) (now : ℤ) (future : Bool) (files : List Placed) (made : List SiteItem) → sites.items_by scopes config now future files ≡ Ok made → AreOwn made
   items_know scopes now future files made e =
       let ranked = found_before (each (sites.add_item config scopes now future) files []) (sites.items_in_order config) made e in
       let known : AreKnown config ranked.0 =
       each_keeps (sites.add_item config scopes now future) (AreKnown config) (λ f before more is all. add_known config scopes now future f.1 (as_item f) before more is all) files [] ranked.0 ranked.1 tt in
-      subst (All Has) (found_value (site_items documents None ranked.0) made ranked.2) (All-from_recursion Has _ (all_know None ranked.0 known))
+      subst AreOwn (found_value (site_items documents None ranked.0) made ranked.2) (record { parts = all_own None ranked.0; has = all_know None ranked.0 known })

@@ -1,9 +1,10 @@
 -- When a site is lawful with the files that it was read from.
-use Rattle.std.specs.Prelude.{◌≡◌, ◌≢◌, ◌≤◌, ◌⊎◌, ℕ, ℤ, true, nat_lt, List, codes, length, All, AllPairs, Option, None}
+use Rattle.std.specs.Prelude.{◌≡◌, ◌≢◌, ◌≤◌, ◌⊎◌, ◌*◌, ℕ, zero, suc, ℤ, true, nat_lt, List, codes, length, All, AllPairs, Option, None}
 use Rattle.std.specs.FinMap.{contains_key, len}
 use Rattle.site_base.specs.Places.{Files}
 use Rattle.site_base.specs.Plain.{Pairs, Plain, hash, nil, site_item, text}
 use Rattle.site_base.specs.View.{plain}
+use Rattle.site_base.specs.declared.item_name.ItemName.{ItemName}
 use Rattle.site_config.specs.Config.{config}
 use Rattle.site_config.specs.Forms.{setting}
 use Rattle.site_config.specs.Table.{wrong_key}
@@ -14,7 +15,9 @@ use Rattle.site_items.specs.Items.{kind_named, kind_variables, placed}
 use Rattle.site_items.specs.declared.kind.Kind.{Kind}
 use Rattle.site_items.specs.declared.layout_file.LayoutFile.{LayoutFile}
 use Rattle.site_reader.specs.Neighbours.{between}
+use Rattle.site_reader.specs.Paginating.{paginator}
 use Rattle.site_reader.specs.Ranks.{group_of}
+use Rattle.site_reader.specs.declared.paging.Paging.{Paging}
 use Rattle.site_reader.specs.declared.site.Site.{Site}
 use Rattle.site_reader.specs.declared.site_item.SiteItem.{SiteItem}
 
@@ -22,21 +25,44 @@ use Rattle.site_reader.specs.declared.site_item.SiteItem.{SiteItem}
 abbrev pub Differ : {A B : Type 0} → (A → B) → List A → Type 0
 Differ name xs = AllPairs (λ x y. name x ≢ name y) xs
 
+-- the URL that the variables of an item tell: its own; of a page that pagination generates, that of its template
+abbrev pub IsAddress : SiteItem → List ℕ → Type 0
+IsAddress item address = item.name.part ≡ 0 → address ≡ item.url
+
 -- the variables by which an item is known: its path, also as `relative_path`, its URL, and its extension
 pub record KnowsItself (item : SiteItem) : Type 0 where
   pub path : setting (codes "path") (plain item.vars) ≡ text item.name.path
   pub relative_path : setting (codes "relative_path") (plain item.vars) ≡ text item.name.path
-  pub url : setting (codes "url") (plain item.vars) ≡ text item.url
+  pub address : List ℕ
+  pub own : IsAddress item address
+  pub url : setting (codes "url") (plain item.vars) ≡ text address
   pub ext : setting (codes "ext") (plain item.vars) ≡ text (extension (file_name item.name.path))
 
 -- an item of the site by its name, or nothing
 abbrev pub IsNeighbour : Plain → Type 0
 IsNeighbour v = (v ≡ nil) ⊎ ((path : List ℕ) × (v ≡ site_item path 0))
 
+-- the group of an item of a kind, and behind it that of the pages which pagination generates
+abbrev pub part_group : Config → Kind → ℕ → ℕ
+part_group config kind zero = group_of config kind
+part_group config kind (suc part) = suc (group_of config kind)
+
+-- the page of a pagination that an item is
+abbrev pub page_of : ℕ → ℕ
+page_of zero = 1
+page_of (suc part) = suc part
+
+-- nil, or what the template knows of its page
+abbrev pub HasPaginator : SiteItem → Type 0
+HasPaginator item =
+    (plain item.paginator ≡ nil) ⊎ ((paging : Paging) × (posts : List ItemName) × (plain item.paginator ≡ hash (paginator paging (page_of item.name.part) posts)))
+
 -- the variables of an item have their forms: over those that front matter and defaults give it stand those of its kind, and of a document the two neighbours. After Jekyll 4's manual, "Variables"
 pub record HasVariables (config : Config) (item : SiteItem) : Type 0 where
   pub kind : Kind
-  pub in_group : group_of config kind ≡ item.group
+  pub in_group : part_group config kind item.name.part ≡ item.group
+  pub address : List ℕ
+  pub own : IsAddress item address
   pub given : Pairs
   pub moment : Option ℤ
   pub previous : Plain
@@ -45,18 +71,17 @@ pub record HasVariables (config : Config) (item : SiteItem) : Type 0 where
   pub next_is : IsNeighbour next
   pub are :
       let path = item.name.path in
-      let own = placed path item.url (kind_named config.timezone kind (stem (file_name path)) given) in
-      plain item.vars ≡ hash (between (nat_lt item.group (length config.collections)) previous next (kind_variables config kind path item.url moment own))
-  -- no page of a pagination is built
-  pub paginator : plain item.paginator ≡ nil
+      let above = placed path address (kind_named config.timezone kind (stem (file_name path)) given) in
+      plain item.vars ≡ hash (between (nat_lt item.group (length config.collections)) previous next (kind_variables config kind path address moment above))
+  pub paginator : HasPaginator item
 
 -- the variables of a layout are a hash
 abbrev pub HasHash : LayoutFile → Type 0
 HasHash layout = (pairs : Pairs) × (plain layout.vars ≡ hash pairs)
 
 pub record IsLawful (files : Files) (site : Site) : Type 0 where
-  -- there are no more items than files
-  pub few : length site.items ≤ len files
+  -- there are no more items than files, and as many pages that pagination generates
+  pub few : length site.items ≤ 2 * len files
   -- no two items have the same name, nor two layouts, nor two includes
   pub items_differ : Differ (λ item. item.name) site.items
   pub layouts_differ : Differ (λ layout. layout.name) site.layouts

@@ -5,5 +5,6 @@ pub mod Ranks
 pub mod Ruled
 pub mod Neighbours
 pub mod Outputs
+pub mod Paginating
 pub mod Sites
 pub mod Lawful

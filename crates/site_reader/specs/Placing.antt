@@ -1,5 +1,5 @@
 -- What the files of a site are: each file with its place, and what it is there. After Jekyll 4's manual, "Directory Structure".
-use Rattle.std.specs.Prelude.{ℕ, ◌||◌, Bool, true, false, List, Option, Some, None, if◌then◌else◌}
+use Rattle.std.specs.Prelude.{ℕ, ◌||◌, Bool, true, false, List, codes, Option, Some, None, if◌then◌else◌}
 use Rattle.site_base.specs.declared.settings.Settings.{Settings}
 use Rattle.front_yaml.specs.Front.{front}
 use Rattle.front_yaml.specs.declared.front_matter.Front.{Front}
@@ -11,6 +11,10 @@ use Rattle.site_files.specs.declared.place.Place.TheVariants as place
 use Rattle.site_items.specs.declared.kind.Kind.{Kind}
 use Rattle.site_items.specs.declared.kind.Kind.TheVariants as kind
 use Rattle.site_reader.specs.declared.placing.PlacedFile.{PlacedFile}
+
+-- the file of the configuration
+abbrev pub config_path : List ℕ
+config_path = codes "_config.yml"
 
 -- a path with its bytes
 abbrev pub File : Type 0

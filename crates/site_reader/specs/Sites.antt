@@ -1,6 +1,6 @@
 -- A site as data: what its files make, or its first fault. The configuration comes first, then data files, layouts, includes and
--- items, each in the order of paths, and at last paths that cannot stand side by side.
-use Rattle.std.specs.Prelude.{ℕ, ℤ, Bool, List, [], ◌∷◌, ◌++◌, codes, length, map, Option, Some, None, Ok, Err, if◌then◌else◌}
+-- items, each in the order of paths, then the pages of a pagination, and at last paths that cannot stand side by side.
+use Rattle.std.specs.Prelude.{ℕ, ℤ, Bool, List, [], ◌∷◌, ◌++◌, length, map, Option, Some, None, Ok, Err, if◌then◌else◌}
 use Rattle.std.specs.BTreeMap.{insert_entry}
 use Rattle.std.specs.FinMap.{entries, get}
 use Rattle.std.specs.Map.{values_of}
@@ -31,26 +31,17 @@ use Rattle.site_reader.specs.Data.{data_tree}
 use Rattle.site_reader.specs.Found.{Found, each, in_file}
 use Rattle.site_reader.specs.Neighbours.{site_items}
 use Rattle.site_reader.specs.Outputs.{first_clash}
-use Rattle.site_reader.specs.Placing.{File, Placed, as_copy, as_item, builds_drafts, builds_future, placed}
+use Rattle.site_reader.specs.Paginating.{paginated}
+use Rattle.site_reader.specs.Placing.{File, Placed, as_copy, as_item, builds_drafts, builds_future, config_path, placed}
 use Rattle.site_reader.specs.Ranks.{Ranked, with_item}
 use Rattle.site_reader.specs.declared.site.Site.{Site}
 use Rattle.site_reader.specs.declared.site_item.SiteItem.{SiteItem}
 
 -- ---- the configuration
 
-abbrev pub config_path : List ℕ
-config_path = codes "_config.yml"
-
--- a mapping whose values have their forms; pagination is not built yet
-abbrev pub with_pages : Option ℕ → Config → Outcome Config
-with_pages None c = Ok c
-with_pages (Some number) c = Err (0, fault.Unbuilt)
-
-abbrev pub built_config : Config → Outcome Config
-built_config c = with_pages c.paginate c
-
+-- a mapping whose values have their forms
 abbrev pub configured : Option (List ℕ) → Pairs → Outcome Config
-configured None ps = built_config (of.config (hash ps))
+configured None ps = Ok (of.config (hash ps))
 configured (Some key) ps = Err (0, fault.Config)
 
 abbrev pub text_config : Option (List ℕ) → Outcome Config
@@ -133,7 +124,8 @@ placed_site config now future files =
     data_tree files >>= λ tree.
     layouts files >>= λ layouts.
     includes files >>= λ includes.
-    items config now future files >>= λ items.
+    items config now future files >>= λ made.
+    paginated config made >>= λ items.
     clash_free (record {
       config = config;
       items = items;

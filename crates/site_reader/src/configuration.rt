@@ -4,7 +4,9 @@ ghost use Rattle.std.specs.FinMap as map;
 ghost use Rattle.std.specs.Option.{option_copied};
 ghost use Rattle.site_dates.specs.Offset.{IsOffset};
 ghost use Rattle.site_reader.specs.Found.{IsFirst, in_file};
-ghost use Rattle.site_reader.specs.Sites.{built_config, config, config_in, config_path, text_config};
+ghost use Rattle.site_reader.specs.Paginating.{HasSize};
+ghost use Rattle.site_reader.specs.Placing.{config_path};
+ghost use Rattle.site_reader.specs.Sites.{config, config_in, text_config};
 
 use crate::site_error::{SiteError, fault_at};
 use crate::texts::as_text;
@@ -17,6 +19,7 @@ use std::alloc::Global;
 pub(crate) fn config(alloc: Global, held: &Held) -> Result<Config, SiteError>
     ensures read { let found = config held.now in MatchResult result (λ made. found ≡ Ok made) (IsFirst found) }
     ensures offset { IfOk result (λ made. IsOffset made.timezone) }
+    ensures size { IfOk result HasSize }
 {
     let path = config_path(alloc)?;
     match held.get(&path) {
@@ -25,7 +28,8 @@ pub(crate) fn config(alloc: Global, held: &Held) -> Result<Config, SiteError>
     }
 }
 
-fn config_path(alloc: Global) -> Result<SitePath, Memory>
+/// The path of the configuration.
+pub(crate) fn config_path(alloc: Global) -> Result<SitePath, Memory>
     ensures { IfOk result (λ path. path ≡ config_path) }
 {
     match SitePath::read(alloc, "_config.yml") {
@@ -38,6 +42,7 @@ fn config_in(alloc: Global, path: &SitePath, bytes: &[u8]) -> Result<Config, Sit
     ensures read { let found = in_file path.now (config_in (Some bytes.now)) in
         MatchResult result (λ made. found ≡ Ok made) (IsFirst found) }
     ensures offset { IfOk result (λ made. IsOffset made.timezone) }
+    ensures size { IfOk result HasSize }
 {
     match as_text(bytes) {
         Some(text) => text_config(alloc, path, Some(text)),
@@ -49,25 +54,14 @@ fn text_config(alloc: Global, path: &SitePath, text: Option<&str>) -> Result<Con
     ensures read { let found = in_file path.now (text_config (option_copied text.entry)) in
         MatchResult result (λ made. found ≡ Ok made) (IsFirst found) }
     ensures offset { IfOk result (λ made. IsOffset made.timezone) }
+    ensures size { IfOk result HasSize }
 {
     match read_config(alloc, text) {
-        Ok(config) => built(alloc, path, config),
+        Ok(config) => Ok(config),
         Err(ConfigError::Yaml(fault)) => {
             Err(fault_at(alloc, path, fault.line, FaultKind::Yaml(fault.kind)))
         }
         Err(ConfigError::Key(_)) => Err(fault_at(alloc, path, 0, FaultKind::Config)),
         Err(ConfigError::Memory) => Err(SiteError::Memory),
     }
-}
-
-// Pagination is not built yet.
-fn built(alloc: Global, path: &SitePath, config: Config) -> Result<Config, SiteError>
-    ensures read { let found = in_file path.now (built_config config) in
-        MatchResult result (λ made. found ≡ Ok made) (IsFirst found) }
-    ensures same { IfOk result (λ made. made ≡ config) }
-{
-    if config.paginate.is_some() {
-        return Err(fault_at(alloc, path, 0, FaultKind::Unbuilt));
-    }
-    Ok(config)
 }

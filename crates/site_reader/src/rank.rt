@@ -1,5 +1,5 @@
 // The order in which items are rendered.
-ghost use Rattle.std.specs.Prelude.{◌≡◌, IfOk, length};
+ghost use Rattle.std.specs.Prelude.{◌≡◌, ◌<◌, ◌^◌, IfOk, length};
 ghost use Rattle.site_reader.specs.Ranks.{group_of, group_place, rank};
 
 use crate::name::Name;
@@ -67,7 +67,8 @@ impl GroupPlace {
 
 /// How many groups of documents there are.
 pub(crate) fn document_groups(config: &Config) -> u64
-    ensures { result ≡ length config.now.collections }
+    ensures count { result ≡ length config.now.collections }
+    ensures few { result < 2 ^ 63 }
 {
     config.collections.as_slice().len() as u64
 }

@@ -1,10 +1,11 @@
 // The reading of a site.
-ghost use Rattle.std.specs.Prelude.{◌≡◌, ◌≤◌, IfOk, MatchResult, Ok, length, map};
+ghost use Rattle.std.specs.Prelude.{◌≡◌, ◌*◌, ◌≤◌, IfOk, MatchResult, Ok, length, map};
 ghost use Rattle.std.specs.FinMap as finite;
 ghost use Rattle.site_dates.specs.Moment.{IsMoment};
 ghost use Rattle.site_dates.specs.Offset.{IsOffset};
 ghost use Rattle.site_reader.specs.Found.{IsFirst};
 ghost use Rattle.site_reader.specs.Lawful.{IsLawful};
+ghost use Rattle.site_reader.specs.Paginating.{HasSize};
 ghost use Rattle.site_reader.specs.Placing.{seen};
 ghost use Rattle.site_reader.specs.Sites.{clash_free, config, items, items_by, placed_site, site, site_with};
 ghost use Rattle.source_tree.specs.Limits.{CanBeHeld, most_files};
@@ -16,6 +17,7 @@ use crate::includes::includes;
 use crate::items::items;
 use crate::layouts::layouts;
 use crate::outputs::first_clash;
+use crate::paginating::paginated;
 use crate::placing::{PlacedFile, builds_drafts, builds_future, placed_files};
 use crate::site::{Site, SiteItems};
 use crate::site_error::SiteError;
@@ -41,7 +43,8 @@ pub fn read_site(
     ensures read { let found = site held.now moment settings.now in
         MatchResult result (λ made. found ≡ Ok made) (IsFirst found) }
     ensures lawful { IfOk result (IsLawful held.now) }
-    ensures few { IfOk result (λ made. length made.items ≤ most_files) }
+    ensures few { IfOk result (λ made. length made.items ≤ 2 * most_files) }
+    ensures moment { IfOk result (λ made. made.moment ≡ moment) }
 {
     match config(alloc, held) {
         Ok(config) => site_with(alloc, held, moment, settings, config),
@@ -58,11 +61,13 @@ fn site_with(
     config: Config,
 ) -> Result<Site, SiteError>
     requires offset { IsOffset config.timezone }
+    requires size { HasSize config }
     requires moment { IsMoment moment }
     ensures read { let found = site_with held.now moment settings.now config in
         MatchResult result (λ made. found ≡ Ok made) (IsFirst found) }
     // What is held passes no limit.
     ensures within { CanBeHeld held.now }
+    ensures moment { IfOk result (λ made. made.moment ≡ moment) }
 {
     let files = placed_files(alloc, held, &config, builds_drafts(&config, settings))?;
     let future = builds_future(&config, settings);
@@ -78,14 +83,18 @@ fn placed_site(
     config: Config,
 ) -> Result<Site, SiteError>
     requires offset { IsOffset config.timezone }
+    requires size { HasSize config }
     requires moment { IsMoment now }
-    ensures { let found = placed_site config now future (map seen files.entry.now) in
+    requires few { length files.now ≤ most_files }
+    ensures read { let found = placed_site config now future (map seen files.entry.now) in
         MatchResult result (λ made. found ≡ Ok made) (IsFirst found) }
+    ensures moment { IfOk result (λ made. made.moment ≡ now) }
 {
     let tree = data_tree(alloc, files)?;
     let layouts = layouts(alloc, files)?;
     let includes = includes(alloc, files)?;
     let items = ruled_items(alloc, files, now, future, &config)?;
+    let items = paginated(alloc, &config, items)?;
     let statics = copies(alloc, &config, files)?;
     clash_free(
         alloc,
@@ -147,8 +156,9 @@ fn scoped_items(
 
 // A site of which no output is a folder of another.
 fn clash_free(alloc: Global, site: Site) -> Result<Site, SiteError>
-    ensures { let found = clash_free site in
+    ensures free { let found = clash_free site in
         MatchResult result (λ made. found ≡ Ok made) (IsFirst found) }
+    ensures same { IfOk result (λ made. made ≡ site) }
 {
     match first_clash(alloc, site.items.as_slice(), site.statics.as_slice())? {
         None => Ok(site),

@@ -5,7 +5,8 @@ use site_base::{ItemName, SitePath, Text, Value};
 #[derive(Drop)]
 pub struct SiteItem {
     pub name: ItemName,
-    /// The place of its group, from 0: the collections in the order of the configuration, posts first, then the pages.
+    /// The place of its group, from 0: the collections in the order of the configuration, posts first, then the pages, then the
+    /// pages that pagination generates.
     pub group: u64,
     pub body: Text,
     /// Its variables, by name.
@@ -13,6 +14,6 @@ pub struct SiteItem {
     pub url: Text,
     /// The path of its output, where it has one.
     pub dest: Option<SitePath>,
-    /// What its template knows of the page of a pagination; nil as long as none is built.
+    /// What its template knows of its page of a pagination: a hash, and nil where it is no such page.
     pub paginator: Value,
 }

@@ -8,7 +8,6 @@ use Rattle.out_tree.specs.Exact.{IsExactlyBut, MadeBut, MarksThose}
 use Rattle.out_tree.specs.Keep.{is_kept}
 use Rattle.out_tree.specs.declared.state.State.TheVariants as state
 use Rattle.std.specs.FinMap.{get}
-use Rattle.out_tree.specs.Plan.{planned}
 use Rattle.out_tree.specs.Device.{Calls}
 use Rattle.out_tree.specs.Tries.{CallsFor, DoneBut, InOrder, StaysTrue}
 use Rattle.out_tree.specs.declared.step.Call.{Call}
@@ -16,9 +15,10 @@ use Rattle.out_tree.specs.declared.step.Call.TheVariants as call
 use Rattle.site_base.specs.declared.faults.SiteFault.{SiteFault}
 use Rattle.out_tree.specs.declared.step.Step.{Step}
 use Rattle.site_session.specs.Standing.{Standing, TrueTo, Holds, MakesBut, MarksExactly}
-use Rattle.site_session.specs.Session.{Given, Reply, Event, Built, Marked, Unlisted, Nothing, TheScan, TheList, TheSteps, event_of, failed_in, failed_of, build_listed, build_reply, build_tree, report}
+use Rattle.site_session.specs.Session.{Given, Reply, Event, Built, Marked, Unlisted, Nothing, TheScan, TheList, TheSteps, event_of, failed_in, failed_of, build_listed, build_reply, build_tree, plan, report}
 use Rattle.site_session.specs.Replies.{built_reply, build_calls, Called, ListsAtMost}
 use Rattle.site_session.specs.declared.output.Output.{Output}
+use Rattle.site_session.specs.declared.output.Written.{Written}
 use Rattle.site_session.specs.declared.build.Report.{Report}
 use Rattle.site_session.specs.declared.build.Rebuilt.{Rebuilt}
 use Rattle.site_session.specs.declared.build.Rebuilt.TheVariants as rebuilt
@@ -58,11 +58,11 @@ nothing (x ∷ xs) e = absurd (omega arith)
 
 -- the reply of a build that did all that it planned
 pub all_done : (now : Standing) (output : Output) (belief : Belief) (new : Option Belief) (failed : List (List ℕ)) (made : Report) (reply : Reply)
-    → failed ≡ [] → InOrder (planned belief output.tree output.keep) failed → new ≡ Some (after belief (planned belief output.tree output.keep) failed)
+    → failed ≡ [] → InOrder (plan belief output.written) failed → new ≡ Some (after belief (plan belief output.written) failed)
     → made ≡ report belief output → Some (Built made) ≡ Some reply
     → build_listed now output belief (failed_of (event_of reply)) ≡ (record now { belief = new }, reply)
 all_done now output belief new failed made reply none order new_is made_is is =
-    let steps = planned belief output.tree output.keep in
+    let steps = plan belief output.written in
     let reply_is : Built made ≡ reply = cc in
     let order : [] ≡ failed_in steps [] = subst (λ (f : List (List ℕ)). f ≡ failed_in steps f) none order in
     let belief_is : Some (after belief steps []) ≡ new = ap (λ (f : List (List ℕ)). Some (after belief steps f)) (sym none) ∙ sym new_is in
@@ -72,7 +72,7 @@ all_done now output belief new failed made reply none order new_is made_is is =
 
 -- the reply of a build of which something failed
 pub some_failed : (now : Standing) (output : Output) (belief : Belief) (new : Option Belief) (failed : List (List ℕ)) (reply : Reply)
-    → (failed ≡ [] → ⊥) → InOrder (planned belief output.tree output.keep) failed → new ≡ Some (after belief (planned belief output.tree output.keep) failed)
+    → (failed ≡ [] → ⊥) → InOrder (plan belief output.written) failed → new ≡ Some (after belief (plan belief output.written) failed)
     → Some (Marked failed) ≡ Some reply
     → build_listed now output belief (failed_of (event_of reply)) ≡ (record now { belief = new }, reply)
 some_failed now output belief new [] reply some order new_is is = absurd (some refl)
@@ -90,17 +90,17 @@ holds_after was now told tells steps failed old first some done stays told_is tr
     holds_listed tells now after.0 first some after.1 (stays.stays old after.0 told_is after.1 truth)
 
 -- the output is exactly the tree but for what failed, and that is marked
-pub makes_but : (was now : Option Belief) (told tells : Option Files) (output : Output) (steps : List Step) (failed other : List (List ℕ)) (old : Files)
-    → DoneBut failed steps told tells → MadeBut failed (believed was) output.tree output.keep told tells → MarksThose failed output.keep (believed was) (believed now) → other ≡ failed
-    → told ≡ Some old → IsTrueOf (believed was) old → MakesBut other output told tells × MarksExactly other output.keep now
-makes_but was now told tells output steps failed other old done made marks same told_is truth =
+pub makes_but : (was now : Option Belief) (told tells : Option Files) (written : Written) (steps : List Step) (failed other : List (List ℕ)) (old : Files)
+    → DoneBut failed steps told tells → MadeBut failed (believed was) written.tree written.keep told tells → MarksThose failed written.keep (believed was) (believed now) → other ≡ failed
+    → told ≡ Some old → IsTrueOf (believed was) old → MakesBut other written told tells × MarksExactly other written.keep now
+makes_but was now told tells written steps failed other old done made marks same told_is truth =
     let after = done.tells_still old told_is in
-    subst (λ (f : List (List ℕ)). MakesBut f output told tells × MarksExactly f output.keep now) (sym same) (
+    subst (λ (f : List (List ℕ)). MakesBut f written told tells × MarksExactly f written.keep now) (sym same) (
       record { old = old; new = after.0; told_is = told_is; tells_is = after.1; exactly = made.is_exactly old after.0 told_is after.1 truth },
       λ path apart. (marked_listed path apart, λ there. marks.failed_marked path there),
     )
   where
-    marked_listed : (path : List ℕ) → is_kept output.keep path ≡ false → get (believed now) path ≡ Some state.Marked → is_listed path failed ≡ true
+    marked_listed : (path : List ℕ) → is_kept written.keep path ≡ false → get (believed now) path ≡ Some state.Marked → is_listed path failed ≡ true
     marked_listed path apart at =
         elim (is_listed path failed) as (λ b. is_listed path failed ≡ b → b ≡ true) [
           | true ↦ λ e. refl
@@ -125,8 +125,8 @@ pub holds_again : (told : Option Files) (belief : Option Belief) (first other : 
 holds_again told None first other some h = absurd (cc (some))
 holds_again told (Some belief) first other some h = record { there = h.there; told_is = h.told_is; is_true = h.is_true }
 
-pub same_told : (failed : List (List ℕ)) (output : Output) (told was tells : Option Files) → told ≡ was → MakesBut failed output told tells → MakesBut failed output was tells
-same_told failed output told was tells same made =
+pub same_told : (failed : List (List ℕ)) (written : Written) (told was tells : Option Files) → told ≡ was → MakesBut failed written told tells → MakesBut failed written was tells
+same_told failed written told was tells same made =
     record { old = made.old; new = made.new; told_is = sym same ∙ made.told_is; tells_is = made.tells_is; exactly = made.exactly }
 
 -- ---- how the output was called
@@ -150,28 +150,28 @@ pub record ListedBy (was : Option Belief) (old new : Option (List Call)) : Type 
   pub once : was ≡ None → Calls old new (call.List ∷ [])
 
 -- the steps follow the list
-build_called : (was mid : Option Belief) (told : Option Files) (first : Files) (output : Output) (old between new : Option (List Call)) → Listed was mid told → Holds told was first → ListedBy was old between
-    → CallsFor (planned (believed mid) output.tree output.keep) between new → Calls old new (build_calls was first output)
-build_called (Some belief) mid told first output old between new l h by steps =
+build_called : (was mid : Option Belief) (told : Option Files) (first : Files) (written : Written) (old between new : Option (List Call)) → Listed was mid told → Holds told was first → ListedBy was old between
+    → CallsFor (plan (believed mid) written) between new → Calls old new (build_calls was first written)
+build_called (Some belief) mid told first written old between new l h by steps =
     let same : believed mid ≡ belief = ap believed (l.again refl) in
-    subst (λ (c : Option (List Call)). Calls c new (map call.Try (planned belief output.tree output.keep))) (by.again refl)
-    (subst (λ (b : Belief). CallsFor (planned b output.tree output.keep) between new) same steps)
-build_called None mid told first output old between new l h by steps =
+    subst (λ (c : Option (List Call)). Calls c new (map call.Try (plan belief written))) (by.again refl)
+    (subst (λ (b : Belief). CallsFor (plan b written) between new) same steps)
+build_called None mid told first written old between new l h by steps =
     let same : believed mid ≡ all_marked first = ap believed (l.marks refl first (h.told_is ∙ ap Some h.is_true)) in
-    calls_then old between new (call.List ∷ []) (map call.Try (planned (all_marked first) output.tree output.keep)) (by.once refl)
-    (subst (λ (b : Belief). CallsFor (planned b output.tree output.keep) between new) same steps)
+    calls_then old between new (call.List ∷ []) (map call.Try (plan (all_marked first) written)) (by.once refl)
+    (subst (λ (b : Belief). CallsFor (plan b written) between new) same steps)
 
 -- no step was tried
 lists_at_most : (was : Option Belief) (old new : Option (List Call)) → ListedBy was old new → ListsAtMost was old new
 lists_at_most (Some belief) old new by = inl (subst (λ (c : Option (List Call)). Calls c new []) (by.again refl) (no_calls new))
 lists_at_most None old new by = inr (refl, by.once refl)
 
-pub called : (was mid : Option Belief) (told : Option Files) (first : Files) (output : Output) (old between new : Option (List Call)) (result : Result Rebuilt Memory) → Listed was mid told → Holds told was first → ListedBy was old between
+pub called : (was mid : Option Belief) (told : Option Files) (first : Files) (written : Written) (old between new : Option (List Call)) (result : Result Rebuilt Memory) → Listed was mid told → Holds told was first → ListedBy was old between
     → ((fault : SiteFault) → result ≡ Ok (rebuilt.Fault fault) → ⊥) → ((reply : Reply) → built_reply result ≡ Some reply → event_of reply ≡ TheList → ⊥)
-    → OnOk result (CallsFor (planned (believed mid) output.tree output.keep) between new) → OnErr result (new ≡ between) → Called was first output result old new
-called was mid told first output old between new (Ok (rebuilt.Built report)) l h by fault unlisted steps same = build_called was mid told first output old between new l h by steps
-called was mid told first output old between new (Ok (rebuilt.Marked paths)) l h by fault unlisted steps same = build_called was mid told first output old between new l h by steps
-called was mid told first output old between new (Ok (rebuilt.Fault f)) l h by fault unlisted steps same = absurd (fault f refl)
-called was mid told first output old between new (Ok rebuilt.Unlisted) l h by fault unlisted steps same = absurd (unlisted Unlisted refl refl)
-called was mid told first output old between new (Err error) l h by fault unlisted steps same =
+    → OnOk result (CallsFor (plan (believed mid) written) between new) → OnErr result (new ≡ between) → Called was first written result old new
+called was mid told first written old between new (Ok (rebuilt.Built report)) l h by fault unlisted steps same = build_called was mid told first written old between new l h by steps
+called was mid told first written old between new (Ok (rebuilt.Marked paths)) l h by fault unlisted steps same = build_called was mid told first written old between new l h by steps
+called was mid told first written old between new (Ok (rebuilt.Fault f)) l h by fault unlisted steps same = absurd (fault f refl)
+called was mid told first written old between new (Ok rebuilt.Unlisted) l h by fault unlisted steps same = absurd (unlisted Unlisted refl refl)
+called was mid told first written old between new (Err error) l h by fault unlisted steps same =
     subst (λ (c : Option (List Call)). ListsAtMost was old c) (sym same) (lists_at_most was old between by)

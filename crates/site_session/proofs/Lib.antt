@@ -1,4 +1,6 @@
 pub mod Moments
-pub mod Rendering
+pub mod Full
 pub mod Builds
 pub mod Steps
+mod ShownLaws
+mod MadeLaws

@@ -1,12 +1,13 @@
 -- The bytes of a reply.
-use Rattle.std.specs.Prelude.{ℕ, Bool, List, [], ◌∷◌, ◌++◌, ◌==◌, length, codes, flat_map, if◌then◌else◌}
+use Rattle.std.specs.Prelude.{ℕ, Bool, List, [], ◌∷◌, ◌++◌, length, codes, flat_map, Option, Some, None, if◌then◌else◌}
 use Rattle.std.specs.Fmt.{decimal}
 use Rattle.site_base.specs.Faults.{fault_number}
 use Rattle.site_base.specs.declared.faults.SiteFault.{SiteFault}
 use Rattle.site_script.specs.Line.{script_number}
-use Rattle.site_base.specs.declared.item_name.ItemName.{ItemName}
 use Rattle.site_session.specs.declared.build.Report.{Report}
-use Rattle.site_session.specs.declared.why.Why.{Why}
+use Rattle.site_session.specs.KeyTexts.{item_text, key_text}
+use Rattle.read_record.specs.declared.key.Key.{Key}
+use Rattle.render_workers.specs.declared.answers.Why.{Why}
 use Rattle.site_session.specs.declared.reply.Reply.{Reply}
 use Rattle.site_session.specs.declared.reply.Reply.TheVariants.{Scanned, ScanFailed, Faulty, Fine, Absent, Built, Marked, Unlisted, BadLine, Silent}
 
@@ -18,12 +19,13 @@ built_line report =
     codes "built rendered=" ++ (decimal report.rendered ++ (codes " reused=" ++ (decimal report.reused
     ++ (codes " written=" ++ (decimal report.written ++ (codes " removed=" ++ (decimal report.removed ++ codes "\n")))))))
 
--- the path of an item, with `#` and its part where that is not 0
-abbrev pub item_text : ItemName → List ℕ
-item_text name = name.path ++ (if name.part == 0 then [] else codes "#" ++ decimal name.part)
+-- why an item was rendered: it is new, or this is the first key that gave another value
+abbrev pub reason_text : Option Key → List ℕ
+reason_text None = codes "new"
+reason_text (Some key) = key_text key
 
 abbrev pub why_line : Why → List ℕ
-why_line why = codes "why " ++ (item_text why.name ++ codes " new\n")
+why_line why = codes "why " ++ (item_text why.name ++ (codes " " ++ (reason_text why.key ++ codes "\n")))
 
 -- where reasons are told, they stand before what was built
 abbrev pub why_lines : Bool → Report → List ℕ

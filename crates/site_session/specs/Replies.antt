@@ -1,19 +1,20 @@
 -- The reply that an answer of a session's call goes with; want of memory has none.
-use Rattle.std.specs.Prelude.{◌≡◌, ◌⊎◌, ℕ, ◌+◌, Bool, true, false, List, [], ◌∷◌, map, Option, Some, None, Result, Ok, Err}
+use Rattle.std.specs.Prelude.{◌≡◌, ◌⊎◌, ℕ, ◌+◌, Bool, true, false, List, [], ◌∷◌, ◌++◌, map, Option, Some, None, Result, Ok, Err}
 use Rattle.site_base.specs.declared.errors.Memory.{Memory}
 use Rattle.site_script.specs.Line.{line_number}
 use Rattle.site_script.specs.declared.line.Line.{Line}
 use Rattle.source_tree.specs.declared.scan_error.ScanError.{ScanError}
 use Rattle.source_tree.specs.declared.scan_error.ScanError.TheVariants as scan_error
-use Rattle.site_session.specs.Session.{Given, event_of, full_now, step, Reply, Scanned, ScanFailed, Faulty, Fine, Absent, Built, Marked, Unlisted, BadLine, Silent, output_failures}
+use Rattle.site_session.specs.Session.{Given, event_of, names_now, plan, step, Reply, Scanned, ScanFailed, Faulty, Fine, Absent, Built, Marked, Unlisted, BadLine, Silent, output_failures}
 use Rattle.site_base.specs.Places.{Files}
+use Rattle.site_base.specs.declared.item_name.ItemName.{ItemName}
 use Rattle.out_tree.specs.Belief.{Belief, all_marked}
 use Rattle.out_tree.specs.Device.{Calls}
-use Rattle.out_tree.specs.Plan.{planned}
 use Rattle.out_tree.specs.declared.step.Call.{Call}
 use Rattle.out_tree.specs.declared.step.Call.TheVariants as call
 use Rattle.site_session.specs.Standing.{Standing, MakesBut, MarksExactly}
-use Rattle.site_session.specs.declared.output.Output.{Output}
+use Rattle.site_session.specs.Full.{full}
+use Rattle.site_session.specs.declared.output.Written.{Written}
 use Rattle.site_session.specs.declared.build.Rebuilt.{Rebuilt}
 use Rattle.site_session.specs.declared.build.Rebuilt.TheVariants as rebuilt
 
@@ -40,10 +41,10 @@ FailedAt (Err error) failed = ⊥
 
 -- what the held files stand for is what the output was made, but for these paths, and these are marked
 pub record Leaves (now : Standing) (failed : List (List ℕ)) (told tells : Option Files) (belief : Option Belief) : Type 0 where
-  pub output : Output
-  pub stands_for : full_now now ≡ Ok output
-  pub made : MakesBut failed output told tells
-  pub marked : MarksExactly failed output.keep belief
+  pub written : Written
+  pub stands_for : full now.files now.moment now.settings ≡ Ok written
+  pub made : MakesBut failed written told tells
+  pub marked : MarksExactly failed written.keep belief
 
 -- what a build that is replied so has left; another reply tells nothing of the output
 abbrev pub LeavesBy : Standing → Reply → Option Files → Option Files → Option Belief → Type 0
@@ -77,21 +78,21 @@ pub record IsQuiet (reply : Reply) : Type 0 where
   pub failures : output_failures reply ≡ 0
 
 -- the calls of a build on the output: a list where it was not listed, and then each step of the plan
-abbrev pub build_calls : Option Belief → Files → Output → List Call
-build_calls (Some belief) first output = map call.Try (planned belief output.tree output.keep)
-build_calls None first output = call.List ∷ map call.Try (planned (all_marked first) output.tree output.keep)
+abbrev pub build_calls : Option Belief → Files → Written → List Call
+build_calls (Some belief) first written = map call.Try (plan belief written)
+build_calls None first written = call.List ∷ map call.Try (plan (all_marked first) written)
 
 -- where memory was wanting: no call, or the first list
 abbrev pub ListsAtMost : Option Belief → Option (List Call) → Option (List Call) → Type 0
 ListsAtMost belief old new = Calls old new [] ⊎ ((belief ≡ None) × Calls old new (call.List ∷ []))
 
 -- where the output tells its calls, how a build called it that ended so; one that gives no list is called for nothing else
-abbrev pub Called : Option Belief → Files → Output → Result Rebuilt Memory → Option (List Call) → Option (List Call) → Type 0
-Called belief first output (Ok (rebuilt.Built report)) old new = Calls old new (build_calls belief first output)
-Called belief first output (Ok (rebuilt.Marked paths)) old new = Calls old new (build_calls belief first output)
-Called belief first output (Ok rebuilt.Unlisted) old new = Calls old new (call.List ∷ [])
-Called belief first output (Ok (rebuilt.Fault fault)) old new = Calls old new []
-Called belief first output (Err error) old new = ListsAtMost belief old new
+abbrev pub Called : Option Belief → Files → Written → Result Rebuilt Memory → Option (List Call) → Option (List Call) → Type 0
+Called belief first written (Ok (rebuilt.Built report)) old new = Calls old new (build_calls belief first written)
+Called belief first written (Ok (rebuilt.Marked paths)) old new = Calls old new (build_calls belief first written)
+Called belief first written (Ok rebuilt.Unlisted) old new = Calls old new (call.List ∷ [])
+Called belief first written (Ok (rebuilt.Fault fault)) old new = Calls old new []
+Called belief first written (Err error) old new = ListsAtMost belief old new
 
 -- what a line has left of the output that is replied so: one that was not called is the same value, and a build leaves what `LeavesBy` says
 pub record LineLeaves {D : Type 0} (contents : D → Option Files) (now : Standing) (reply : Reply) (belief : Option Belief) (before after : D) : Type 0 where
@@ -105,3 +106,10 @@ AllLeave contents given old before (line ∷ lines) [] first last = ⊥
 AllLeave {D} contents given old before (line ∷ lines) (reply ∷ replies) first last =
     let new = (step given old (line_number before) line (event_of reply)).0 in
     (there : D) × LineLeaves contents old reply new.belief first there × AllLeave contents given new (before + 1) lines replies there last
+
+-- ---- what was rendered
+
+-- the names of the items that a build renders joined the tally; where memory is wanting nothing is told of it
+abbrev pub Tallied : Standing → Result Rebuilt Memory → List ItemName → List ItemName → Type 0
+Tallied now (Ok rebuilt) before after = after ≡ before ++ names_now now
+Tallied now (Err error) before after = Unit {0}

@@ -1,5 +1,5 @@
--- A session: what each line of a script does, and its reply. It is a fold over the lines, and knows neither how the
--- output is compared nor what is kept from one build to the next.
+-- A session: what each line of a script does, and its reply. It is a fold over the lines, and does not know how the output is
+-- compared.
 use Rattle.std.specs.Prelude.{◌≡◌, ℕ, ℤ, ◌+◌, Bool, true, false, List, [], ◌∷◌, filter, length, max, Option, Some, None, Ok, Err, if◌then◌else◌}
 use Rattle.std.specs.FinMap.{entries, empty, insert, remove, contains_key, len}
 use Rattle.site_base.specs.Places.{Files, is_listed}
@@ -20,14 +20,18 @@ use Rattle.out_tree.specs.Belief.{Belief, after, all_marked}
 use Rattle.out_tree.specs.Device.{step_paths}
 use Rattle.out_tree.specs.declared.step.Step.{Step}
 use Rattle.site_session.specs.Standing.{Standing}
+use Rattle.site_base.specs.declared.item_name.ItemName.{ItemName}
 use Rattle.site_reader.specs.Found.{Found}
-use Rattle.site_session.specs.Full.{full}
+use Rattle.site_reader.specs.Sites.{site}
+use Rattle.site_reader.specs.declared.site.Site.{Site}
+use Rattle.site_session.specs.Full.{fault_of, full, output_in, kept_after, names_rendered}
 use Rattle.site_session.specs.declared.build.Report.{Report}
 use Rattle.site_session.specs.declared.output.Output.{Output}
+use Rattle.site_session.specs.declared.output.Written.{Written}
 
 -- the session before its first line
 abbrev pub start : Settings → ℤ → Standing
-start settings moment = record { files = empty; moment = moment; settings = settings; belief = None }
+start settings moment = record { files = empty; moment = moment; settings = settings; kept = empty; belief = None }
 
 -- what is given: the files of the source, those that the output has at first, and whether reasons are told
 pub record Given : Type 0 where
@@ -85,15 +89,19 @@ failed_of TheList = []
 abbrev pub report : Belief → Output → Report
 report belief output = record {
   rendered = output.rendered;
-  reused = 0;
-  written = length (writes belief output.tree);
-  removed = length (removals belief output.tree output.keep);
+  reused = output.reused;
+  written = length (writes belief output.written.tree);
+  removed = length (removals belief output.written.tree output.written.keep);
   why = output.why;
 }
 
 abbrev pub build_reply : Belief → Output → List (List ℕ) → Reply
 build_reply belief output [] = Built (report belief output)
 build_reply belief output (path ∷ paths) = Marked (path ∷ paths)
+
+-- what is removed and written, where this is believed
+abbrev pub plan : Belief → Written → List Step
+plan belief written = planned belief written.tree written.keep
 
 -- the paths of these that failed, in the order in which the steps are tried
 abbrev pub failed_in : List Step → List (List ℕ) → List (List ℕ)
@@ -102,7 +110,7 @@ failed_in steps failed = filter (λ path. is_listed path failed) (step_paths ste
 -- an output that has been listed is made equal to the tree, but for what failed
 abbrev pub build_listed : Standing → Output → Belief → List (List ℕ) → Standing × Reply
 build_listed now output belief failed =
-    (record now { belief = Some (after belief (planned belief output.tree output.keep) failed) }, build_reply belief output (failed_in (planned belief output.tree output.keep) failed))
+    (record now { belief = Some (after belief (plan belief output.written) failed) }, build_reply belief output (failed_in (plan belief output.written) failed))
 
 -- the first build whose list of the output succeeds marks every path that is there
 abbrev pub build_tree : Given → Standing → Output → Option Belief → Event → Standing × Reply
@@ -117,9 +125,38 @@ abbrev pub build : Given → Standing → Found Output → Event → Standing ×
 build given now (Err fault) event = (now, Faulty fault)
 build given now (Ok output) event = build_tree given now output now.belief event
 
--- what the held files stand for
+-- the site that the held files make
+abbrev pub site_now : Standing → Found Site
+site_now now = site now.files now.moment now.settings
+
+-- what the held files stand for, and what is rendered for that
 abbrev pub full_now : Standing → Found Output
-full_now now = full now.files now.moment now.settings
+full_now now = output_in now.files now.kept (site_now now)
+
+-- the first fault of what the held files stand for
+abbrev pub first_fault : Standing → Option SiteFault
+first_fault now = fault_of (full now.files now.moment now.settings)
+
+-- a build keeps what was rendered
+abbrev pub rendered_now : Standing → Standing
+rendered_now now = record now { kept = kept_after now.files now.kept (site_now now) }
+
+-- the names of the items that a build renders
+abbrev pub names_now : Standing → List ItemName
+names_now now = names_rendered now.files now.kept (site_now now)
+
+-- the names of the items that a line renders
+abbrev pub names_at : Standing → Line → List ItemName
+names_at now Build = names_now now
+names_at now Scan = []
+names_at now (Put path bytes) = []
+names_at now (Delete path) = []
+names_at now (Time seconds) = []
+names_at now (Bad at bad) = []
+names_at now End = []
+names_at now Eof = []
+names_at now Failed = []
+names_at now Memory = []
 
 -- what follows a line that has this number, and its reply
 abbrev pub step : Given → Standing → ℕ → Line → Event → Standing × Reply
@@ -128,7 +165,7 @@ step given now number (Put path bytes) event = put now number path bytes (put_re
 step given now number (Delete path) event =
     (record now { files = remove now.files path }, if contains_key now.files path then Fine else Absent)
 step given now number (Time seconds) event = (record now { moment = seconds }, Fine)
-step given now number Build event = build given now (full_now now) event
+step given now number Build event = build given (rendered_now now) (full_now now) event
 step given now number (Bad at bad) event = (now, BadLine at bad)
 step given now number End event = (now, Silent)
 step given now number Eof event = (now, Silent)

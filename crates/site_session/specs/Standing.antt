@@ -10,22 +10,25 @@ use Rattle.out_tree.specs.Exact.{IsExactlyBut}
 use Rattle.out_tree.specs.Keep.{is_kept}
 use Rattle.out_tree.specs.declared.state.State.TheVariants.{Marked}
 use Rattle.site_base.specs.declared.settings.Settings.{Settings}
-use Rattle.site_session.specs.declared.output.Output.{Output}
+use Rattle.memo_table.specs.Entries.{Entries}
+use Rattle.site_session.specs.declared.output.Written.{Written}
 
--- the files that are held, the moment, the settings, and what is believed of the output: nothing until it has been listed
+-- the files that are held, the moment, the settings, what is kept of the items that were rendered, and what is believed of the
+-- output: nothing until it has been listed
 pub record Standing : Type 0 where
   pub files : Files
   pub moment : ℤ
   pub settings : Settings
+  pub kept : Entries
   pub belief : Option Belief
 
 abbrev settings_code : Coded Settings
 settings_code = code_by (Bool × Bool) (coded× coded_bool coded_bool) (λ s. (s.drafts, s.future)) (λ p. record { drafts = p.0; future = p.1 }) (λ _. refl)
 
-abbrev pub standing_code : Coded Standing
-standing_code =
-    code_by (Files × (ℤ × (Settings × Option Belief))) (coded× (map.code (coded_list coded_ℕ) (coded_list coded_ℕ)) (coded× coded_ℤ (coded× settings_code belief_code)))
-    (λ s. (s.files, (s.moment, (s.settings, s.belief)))) (λ p. record { files = p.0; moment = p.1.0; settings = p.1.1.0; belief = p.1.1.1 }) (λ _. refl)
+abbrev pub standing_code : Coded Entries → Coded Standing
+standing_code entries =
+    code_by (Files × (ℤ × (Settings × (Entries × Option Belief)))) (coded× (map.code (coded_list coded_ℕ) (coded_list coded_ℕ)) (coded× coded_ℤ (coded× settings_code (coded× entries belief_code))))
+    (λ s. (s.files, (s.moment, (s.settings, (s.kept, s.belief))))) (λ p. record { files = p.0; moment = p.1.0; settings = p.1.1.0; kept = p.1.1.1.0; belief = p.1.1.1.1 }) (λ _. refl)
 
 -- an output that has not been listed is as it was at first
 abbrev pub TrueTo : Option Belief → Files → Files → Type 0
@@ -39,12 +42,12 @@ pub record Holds (told : Option Files) (belief : Option Belief) (first : Files) 
   pub is_true : TrueTo belief first there
 
 -- but for these paths, the output was made exactly this tree, kept paths aside
-pub record MakesBut (failed : List (List ℕ)) (output : Output) (told tells : Option Files) : Type 0 where
+pub record MakesBut (failed : List (List ℕ)) (written : Written) (told tells : Option Files) : Type 0 where
   pub old : Files
   pub new : Files
   pub told_is : told ≡ Some old
   pub tells_is : tells ≡ Some new
-  pub exactly : IsExactlyBut failed output.tree output.keep old new
+  pub exactly : IsExactlyBut failed written.tree written.keep old new
 
 -- kept paths aside, these and no others are marked
 abbrev pub MarksExactly : List (List ℕ) → List (List ℕ) → Option Belief → Type 0

@@ -4,15 +4,14 @@ ghost use Rattle.std.specs.FinMap as map;
 ghost use Rattle.site_base.specs.Places.{Files};
 ghost use Rattle.out_tree.specs.Belief.{Belief, believed, IsTrueOf};
 ghost use Rattle.site_session.specs.Standing.{Standing, Holds, MakesBut, MarksExactly};
-ghost use Rattle.site_session.specs.Session.{Given, Reply, event_of, failed_of, build_tree, build_listed, output_failures, TheList};
-ghost use Rattle.out_tree.specs.Plan.{planned};
+ghost use Rattle.site_session.specs.Session.{Given, Reply, event_of, failed_of, build_tree, build_listed, output_failures, plan, TheList};
 ghost use Rattle.out_tree.specs.Tries.{CallsFor};
 ghost use Rattle.site_session.specs.Replies.{built_reply, Called, FailedAt};
 ghost use Rattle.site_session.specs.declared.build.Report.{Report};
 
 use crate::output::Output;
-use crate::why::Whys;
 use out_tree::{OutKeeper, OutTree};
+use render_workers::Whys;
 use site_base::{ListError, Memory, PathList, SiteFault};
 use std::alloc::Global;
 
@@ -56,14 +55,14 @@ pub(crate) fn make<O: OutTree>(
         build_tree given now output keeper.old (event_of reply) ≡ (record now { belief = keeper.new }, reply) }
     ensures belief { (first : Files) → Holds (O.contents out.old) keeper.old first → Holds (O.contents out.new) keeper.new first }
     ensures made { (first : Files) (failed : List (List ℕ)) → Holds (O.contents out.old) keeper.old first → FailedAt result failed →
-        MakesBut failed output (O.contents out.old) (O.contents out.new) × MarksExactly failed output.keep keeper.new }
+        MakesBut failed output.written (O.contents out.old) (O.contents out.new) × MarksExactly failed output.written.keep keeper.new }
     ensures unlisted_same { result ≡ Ok Rebuilt.Unlisted → O.contents out.new ≡ O.contents out.old }
     ensures no_fault { (fault : SiteFault) → result ≡ Ok (Rebuilt.Fault fault) → ⊥ }
     ensures later { O.failures out.old ≤ O.failures out.new }
     ensures cause { (reply : Reply) → built_reply result ≡ Some reply → min (O.failures out.old + output_failures reply) (2 ^ 64 - 1) ≤ O.failures out.new }
     ensures steady { (report : Report) → result ≡ Ok (Rebuilt.Built report) → O.failures out.new ≡ O.failures out.old }
     ensures called { (first : Files) → Holds (O.contents out.old) keeper.old first →
-        Called keeper.old first output result (O.calls out.old) (O.calls out.new) }
+        Called keeper.old first output.written result (O.calls out.old) (O.calls out.new) }
     ensures err { OnErr result (O.contents out.new ≡ O.contents out.old) }
 {
     match keeper.list_once(alloc, out) {
@@ -86,7 +85,7 @@ fn make_listed<O: OutTree>(
     ensures belief { (old : Files) → O.contents out.old ≡ Some old → IsTrueOf (believed keeper.old) old →
         Holds (O.contents out.new) keeper.new old }
     ensures made { (old : Files) (failed : List (List ℕ)) → O.contents out.old ≡ Some old → IsTrueOf (believed keeper.old) old → FailedAt result failed →
-        MakesBut failed output (O.contents out.old) (O.contents out.new) × MarksExactly failed output.keep keeper.new }
+        MakesBut failed output.written (O.contents out.old) (O.contents out.new) × MarksExactly failed output.written.keep keeper.new }
     ensures unlisted_same { result ≡ Ok Rebuilt.Unlisted → O.contents out.new ≡ O.contents out.old }
     ensures no_fault { (fault : SiteFault) → result ≡ Ok (Rebuilt.Fault fault) → ⊥ }
     ensures listed { IsSome keeper.new }
@@ -94,17 +93,17 @@ fn make_listed<O: OutTree>(
     ensures cause { (reply : Reply) → built_reply result ≡ Some reply → min (O.failures out.old + output_failures reply) (2 ^ 64 - 1) ≤ O.failures out.new }
     ensures unlisted { (reply : Reply) → built_reply result ≡ Some reply → event_of reply ≡ TheList → ⊥ }
     ensures steady { (report : Report) → result ≡ Ok (Rebuilt.Built report) → O.failures out.new ≡ O.failures out.old }
-    ensures called { OnOk result (CallsFor (planned (believed keeper.old) output.tree output.keep) (O.calls out.old) (O.calls out.new)) }
+    ensures called { OnOk result (CallsFor (plan (believed keeper.old) output.written) (O.calls out.old) (O.calls out.new)) }
     ensures err { OnErr result ((keeper.new ≡ keeper.old) × (out.new ≡ out.old)) }
 {
-    let applied = match keeper.make_equal(alloc, &output.tree, &output.keep, out) {
+    let applied = match keeper.make_equal(alloc, &output.written.tree, &output.written.keep, out) {
         Ok(applied) => applied,
         Err(Memory) => return Err(Memory),
     };
     if applied.failed.is_empty() {
         return Ok(Rebuilt::Built(Report {
             rendered: output.rendered,
-            reused: 0,
+            reused: output.reused,
             written: applied.written,
             removed: applied.removed,
             why: output.why,

@@ -3,15 +3,15 @@
 
 mod build;
 mod group;
+mod key_text;
+mod made;
 mod output;
-mod rendered;
 mod reply;
 mod session;
 mod tree;
-mod why;
 
 pub use build::{Rebuilt, Report};
-pub use output::Output;
+pub use output::{Output, Written};
+pub use render_workers::{Why, Whys};
 pub use reply::Reply;
 pub use session::Session;
-pub use why::{Why, Whys};

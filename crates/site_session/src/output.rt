@@ -1,100 +1,166 @@
 // What the held files stand for.
-ghost use Rattle.std.specs.Prelude.{◌≡◌, ◌≤◌, IfOk, MatchResult, Ok, length, map, true};
+ghost use Rattle.std.specs.Prelude.{◌≡◌, ◌≤ℤ◌, ◌≤◌, ◌+◌, ◌*◌, IfOk, Ok, length, pos, true};
+ghost use Rattle.render_workers.specs.Rounds.{IsRound};
+ghost use Rattle.site_reader.specs.Lawful.{IsLawful};
+ghost use Rattle.site_reader.specs.Sites as sites;
 ghost use Rattle.site_script.specs.Line.{is_moment};
-ghost use Rattle.site_reader.specs.Found.{IsFirst};
-ghost use Rattle.site_session.specs.Full.{fault_of, full, output_of, reason, seen, site_output};
+ghost use Rattle.site_session.specs.Full.{fault_of, full, given_of, whole, written_by};
+ghost use Rattle.site_session.specs.Outputs.{IsOutput};
+ghost use Rattle.site_world.specs.Sights.{fixed_bytes, item_names};
 ghost use Rattle.source_tree.specs.Limits.{most_files};
 
-use crate::rendered::{Rendered, count, first_item_fault, render_items};
+use crate::made::made_of;
 use crate::tree::tree_of;
-use crate::why::{Why, Whys};
+use memo_table::Memo;
 use out_tree::{KeepList, Tree};
-use site_base::{Memory, Sequence, Settings, SiteFault, Text, TextList};
-use site_reader::{Site, SiteError, SiteItem, read_site};
+use page_render::PageMeaning;
+use read_record::{Renderer, Tally};
+use render_workers::{Outcomes, Round, RoundError, Whys, regenerate_serial};
+use site_base::{Memory, Settings, SiteFault, Text, TextList};
+use site_reader::{Site, SiteError, read_site};
+use site_world::SiteWorld;
 use source_tree::Held;
 use std::alloc::Global;
 
 /// What a site writes.
 #[derive(Drop)]
-pub struct Output {
+pub struct Written {
     /// The files.
     pub tree: Tree,
-    /// How many items were rendered for them.
-    pub rendered: u32,
-    /// These items.
-    pub why: Whys,
     /// The paths that stay, though the site lacks them.
     pub keep: KeepList,
 }
 
-/// What the held files stand for, rendered one after another from nothing, or their first fault.
-#[tactic(auto, unfolding(crate::specs::Full::full))]
-pub(crate) fn full(
+/// What a build writes, and what it rendered for that.
+#[derive(Drop)]
+pub struct Output {
+    pub written: Written,
+    /// How many items were rendered.
+    pub rendered: u32,
+    /// How many items were kept from an earlier build.
+    pub reused: u32,
+    /// The items that were rendered, with the reasons.
+    pub why: Whys,
+}
+
+/// What the held files stand for, or their first fault. Items are rendered whose kept render no longer tells what rendering
+/// anew would give; what is rendered is kept.
+#[tactic(auto, using(crate::proofs::Full::from_unread))]
+pub(crate) fn built_output<R: Renderer<Meaning = PageMeaning>>(
     alloc: Global,
     held: &Held,
     moment: i64,
     settings: &Settings,
+    renderer: &R,
+    memo: &mut Memo<PageMeaning>,
+    tally: &mut Tally,
 ) -> Result<Output, SiteError>
     requires { is_moment moment ≡ true }
-    ensures { let found = full held.now moment settings.now in
-        MatchResult result (λ made. found ≡ Ok made) (IsFirst found) }
+    ensures { IsOutput held.now memo.old (sites.site held.now moment settings.now) result memo.new tally.old tally.new }
 {
     match read_site(alloc, held, moment, settings) {
-        Ok(site) => site_output(alloc, held, &site),
+        Ok(site) => site_output(alloc, held, &site, renderer, memo, tally),
         Err(error) => Err(error),
     }
 }
 
-/// The first fault of what the held files stand for. No more than one output is held.
-pub(crate) fn first_fault(
+/// The first fault of what the held files stand for.
+pub(crate) fn first_fault<R: Renderer<Meaning = PageMeaning>>(
     alloc: Global,
     held: &Held,
     moment: i64,
     settings: &Settings,
+    renderer: &R,
 ) -> Result<Option<SiteFault>, Memory>
     requires { is_moment moment ≡ true }
     ensures { IfOk result (λ fault. fault ≡ fault_of (full held.now moment settings.now)) }
 {
     match read_site(alloc, held, moment, settings) {
-        Ok(site) => first_item_fault(alloc, &site),
+        Ok(site) => first_item_fault(alloc, held, &site, renderer),
         Err(SiteError::Fault(fault)) => Ok(Some(fault)),
         Err(SiteError::Memory) => Err(Memory),
     }
 }
 
-fn site_output(alloc: Global, held: &Held, site: &Site) -> Result<Output, SiteError>
-    requires { length site.now.items ≤ most_files }
-    ensures { let found = site_output held.now site.now in
-        MatchResult result (λ made. found ≡ Ok made) (IsFirst found) }
+fn first_item_fault<R: Renderer<Meaning = PageMeaning>>(
+    alloc: Global,
+    held: &Held,
+    site: &Site,
+    renderer: &R,
+) -> Result<Option<SiteFault>, Memory>
+    requires lawful { IsLawful held.now site.now }
+    requires moment { pos 0 ≤ℤ site.now.moment }
+    ensures { IfOk result (λ fault. fault ≡ fault_of (whole held.now site.now)) }
 {
-    match render_items(alloc, site) {
-        Ok(items) => Ok(output_of(alloc, held, site, &items)?),
-        Err(error) => Err(error),
+    let mut memo = Memo::new(alloc);
+    let mut tally = Tally::new(alloc);
+    match round(alloc, held, site, renderer, &mut memo, &mut tally) {
+        Ok(_) => Ok(None),
+        Err(RoundError::Fault(fault)) => Ok(Some(fault)),
+        Err(RoundError::Memory) => Err(Memory),
     }
 }
 
-fn output_of(alloc: Global, held: &Held, site: &Site, items: &[Rendered]) -> Result<Output, Memory>
-    requires { length site.now.items ≤ most_files }
-    ensures { IfOk result (λ made. made ≡ output_of held.now site.now (map seen items.entry.now)) }
+#[tactic(auto, using(crate::proofs::Full::from_whole, crate::proofs::Full::from_stopped))]
+fn site_output<R: Renderer<Meaning = PageMeaning>>(
+    alloc: Global,
+    held: &Held,
+    site: &Site,
+    renderer: &R,
+    memo: &mut Memo<PageMeaning>,
+    tally: &mut Tally,
+) -> Result<Output, SiteError>
+    requires lawful { IsLawful held.now site.now }
+    requires few { length site.now.items ≤ 2 * most_files }
+    requires moment { pos 0 ≤ℤ site.now.moment }
+    ensures { IsOutput held.now memo.old (Ok site.now) result memo.new tally.old tally.new }
 {
+    match round(alloc, held, site, renderer, memo, tally) {
+        Ok(round) => Ok(output_of(alloc, held, site, round)?),
+        Err(RoundError::Fault(fault)) => Err(SiteError::Fault(fault)),
+        Err(RoundError::Memory) => Err(SiteError::Memory),
+    }
+}
+
+// The items of a site, rendered one after another where nothing that is kept serves.
+fn round<R: Renderer<Meaning = PageMeaning>>(
+    alloc: Global,
+    held: &Held,
+    site: &Site,
+    renderer: &R,
+    memo: &mut Memo<PageMeaning>,
+    tally: &mut Tally,
+) -> Result<Round, RoundError>
+    requires lawful { IsLawful held.now site.now }
+    requires moment { pos 0 ≤ℤ site.now.moment }
+    ensures { IsRound (given_of held.now site.now memo.old) (fixed_bytes held.now site.now) result memo.new tally.old tally.new }
+{
+    let world = SiteWorld::new(alloc, site, held)?;
+    regenerate_serial(alloc, renderer, &world, memo, tally)
+}
+
+fn output_of(alloc: Global, held: &Held, site: &Site, round: Round) -> Result<Output, Memory>
+    requires counted { round.reused + length round.why ≡ length (item_names site.now) }
+    requires few { length site.now.items ≤ 2 * most_files }
+    ensures { IfOk result (λ made. made ≡ record { written = written_by held.now (record { site = site.now; outs = round.outs }); rendered = length round.why; reused = round.reused; why = round.why }) }
+{
+    let rendered = round.why.len() as u32;
     Ok(Output {
-        tree: tree_of(alloc, held, site, items)?,
-        rendered: count(site),
-        why: reasons(alloc, site.items.as_slice())?,
-        keep: keep_list(alloc, &site.config.keep_files)?,
+        written: written_by(alloc, held, site, &round.outs)?,
+        rendered,
+        reused: round.reused,
+        why: round.why,
     })
 }
 
-fn reasons(alloc: Global, items: &[SiteItem]) -> Result<Whys, Memory>
-    ensures { IfOk result (λ why. why ≡ map reason items.now) }
+fn written_by(alloc: Global, held: &Held, site: &Site, outs: &Outcomes) -> Result<Written, Memory>
+    ensures { IfOk result (λ made. made ≡ written_by held.now (record { site = site.now; outs = outs.now })) }
 {
-    let mut why = Vec::with_capacity(alloc, items.len())?;
-    for item in items {
-        why.push(Why {
-            name: item.name.copy(alloc)?,
-        })?;
-    }
-    Ok(Sequence::from_vec(why))
+    let items = made_of(alloc, site.items.as_slice(), outs.as_slice())?;
+    Ok(Written {
+        tree: tree_of(alloc, held, site, &items)?,
+        keep: keep_list(alloc, &site.config.keep_files)?,
+    })
 }
 
 fn keep_list(alloc: Global, entries: &TextList) -> Result<KeepList, Memory>

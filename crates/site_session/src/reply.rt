@@ -3,10 +3,12 @@ ghost use Rattle.std.specs.Prelude.{◌≡◌, ◌++◌, ◌∷◌, [], IfOk, On
 ghost use Rattle.std.specs.Fmt.{decimal};
 ghost use Rattle.std.specs.String.{string_bytes};
 ghost use Rattle.site_script.specs.Line.{script_number};
-ghost use Rattle.site_session.specs.Bytes.{fault_line, built_line, item_text, marked_line, why_line, why_lines};
+ghost use Rattle.site_session.specs.Bytes.{fault_line, built_line, marked_line, reason_text, why_line, why_lines};
 
+use crate::key_text::{item_text, key_text};
 use crate::{Report, Why};
-use site_base::{ItemName, PathList, SiteFault};
+use read_record::Key;
+use site_base::{PathList, SiteFault};
 use site_script::ScriptKind;
 use std::alloc::{AllocError, Global};
 
@@ -108,18 +110,16 @@ fn why_line(alloc: Global, why: &Why) -> Result<String, AllocError>
     ensures { IfOk result (λ text. string_bytes text ≡ why_line why.now) }
 {
     let name = item_text(alloc, &why.name)?;
-    format!(in alloc; "why {name} new\n")
+    let reason = reason_text(alloc, &why.key)?;
+    format!(in alloc; "why {name} {reason}\n")
 }
 
-fn item_text(alloc: Global, name: &ItemName) -> Result<String, AllocError>
-    ensures { IfOk result (λ text. string_bytes text ≡ item_text name.now) }
+fn reason_text(alloc: Global, key: &Option<Key>) -> Result<String, AllocError>
+    ensures { IfOk result (λ text. string_bytes text ≡ reason_text key.now) }
 {
-    let path = name.path.text();
-    let part = name.part;
-    if part == 0 {
-        String::from_str(alloc, path)
-    } else {
-        format!(in alloc; "{path}#{part}")
+    match key {
+        None => String::from_str(alloc, "new"),
+        Some(key) => key_text(alloc, key),
     }
 }
 

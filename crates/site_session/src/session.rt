@@ -6,18 +6,21 @@ ghost use Rattle.site_base.specs.Ends.{HasCauseOf, Rose};
 ghost use Rattle.source_tree.specs.Put.{put_refusal};
 ghost use Rattle.site_base.specs.declared.faults.SiteFault.{SiteFault};
 ghost use Rattle.site_script.specs.Line.{IsInTime, is_moment};
-ghost use Rattle.site_session.specs.Full.{full, fault_of};
+ghost use Rattle.site_session.specs.Full.{full};
 ghost use Rattle.site_session.specs.Standing.{Holds};
-ghost use Rattle.site_session.specs.Session.{Given, Reply, Fine, Absent, Answers, full_now, start, output_failures, source_failures};
+ghost use Rattle.site_session.specs.Session.{Given, Reply, Fine, Absent, Answers, first_fault, names_at, names_now, rendered_now, start, output_failures, source_failures};
 ghost use Rattle.site_session.specs.declared.build.Report.{Report};
-ghost use Rattle.site_session.specs.declared.output.Output.{Output};
-ghost use Rattle.site_session.specs.Replies.{scan_reply, built_reply, Called, FailedAt, Leaves, LeavesBy, IsQuiet, has_called_output};
+ghost use Rattle.site_session.specs.declared.output.Written.{Written};
+ghost use Rattle.site_session.specs.Replies.{scan_reply, built_reply, Called, FailedAt, Leaves, LeavesBy, IsQuiet, Tallied, has_called_output};
 ghost use Rattle.site_script.specs.declared.line.Line.TheVariants as line;
 
 use crate::build::{Rebuilt, make};
-use crate::output::{first_fault, full};
+use crate::output::{built_output, first_fault};
 use crate::reply::Reply;
+use memo_table::Memo;
 use out_tree::{OutKeeper, OutTree};
+use page_render::PageMeaning;
+use read_record::{Renderer, Tally};
 use site_base::{FileBytes, Memory, Settings, SiteFault, SitePath};
 use site_reader::SiteError;
 use site_script::{Line, ScriptKind};
@@ -25,23 +28,30 @@ use source_tree::{Held, PutError, ScanError, SourceTree};
 use std::alloc::Global;
 use std::marker::Model;
 
-/// The files that are held, the moment, and what is believed of the output.
+/// The files that are held, the moment, the renders that are kept, and what is believed of the output.
 #[derive(Drop)]
 pub struct Session {
     held: Held,
     settings: Settings,
     moment: i64,
+    memo: Memo<PageMeaning>,
     keeper: OutKeeper,
 }
 
 impl Model for Session {
+    ghost use Rattle.std.specs.Coded.{coded×, coded_list, coded_ℕ};
+    ghost use Rattle.std.specs.FinMap as map;
+    ghost use Rattle.site_base.specs.contracts.item_name.ItemName as the_name;
+    ghost use Rattle.read_record.specs.contracts.key.Key as the_key;
+    ghost use Rattle.read_record.specs.contracts.outcome.Outcome as the_outcome;
+    ghost use Rattle.read_record.specs.Entries.{kept_code};
     ghost use Rattle.site_session.specs.Standing.{Standing, standing_code};
 
     ghost Value = { Standing };
 
-    ghost coded = { standing_code };
+    ghost coded = { standing_code (map.code the_name.the_row.coded (kept_code the_name.the_row.coded (coded_list (coded× the_key.the_row.coded (coded_list coded_ℕ))) the_outcome.the_row.coded)) };
 
-    ghost view = { λ s. record { files = s.held; moment = s.moment; settings = s.settings; belief = s.keeper } };
+    ghost view = { λ s. record { files = s.held; moment = s.moment; settings = s.settings; kept = s.memo; belief = s.keeper } };
 
     ghost use Rattle.std.specs.Prelude.{◌≡◌, true};
     ghost use Rattle.site_script.specs.Line.{is_moment};
@@ -59,6 +69,7 @@ impl Session {
             held: Held::new(alloc),
             settings,
             moment,
+            memo: Memo::new(alloc),
             keeper: OutKeeper::open(),
         }
     }
@@ -92,7 +103,7 @@ impl Session {
     pub fn scan<S: SourceTree>(&mut self, alloc: Global, source: &mut S) -> Result<u32, ScanError>
         ensures answers { (given : Given) (number : ℕ) (reply : Reply) → S.files source.old ≡ Some given.source →
             scan_reply result ≡ Some reply → Answers given self.old number line.Scan reply self.new }
-        ensures kept { (self.new.moment ≡ self.old.moment) × (self.new.settings ≡ self.old.settings) × (self.new.belief ≡ self.old.belief) }
+        ensures kept { (self.new.moment ≡ self.old.moment) × (self.new.settings ≡ self.old.settings) × (self.new.kept ≡ self.old.kept) × (self.new.belief ≡ self.old.belief) }
         ensures err { OnErr result (self.new ≡ self.old) }
         ensures same { S.files source.new ≡ S.files source.old }
         ensures cause { HasCauseOf ScanError.Failed (S.failures source.old) (S.failures source.new) result }
@@ -101,17 +112,24 @@ impl Session {
     }
 
     /// The first fault of what the held files stand for: of reading, or else of rendering; `None` where they have none.
-    pub fn first_fault(&self, alloc: Global) -> Result<Option<SiteFault>, Memory>
-        ensures { IfOk result (λ fault. fault ≡ fault_of (full self.now.files self.now.moment self.now.settings)) }
+    pub fn first_fault<R: Renderer<Meaning = PageMeaning>>(
+        &self,
+        alloc: Global,
+        renderer: &R,
+    ) -> Result<Option<SiteFault>, Memory>
+        ensures { IfOk result (λ fault. fault ≡ first_fault self.now) }
     {
-        first_fault(alloc, &self.held, self.moment, &self.settings)
+        first_fault(alloc, &self.held, self.moment, &self.settings, renderer)
     }
 
-    /// Makes the output equal to what the held files stand for, rendered one after another from nothing.
-    pub fn rebuild_serial<O: OutTree>(
+    /// Makes the output equal to what the held files stand for: exactly what rendering them one after another from nothing gives.
+    /// Items are rendered whose kept render no longer tells that; their names join the tally.
+    pub fn rebuild_serial<O: OutTree, R: Renderer<Meaning = PageMeaning>>(
         &mut self,
         alloc: Global,
         out: &mut O,
+        renderer: &R,
+        tally: &mut Tally,
     ) -> Result<Rebuilt, Memory>
         ensures answers { (given : Given) (number : ℕ) (reply : Reply) → Holds (O.contents out.old) self.old.belief given.output →
             built_reply result ≡ Some reply → Answers given self.old number line.Build reply self.new }
@@ -121,11 +139,13 @@ impl Session {
         ensures leaves { (first : Files) (failed : List (List ℕ)) → Holds (O.contents out.old) self.old.belief first → FailedAt result failed →
             Leaves self.old failed (O.contents out.old) (O.contents out.new) self.new.belief }
         ensures unlisted { result ≡ Ok Rebuilt.Unlisted → O.contents out.new ≡ O.contents out.old }
-        ensures fault { (fault : SiteFault) → result ≡ Ok (Rebuilt.Fault fault) → (full self.old.files self.old.moment self.old.settings ≡ Err fault) × (self.new ≡ self.old) × (out.new ≡ out.old) }
+        ensures fault { (fault : SiteFault) → result ≡ Ok (Rebuilt.Fault fault) → (full self.old.files self.old.moment self.old.settings ≡ Err fault) × (self.new ≡ rendered_now self.old) × (out.new ≡ out.old) }
         // Files with a fault make no call on the output; others list it where it was not listed, and then try each step of the plan once.
-        ensures quiet { (fault : SiteFault) → full_now self.old ≡ Err fault → out.new ≡ out.old }
-        ensures called { (first : Files) (output : Output) → Holds (O.contents out.old) self.old.belief first → full_now self.old ≡ Ok output →
-            Called self.old.belief first output result (O.calls out.old) (O.calls out.new) }
+        ensures quiet { (fault : SiteFault) → full self.old.files self.old.moment self.old.settings ≡ Err fault → out.new ≡ out.old }
+        ensures called { (first : Files) (written : Written) → Holds (O.contents out.old) self.old.belief first → full self.old.files self.old.moment self.old.settings ≡ Ok written →
+            Called self.old.belief first written result (O.calls out.old) (O.calls out.new) }
+        // What is rendered is exactly what is stale, each item once.
+        ensures tallied { Tallied self.old result tally.old tally.new }
         // The output's count of failures rises by at least what the answer shows, and stays where all went well.
         ensures later { O.failures out.old ≤ O.failures out.new }
         ensures cause { (reply : Reply) → built_reply result ≡ Some reply → min (O.failures out.old + output_failures reply) (2 ^ 64 - 1) ≤ O.failures out.new }
@@ -133,7 +153,16 @@ impl Session {
         ensures same { (self.new.files ≡ self.old.files) × (self.new.moment ≡ self.old.moment) × (self.new.settings ≡ self.old.settings) }
         ensures err { OnErr result (O.contents out.new ≡ O.contents out.old) }
     {
-        match full(alloc, &self.held, self.moment, &self.settings) {
+        let output = built_output(
+            alloc,
+            &self.held,
+            self.moment,
+            &self.settings,
+            renderer,
+            &mut self.memo,
+            tally,
+        );
+        match output {
             Ok(output) => make(&mut self.keeper, alloc, output, out),
             Err(SiteError::Fault(fault)) => Ok(Rebuilt::Fault(fault)),
             Err(SiteError::Memory) => Err(Memory),
@@ -141,13 +170,15 @@ impl Session {
     }
 
     /// Does a line of a script, and says what is replied.
-    pub fn answer<S: SourceTree, O: OutTree>(
+    pub fn answer<S: SourceTree, O: OutTree, R: Renderer<Meaning = PageMeaning>>(
         &mut self,
         alloc: Global,
         number: u64,
         line: Line,
         source: &mut S,
         out: &mut O,
+        renderer: &R,
+        tally: &mut Tally,
     ) -> Result<Reply, Memory>
         requires { IsInTime line }
         ensures answers { (given : Given) → S.files source.old ≡ Some given.source → Holds (O.contents out.old) self.old.belief given.output →
@@ -165,6 +196,8 @@ impl Session {
         ensures source_cause { IfOk result (λ reply. min (S.failures source.old + source_failures reply) (2 ^ 64 - 1) ≤ S.failures source.new) }
         ensures output_later { O.failures out.old ≤ O.failures out.new }
         ensures output_cause { IfOk result (λ reply. min (O.failures out.old + output_failures reply) (2 ^ 64 - 1) ≤ O.failures out.new) }
+        // What a build renders is what is stale, each item once.
+        ensures tallied { OnOk result (tally.new ≡ tally.old ++ names_at self.old line) }
     {
         match line {
             Line::Scan => self.scan_line(alloc, number, source),
@@ -174,7 +207,7 @@ impl Session {
                 self.set_moment(moment);
                 Ok(Reply::Fine)
             }
-            Line::Build => self.build_line(alloc, number, out),
+            Line::Build => self.build_line(alloc, number, out, renderer, tally),
             Line::Bad(at, kind) => Ok(Reply::BadLine(at, kind)),
             Line::End | Line::Eof | Line::Failed | Line::Memory => Ok(Reply::Silent),
         }
@@ -229,11 +262,13 @@ impl Session {
         }
     }
 
-    fn build_line<O: OutTree>(
+    fn build_line<O: OutTree, R: Renderer<Meaning = PageMeaning>>(
         &mut self,
         alloc: Global,
         number: u64,
         out: &mut O,
+        renderer: &R,
+        tally: &mut Tally,
     ) -> Result<Reply, Memory>
         ensures answers { (given : Given) → Holds (O.contents out.old) self.old.belief given.output →
             IfOk result (λ reply. Answers given self.old number line.Build reply self.new) }
@@ -246,8 +281,9 @@ impl Session {
         ensures later { O.failures out.old ≤ O.failures out.new }
         ensures cause { IfOk result (λ reply. min (O.failures out.old + output_failures reply) (2 ^ 64 - 1) ≤ O.failures out.new) }
         ensures quiet { IfOk result (λ reply. source_failures reply ≡ 0) }
+        ensures tallied { OnOk result (tally.new ≡ tally.old ++ names_now self.old) }
     {
-        match self.rebuild_serial(alloc, out) {
+        match self.rebuild_serial(alloc, out, renderer, tally) {
             Ok(Rebuilt::Built(report)) => Ok(Reply::Built(report)),
             Ok(Rebuilt::Fault(fault)) => Ok(Reply::Faulty(fault)),
             Ok(Rebuilt::Marked(paths)) => Ok(Reply::Marked(paths)),

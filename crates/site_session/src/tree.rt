@@ -1,9 +1,10 @@
 // The files that a site writes.
 ghost use Rattle.std.specs.Prelude.{◌≡◌, IfOk, OnOk, fold, map};
-ghost use Rattle.site_session.specs.Full.{seen, tree_of, with_bytes, with_copy, with_file, with_made};
+ghost use Rattle.site_session.specs.Full.{tree_of, with_bytes, with_copy, with_file, with_made};
+ghost use Rattle.site_session.specs.Seen.{seen};
 
 use crate::group::Group;
-use crate::rendered::Rendered;
+use crate::made::Made;
 use out_tree::Tree;
 use site_base::{Memory, SharedBytes, SitePath};
 use site_items::StaticFile;
@@ -17,7 +18,7 @@ pub(crate) fn tree_of(
     alloc: Global,
     held: &Held,
     site: &Site,
-    items: &[Rendered],
+    items: &[Made],
 ) -> Result<Tree, Memory>
     ensures { IfOk result (λ tree. tree ≡ tree_of held.now site.now (map seen items.entry.now)) }
 {
@@ -33,7 +34,7 @@ fn put_items(
     tree: &mut Tree,
     group: Group,
     site: &Site,
-    items: &[Rendered],
+    items: &[Made],
 ) -> Result<(), Memory>
     ensures { OnOk result (tree.new ≡ fold (with_made group site.now) tree.old (map seen items.entry.now)) }
 {
@@ -48,7 +49,7 @@ fn put_item(
     tree: &mut Tree,
     group: Group,
     site: &Site,
-    one: &Rendered,
+    one: &Made,
 ) -> Result<(), Memory>
     ensures { OnOk result (tree.new ≡ with_made group site.now tree.old (seen one.entry.now)) }
 {

@@ -8,6 +8,8 @@ pub use scenario::{Ends, RunEnd, Scenario};
 pub use scenario_error::ScenarioError;
 
 #[cfg(test)]
+mod faults;
+#[cfg(test)]
 mod once;
 #[cfg(test)]
 mod real;
@@ -19,3 +21,7 @@ mod seen;
 mod sessions;
 #[cfg(test)]
 mod sites;
+#[cfg(test)]
+mod trees;
+#[cfg(test)]
+mod worked;

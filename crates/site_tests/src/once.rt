@@ -26,15 +26,15 @@ const ROWS: &[Row] = &[
         replies: "scanned 2\nbuilt rendered=1 reused=0 written=2 removed=0\n",
         outputs: &[("a.txt", "x"), ("index.html", "<h1>Hi</h1>\n")],
     },
-    // A form that is not built yet: the output is untouched.
+    // A template with a fault: the output is untouched.
     Row {
         given: Scenario {
-            sources: &[("a.md", "---\n---\nx")],
+            sources: &[("a.md", "---\n---\n{{")],
             outputs: &[("old.html", "old")],
             ..PLAIN
         },
         status: 1,
-        replies: "scanned 1\nfault F0 0 a.md\n",
+        replies: "scanned 1\nfault F10 1 a.md\n",
         outputs: &[("old.html", "old")],
     },
     // What is kept stays, what the site lacks goes.

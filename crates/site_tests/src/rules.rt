@@ -247,21 +247,13 @@ const BUILT: &[(Files, Files)] = &[
         ],
         &[],
     ),
-    // What is not built yet is named once the site is read, by the order of rendering.
+    // A page without a layout is its text.
     (
         &[(
             "a.html",
             "---\nlayout: false\nn: -7\n---\n{{ page.n }}{{ page.url }}{{ page.none }}",
         )],
         &[("a.html", "-7/a.html")],
-    ),
-    // What an output prints has at most forty bytes.
-    (
-        &[(
-            "a.html",
-            "---\nt: x123456789x123456789x123456789x123456789\n---\n{{ page.t }}",
-        )],
-        &[("a.html", "x123456789x123456789x123456789x123456789")],
     ),
 ];
 
@@ -339,34 +331,17 @@ const REFUSED: &[(Files, &str)] = &[
         &[("a.html", "---\ndate: 10000-01-01\n---\n"), ("b.md", EMPTY)],
         "\nfault F7 0 a.html\n",
     ),
-    // What is not built yet is named once the site is read, by the order of rendering.
+    // A fault of rendering is named once the site is read without one, by the order of rendering.
     (
-        &[("a.md", EMPTY), ("_posts/2020-01-02-t.md", EMPTY)],
-        "\nfault F0 0 _posts/2020-01-02-t.md\n",
+        &[
+            ("a.md", "---\n---\n{{"),
+            ("_posts/2020-01-02-t.md", "---\n---\n{% nope %}"),
+        ],
+        "\nfault F11 1 _posts/2020-01-02-t.md\n",
     ),
     (
-        &[("a.html", "---\nlayout: l\n---\n")],
-        "\nfault F0 0 a.html\n",
-    ),
-    (
-        &[("a.html", "---\n---\n{{ page.content }}")],
-        "\nfault F0 0 a.html\n",
-    ),
-    (
-        &[("a.html", "---\n---\n{% if a %}")],
-        "\nfault F0 0 a.html\n",
-    ),
-    (
-        &[("_config.yml", "paginate: 2")],
-        "\nfault F0 0 _config.yml\n",
-    ),
-    // What an output prints has at most forty bytes.
-    (
-        &[(
-            "a.html",
-            "---\nt: x123456789x123456789x123456789x123456789y\n---\n{{ page.t }}",
-        )],
-        "\nfault F0 0 a.html\n",
+        &[("a.md", "---\n---\n{{"), ("b.html", "---\ndate: x\n---\n")],
+        "\nfault F7 0 b.html\n",
     ),
 ];
 

@@ -13,6 +13,8 @@ ghost use Rattle.site_tests.specs.Scenarios.{IsFault, contents, file_list, outpu
 
 use crate::scenario_error::ScenarioError;
 use out_tree::MemoryOut;
+use page_render::PageRenderer;
+use read_record::Tally;
 use site_base::{MemoryInput, MemorySink, SitePath, Words};
 use site_program::{Status, run_jobs, run_once};
 use source_tree::{MemorySource, paths_stand_apart};
@@ -125,6 +127,8 @@ impl<'a> Scenario<'a> {
     {
         let words = words(alloc, self.words)?;
         let mut ends = self.ends(alloc)?;
+        let renderer = PageRenderer::new(alloc);
+        let mut tally = Tally::new(alloc);
         let status = run_jobs(
             rt,
             alloc,
@@ -134,6 +138,8 @@ impl<'a> Scenario<'a> {
             &mut ends.out,
             &mut ends.input,
             &mut ends.sink,
+            &renderer,
+            &mut tally,
         );
         Ok(RunEnd { status, ends })
     }

@@ -16,7 +16,7 @@ const ON: &[Row] = &[
             ..PLAIN
         },
         status: 0,
-        replies: "ok\nok\nout-fault 1\nmarked p.html\nbuilt rendered=2 reused=0 written=1 removed=0\n",
+        replies: "ok\nok\nout-fault 1\nmarked p.html\nbuilt rendered=0 reused=2 written=1 removed=0\n",
         outputs: &[("p.html", "p\n"), ("q.html", "q\n")],
     },
     // A file becomes a folder: what was there is removed first.
@@ -60,11 +60,11 @@ const ON: &[Row] = &[
     Row {
         given: Scenario {
             words: &["session"],
-            script: "put a 1\nxbuild\nput b.md 9\n---\n---\nbbuild\ndelete b.md\nbuild",
+            script: "put a 1\nxbuild\nput b.md 10\n---\n---\n{{build\ndelete b.md\nbuild",
             ..PLAIN
         },
         status: 0,
-        replies: "ok\nbuilt rendered=0 reused=0 written=1 removed=0\nok\nfault F0 0 b.md\nok\nbuilt rendered=0 reused=0 written=0 removed=0\n",
+        replies: "ok\nbuilt rendered=0 reused=0 written=1 removed=0\nok\nfault F10 1 b.md\nok\nbuilt rendered=0 reused=0 written=0 removed=0\n",
         outputs: &[("a", "x")],
     },
     // What the scan finds takes the place of what was put; CR LF ends a line too.
@@ -284,7 +284,7 @@ const EDITS: &[Row] = &[
             ..PLAIN
         },
         status: 0,
-        replies: "ok\nok\nbuilt rendered=2 reused=0 written=2 removed=0\nok\nbuilt rendered=1 reused=0 written=1 removed=0\nok\nbuilt rendered=2 reused=0 written=1 removed=0\n",
+        replies: "ok\nok\nbuilt rendered=2 reused=0 written=2 removed=0\nok\nbuilt rendered=0 reused=1 written=1 removed=0\nok\nbuilt rendered=1 reused=1 written=1 removed=0\n",
         outputs: &[("p.html", "r"), ("q.html", "q")],
     },
     // A file is deleted and put again as it was; another is deleted for good.
@@ -298,15 +298,15 @@ const EDITS: &[Row] = &[
         replies: "ok\nok\nbuilt rendered=0 reused=0 written=2 removed=0\nok\nok\nbuilt rendered=0 reused=0 written=0 removed=0\nok\nbuilt rendered=0 reused=0 written=0 removed=1\n",
         outputs: &[("a", "x")],
     },
-    // A form that is not built comes and goes between two edits.
+    // A template with a fault comes and goes between two edits.
     Row {
         given: Scenario {
             words: &["session"],
-            script: "put a 1\nxbuild\nput b.md 9\n---\n---\nbbuild\nput a 1\nyput b.md 1\nbbuild\n",
+            script: "put a 1\nxbuild\nput b.md 10\n---\n---\n{{build\nput a 1\nyput b.md 1\nbbuild\n",
             ..PLAIN
         },
         status: 0,
-        replies: "ok\nbuilt rendered=0 reused=0 written=1 removed=0\nok\nfault F0 0 b.md\nok\nok\nbuilt rendered=0 reused=0 written=2 removed=0\n",
+        replies: "ok\nbuilt rendered=0 reused=0 written=1 removed=0\nok\nfault F10 1 b.md\nok\nok\nbuilt rendered=0 reused=0 written=2 removed=0\n",
         outputs: &[("a", "y"), ("b.md", "b")],
     },
     // A write of a later build fails; then something else is edited.
@@ -376,7 +376,7 @@ fn second_build_calls_nobody(rt: &impl Wait, alloc: Global) -> bool {
         Ok(outcome) => {
             replies_are(
                 &outcome,
-                "ok\nbuilt rendered=1 reused=0 written=1 removed=0\nbuilt rendered=1 reused=0 written=0 removed=0\n",
+                "ok\nbuilt rendered=1 reused=0 written=1 removed=0\nbuilt rendered=0 reused=1 written=0 removed=0\n",
             ) && is_called_once(&outcome)
         }
         Err(_) => false,

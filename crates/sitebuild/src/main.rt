@@ -5,6 +5,8 @@ mod telling;
 
 use crate::telling::end;
 use out_tree::DiskOut;
+use page_render::PageRenderer;
+use read_record::Tally;
 use site_base::Words;
 use site_program::{Status, StdSink, run_jobs, run_once};
 use site_script::StdInput;
@@ -25,6 +27,8 @@ fn main(rt: HostRuntime) -> ExitCode {
     let mut source = DiskSource::new(rt);
     let mut out = DiskOut::new(rt);
     let mut sink = StdSink::new(rt);
+    let renderer = PageRenderer::new(rt.alloc());
+    let mut tally = Tally::new(rt.alloc());
     let status = if is_for_jobs(&words) {
         run_jobs(
             &rt,
@@ -35,6 +39,8 @@ fn main(rt: HostRuntime) -> ExitCode {
             &mut out,
             &mut StdInput::new(rt),
             &mut sink,
+            &renderer,
+            &mut tally,
         )
     } else {
         run_once(

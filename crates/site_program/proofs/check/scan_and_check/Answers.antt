@@ -1,9 +1,8 @@
 use Rattle.std.proofs.Common.{◌≡◌, ◌∙◌, ap, refl, subst, ℕ, Err, rules}
 use Rattle.std.specs.Prelude.{false}
 use Rattle.site_session.specs.Bytes.{reply_bytes}
-use Rattle.site_session.specs.Full.{fault_of}
 use Rattle.site_session.specs.Replies.{scan_reply}
-use Rattle.site_session.specs.Session.{full_now, start}
+use Rattle.site_session.specs.Session.{first_fault, start}
 use Rattle.site_session.specs.Standing.{Standing}
 use Rattle.site_session.specs.declared.reply.Reply.TheVariants.{Scanned, Faulty}
 use Rattle.site_program.specs.Checks.{EndsAs, SaidBoth, verdict, verdict_status}
@@ -17,17 +16,17 @@ returns-in-Ok-clause-told g c = λ given told.
     let tells = held_tells given c.open-session.result c.scan.new.self c.in-Ok.count (c.in-Ok.ensures.answers given 1 (Scanned c.in-Ok.count) told refl) in
     let now_is = tells.new_is ∙ ap (after_scan given) opened in
     held_checked (after_scan given (start c.args.settings c.args.moment)) c.check_held.result tells.none
-    (subst (λ (s : Standing). EndsAs (verdict_status (fault_of (full_now s))) c.check_held.result) now_is c.check_held.ensures.ends)
+    (subst (λ (s : Standing). EndsAs (verdict_status (first_fault s)) c.check_held.result) now_is c.check_held.ensures.ends)
 
 pub returns-in-Ok-clause-took : goal.returns-in-Ok-clause-took
 returns-in-Ok-clause-took g c = λ given before told w.
     let opened : c.open-session.result ≡ start c.args.settings c.args.moment = search rules in
     let tells = held_tells given c.open-session.result c.scan.new.self c.in-Ok.count (c.in-Ok.ensures.answers given 1 (Scanned c.in-Ok.count) told refl) in
     let now_is = tells.new_is ∙ ap (after_scan given) opened in
-    let fault = fault_of (full_now c.scan.new.self) in
+    let fault = first_fault c.scan.new.self in
     let counted = subst (λ (n : ℕ). SaidBoth (reply_bytes false (Scanned n)) (verdict fault) (verdict_status fault) before (g.K.ByteSink.taken c.check_held.new.sink) c.check_held.result) tells.count_is (c.check_held.ensures.took before w) in
     held_took given (after_scan given (start c.args.settings c.args.moment)) before _ c.check_held.result tells.none
-    (subst (λ (s : Standing). SaidBoth (reply_bytes false (scanned given)) (verdict (fault_of (full_now s))) (verdict_status (fault_of (full_now s))) before (g.K.ByteSink.taken c.check_held.new.sink) c.check_held.result) now_is counted)
+    (subst (λ (s : Standing). SaidBoth (reply_bytes false (scanned given)) (verdict (first_fault s)) (verdict_status (first_fault s)) before (g.K.ByteSink.taken c.check_held.new.sink) c.check_held.result) now_is counted)
 
 pub returns-in-Err-Failed-clause-took : goal.returns-in-Err-Failed-clause-took
 returns-in-Err-Failed-clause-took g c = λ given before told w.

@@ -60,6 +60,6 @@ returns-in-Check-clause-check_took g c = λ given settings before is told w.
     subst (λ (s : Standing). CheckTook given (after_scan given s) before (g.K.ByteSink.taken c.scan_and_check.new.sink) c.scan_and_check.result) (same_start _ _ _ _ settings_is moment_is)
     (c.scan_and_check.ensures.took given before told w)
 
-pub returns-in-Err-Memory-clause-once_run : goal.returns-in-Err-Memory-clause-once_run
-returns-in-Err-Memory-clause-once_run g c = λ given settings before is why told out w.
+pub returns-clause-once_run : goal.returns-clause-once_run
+returns-clause-once_run g c = λ given settings before is why told out w.
     cut_none g.O.OutTree.contents given (start settings c.args.moment) before _ _ _ refl out w refl

@@ -16,4 +16,4 @@ pub returns : goal.returns
 returns c =
     let gone = all_gone c.loop-rank.ranked.entries c.in_default.ensures.variant.1 in
     c.from_vec.ensures ∙ sym (none_more c.document_groups-documents.result c.loop-rank.done.items c.loop-rank.before c.loop-rank.ranked.entries gone)
-    ∙ c.loop-rank.invariant ∙ ap (λ n. site_items n None c.args.ranked.entries) c.document_groups-documents.ensures
+    ∙ c.loop-rank.invariant ∙ ap (λ n. site_items n None c.args.ranked.entries) c.document_groups-documents.ensures.count

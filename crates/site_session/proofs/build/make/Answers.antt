@@ -21,7 +21,7 @@ pub returns-in-Ok-clause-made : goal.returns-in-Ok-clause-made
 returns-in-Ok-clause-made g c = λ first failed h is.
     let mid = mid_true c.args.keeper.now _ _ first c.in-Ok.ensures.listed c.list_once.ensures.holds h in
     let made = c.make_listed.ensures.made mid.0 failed (c.list_once.ensures.same ∙ mid.1) mid.2 is in
-    (same_told failed c.args.output _ _ _ c.list_once.ensures.same made.0, made.1)
+    (same_told failed c.args.output.written _ _ _ c.list_once.ensures.same made.0, made.1)
 
 listed_by : (g : Rattle.site_session.proofs.build.make.Given.Over) (c : goal.After-make_listed g) → ListedBy c.args.keeper.now (g.O.OutTree.calls c.args.out.now) (g.O.OutTree.calls c.list_once.new.device)
 listed_by g c = record {
@@ -31,5 +31,5 @@ listed_by g c = record {
 
 pub returns-in-Ok-clause-called : goal.returns-in-Ok-clause-called
 returns-in-Ok-clause-called g c = λ first h.
-    called c.args.keeper.now _ _ first c.args.output _ _ _ c.make_listed.result (listed g c) h (listed_by g c) c.make_listed.ensures.no_fault c.make_listed.ensures.unlisted c.make_listed.ensures.called
+    called c.args.keeper.now _ _ first c.args.output.written _ _ _ c.make_listed.result (listed g c) h (listed_by g c) c.make_listed.ensures.no_fault c.make_listed.ensures.unlisted c.make_listed.ensures.called
     (on_err c.make_listed.result (λ same. ap g.O.OutTree.calls same.1) c.make_listed.ensures.err)

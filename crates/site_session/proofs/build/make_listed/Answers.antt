@@ -13,7 +13,7 @@ pub returns-then-is_empty-clause-answers : goal.returns-then-is_empty-clause-ans
 returns-then-is_empty-clause-answers g c = λ now reply is.
     let none : c.in-Ok.applied.failed ≡ [] = nothing _ (let len : length c.in-Ok.applied.failed ≡ 0 = search rules in len) in
     all_done now c.args.output _ _ c.in-Ok.applied.failed _ reply none c.in-Ok.ensures.in_order c.in-Ok.ensures.belief
-    (λ i. record { rendered = c.args.output.rendered; reused = 0; written = c.in-Ok.ensures.written i; removed = c.in-Ok.ensures.removed i; why = c.args.output.why })
+    (λ i. record { rendered = c.args.output.rendered; reused = c.args.output.reused; written = c.in-Ok.ensures.written i; removed = c.in-Ok.ensures.removed i; why = c.args.output.why })
     is
 
 pub returns-clause-answers : goal.returns-clause-answers
@@ -28,12 +28,12 @@ returns-then-is_empty-clause-belief g c = λ old told truth.
 pub returns-then-is_empty-clause-made : goal.returns-then-is_empty-clause-made
 returns-then-is_empty-clause-made g c = λ old failed told truth is.
     let none : c.in-Ok.applied.failed ≡ [] = nothing _ (let len : length c.in-Ok.applied.failed ≡ 0 = search rules in len) in
-    makes_but c.args.keeper.now c.make_equal.new.self _ _ c.args.output _ _ failed old c.in-Ok.ensures.contents c.in-Ok.ensures.made
+    makes_but c.args.keeper.now c.make_equal.new.self _ _ c.args.output.written _ _ failed old c.in-Ok.ensures.contents c.in-Ok.ensures.made
     c.in-Ok.ensures.marked (is ∙ sym none) told truth
 
 pub returns-clause-made : goal.returns-clause-made
 returns-clause-made g c = λ old failed told truth is.
-    makes_but c.args.keeper.now c.make_equal.new.self _ _ c.args.output _ _ failed old c.in-Ok.ensures.contents c.in-Ok.ensures.made
+    makes_but c.args.keeper.now c.make_equal.new.self _ _ c.args.output.written _ _ failed old c.in-Ok.ensures.contents c.in-Ok.ensures.made
     c.in-Ok.ensures.marked is told truth
 
 pub returns-clause-belief : goal.returns-clause-belief

@@ -1,6 +1,7 @@
 use Rattle.std.proofs.Common.{◌≡◌, drop, map}
 use Rattle.std.specs.Prelude.{fold}
-use Rattle.site_session.specs.Full.{seen, with_made}
+use Rattle.site_session.specs.Full.{with_made}
+use Rattle.site_session.specs.Seen.{seen}
 use Rattle.site_session.proofs.tree.put_items.Given as goal
 
 abbrev pub invariant-loop-one : goal.invariant-loop-one

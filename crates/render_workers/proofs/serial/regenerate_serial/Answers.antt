@@ -1,0 +1,58 @@
+use Rattle.std.proofs.Common.{◌≡◌, ◌<◌, ◌≤◌, ◌+◌, ◌-◌, ◌∙◌, length, refl, sym, subst, arith}
+use Rattle.round_core.specs.Meant.{given_by}
+use Rattle.render_workers.proofs.FoldLaws.{told}
+use Rattle.render_workers.proofs.WhyLaws.{whys-few}
+use Rattle.render_workers.proofs.RoundLaws.{SoFar, start, went_on, ended_at, whole}
+use Rattle.render_workers.proofs.serial.regenerate_serial.Goals as goal
+
+pub loop-item-init : goal.loop-item-init
+loop-item-init g c =
+    let w = c.args.world.now in
+    let given = given_by (g.W.World.names w) (g.W.World.sight w) g.R.Meaning.ItemMeaning.item c.args.memo.now in
+    let p = c.new-progress.result in
+    subst (λ n. SoFar given n 0 p c.args.memo.now c.args.tally.now c.args.tally.now) (c.new-progress.ensures.bytes ∙ c.fixed_bytes.ensures) (start given p c.args.tally.now c.new-progress.ensures.outs c.new-progress.ensures.why)
+
+pub returns-in-Err-clause-round : goal.returns-in-Err-clause-round
+returns-in-Err-clause-round g c =
+    let w = c.args.world.now in
+    let given = given_by (g.W.World.names w) (g.W.World.sight w) g.R.Meaning.ItemMeaning.item c.args.memo.now in
+    let within : c.loop-item.item < length (g.W.World.names w) = omega (arith, c.items-item-end.ensures, c.loop-item-test.true) in
+    ended_at given (g.met.W.World.names_differ w) (g.W.World.fixed w) c.loop-item.item within c.loop-item.progress c.next_item.new.progress c.loop-item.memo c.next_item.new.memo c.args.tally.now c.loop-item.tally c.next_item.new.tally
+    c.loop-item.invariant c.in-Err.error c.in-Err.ensures
+
+pub returns-in-Err-clause-told : goal.returns-in-Err-clause-told
+returns-in-Err-clause-told g c = let w = c.args.world.now in told (given_by (g.W.World.names w) (g.W.World.sight w) g.R.Meaning.ItemMeaning.item c.args.memo.now) (g.met.W.World.lawful w) (g.W.World.fixed w)
+
+pub loop-item-preserved : goal.loop-item-preserved
+loop-item-preserved g c =
+    let w = c.args.world.now in
+    let given = given_by (g.W.World.names w) (g.W.World.sight w) g.R.Meaning.ItemMeaning.item c.args.memo.now in
+    let within : c.loop-item.item < length (g.W.World.names w) = omega (arith, c.items-item-end.ensures, c.loop-item-test.true) in
+    went_on given (g.met.W.World.names_differ w) (g.W.World.fixed w) c.loop-item.item within c.loop-item.progress c.next_item.new.progress c.loop-item.memo c.next_item.new.memo c.args.tally.now c.loop-item.tally c.next_item.new.tally
+    c.loop-item.invariant c.in-Ok.field-0 c.in-Ok.ensures
+
+pub overflow_cast-reused : goal.overflow_cast-reused
+overflow_cast-reused g c =
+    let w = c.args.world.now in
+    let given = given_by (g.W.World.names w) (g.W.World.sight w) g.R.Meaning.ItemMeaning.item c.args.memo.now in
+    let few : length c.loop-item.progress.why ≤ c.loop-item.item = subst (λ ws. length ws ≤ c.loop-item.item) (sym c.loop-item.invariant.why) (whys-few given c.loop-item.item) in
+    omega (arith, c.len.ensures)
+
+pub overflow_sub-reused : goal.overflow_sub-reused
+overflow_sub-reused g c =
+    let w = c.args.world.now in
+    let given = given_by (g.W.World.names w) (g.W.World.sight w) g.R.Meaning.ItemMeaning.item c.args.memo.now in
+    let few : length c.loop-item.progress.why ≤ c.loop-item.item = subst (λ ws. length ws ≤ c.loop-item.item) (sym c.loop-item.invariant.why) (whys-few given c.loop-item.item) in
+    omega (arith, c.len.ensures, c.items.ensures, c.items-item-end.ensures)
+
+pub returns-clause-round : goal.returns-clause-round
+returns-clause-round g c =
+    let w = c.args.world.now in
+    let given = given_by (g.W.World.names w) (g.W.World.sight w) g.R.Meaning.ItemMeaning.item c.args.memo.now in
+    let few : length c.loop-item.progress.why ≤ c.loop-item.item = subst (λ ws. length ws ≤ c.loop-item.item) (sym c.loop-item.invariant.why) (whys-few given c.loop-item.item) in
+    let all : c.loop-item.item ≡ length (g.W.World.names w) = omega (arith, c.items-item-end.ensures) in
+    let reused : (c.items.result - c.len.result) + length c.loop-item.progress.why ≡ length (g.W.World.names w) = omega (arith, c.len.ensures, c.items.ensures, c.items-item-end.ensures) in
+    whole given (g.W.World.fixed w) c.loop-item.item c.loop-item.progress c.loop-item.memo c.forget_missing.new.self c.args.tally.now c.loop-item.tally _ all c.loop-item.invariant refl refl reused c.forget_missing.ensures
+
+pub returns-clause-told : goal.returns-clause-told
+returns-clause-told g c = let w = c.args.world.now in told (given_by (g.W.World.names w) (g.W.World.sight w) g.R.Meaning.ItemMeaning.item c.args.memo.now) (g.met.W.World.lawful w) (g.W.World.fixed w)

@@ -1,0 +1,4 @@
+pub mod Folds
+pub mod Whys
+pub mod Rounds
+pub mod Turns

@@ -1,0 +1,151 @@
+-- What a round over a site makes of a build.
+use Rattle.std.proofs.Common.{◌≡◌, ◌∙◌, ℕ, ◌+◌, ◌-◌, List, [], ◌∷◌, ◌++◌, length, map, Option, Some, None, Result, Ok, Err, refl, sym, ap, subst, arith}
+use Rattle.std.proofs.lemmas.List.{append-nil}
+use Rattle.std.specs.FinMap.{empty}
+use Rattle.std.specs.List.{slice_get}
+use Rattle.memo_table.specs.Entries.{Entries}
+use Rattle.read_record.specs.Outcomes.{Page}
+use Rattle.read_record.specs.Queries.{Query, Met, Gave, Failed, Missed, interpret}
+use Rattle.read_record.specs.Worlds.{Sight}
+use Rattle.read_record.specs.declared.outcome.Outcome.{Outcome}
+use Rattle.render_workers.specs.Folds.{Folded, after_item, fold_from, fold_of}
+use Rattle.render_workers.specs.Rounds.{IsStopped, IsWhole}
+use Rattle.render_workers.specs.Whys.{why_names}
+use Rattle.render_workers.specs.declared.answers.Round.{Round}
+use Rattle.round_core.specs.Meant.{Given, given_by}
+use Rattle.site_base.specs.Chains.{◌>>=◌}
+use Rattle.site_base.specs.Places.{Files}
+use Rattle.site_base.specs.declared.faults.SiteFault.{SiteFault}
+use Rattle.site_base.specs.declared.item_name.ItemName.{ItemName}
+use Rattle.site_reader.specs.Found.{Found, IsFirst}
+use Rattle.site_reader.specs.declared.site_error.SiteError.{SiteError}
+use Rattle.site_reader.specs.declared.site_error.SiteError.TheVariants as error
+use Rattle.site_reader.specs.declared.site.Site.{Site}
+use Rattle.site_session.specs.Full.{Whole, fault_of, given_of, kept_after, kept_by, names_by, names_rendered, output_in, output_of, rendered, whole, whole_by, written_by, written_in}
+use Rattle.site_session.specs.Outputs.{IsOutput, Settled}
+use Rattle.site_session.specs.Session.{first_fault, full_now, site_now}
+use Rattle.site_session.specs.Standing.{Standing}
+use Rattle.site_session.specs.declared.output.Output.{Output}
+use Rattle.site_session.specs.declared.output.Written.{Written}
+use Rattle.site_world.specs.Sights.{fixed_bytes, item_names}
+
+-- ---- what is kept does not matter
+
+module _ (names : List ItemName) (sight : Sight) (item : ItemName → Query SiteFault Page) (kept other : Entries) where
+  fold-same : (ns : List ItemName) (outs : List Outcome) (bytes : ℕ) → fold_from (given_by names sight item kept) ns outs bytes ≡ fold_from (given_by names sight item other) ns outs bytes
+  unfolding fold_from
+  fold-same [] outs bytes = refl
+  fold-same (n ∷ ns) outs bytes = ap (after_item (interpret (sight (length outs) (slice_get outs)) (item n)) n outs bytes) (λ i os bs. fold-same ns os bs i)
+
+pub rendered-same : (files : Files) (site : Site) (kept : Entries) → fold_of (given_of files site kept) (fixed_bytes files site) ≡ rendered files site
+rendered-same files site kept = fold-same _ _ _ kept empty (item_names site) [] (fixed_bytes files site)
+
+-- ---- what is written, and what is rendered for it
+
+written-of-whole : (files : Files) (kept : Entries) (w : Found Whole) (output : Output) → (w >>= λ w. Ok (output_of files kept w)) ≡ Ok output → (w >>= λ w. Ok (written_by files w)) ≡ Ok output.written
+written-of-whole files kept (Ok w) output e = let same : output_of files kept w ≡ output = cc in ap (λ (o : Output). Ok o.written) same
+written-of-whole files kept (Err f) output e = cc
+
+pub written-of : (files : Files) (kept : Entries) (found : Found Site) (output : Output) → output_in files kept found ≡ Ok output → written_in files found ≡ Ok output.written
+written-of files kept (Ok site) output e = written-of-whole files kept (whole files site) output e
+written-of files kept (Err f) output e = cc
+
+fault-of-whole : (files : Files) (kept : Entries) (w : Found Whole) (fault : SiteFault) → (w >>= λ w. Ok (output_of files kept w)) ≡ Err fault → (w >>= λ w. Ok (written_by files w)) ≡ Err fault
+fault-of-whole files kept (Ok w) fault e = cc
+fault-of-whole files kept (Err f) fault e = let same : f ≡ fault = cc in ap Err same
+
+pub fault-of-output : (files : Files) (kept : Entries) (found : Found Site) (fault : SiteFault) → output_in files kept found ≡ Err fault → written_in files found ≡ Err fault
+fault-of-output files kept (Ok site) fault e = fault-of-whole files kept (whole files site) fault e
+fault-of-output files kept (Err f) fault e = let same : f ≡ fault = cc in ap Err same
+
+-- ---- rounds
+
+module _ (files : Files) (kept : Entries) (site : Site) (new : Entries) (before after : List ItemName) where
+  -- a round without a fault
+  module _ (round : Round) (w : IsWhole (given_of files site kept) (fixed_bytes files site) round new before after) where
+    told : rendered files site ≡ Gave round.outs
+    told = sym (rendered-same files site kept) ∙ w.fold
+
+    number : round.reused ≡ length (item_names site) - length round.why
+    number = omega (arith, w.reused)
+
+    pub whole-output : (output : Output) → output ≡ record { written = written_by files (record { site = site; outs = round.outs }); rendered = length round.why; reused = round.reused; why = round.why }
+        → output_in files kept (Ok site) ≡ Ok output
+    whole-output output is =
+        ap (λ (f : Folded). whole_by site f >>= λ w. Ok (output_of files kept w)) told
+        ∙ (λ i. Ok (record { written = written_by files (record { site = site; outs = round.outs }); rendered = length (sym w.why i); reused = (ap (λ ws. length (item_names site) - length ws) (sym w.why) ∙ sym number) i; why = sym w.why i }))
+        ∙ ap Ok (sym is)
+
+    pub whole-settled : Settled files kept (Ok site) new before after
+    whole-settled = record {
+      kept_is = w.kept ∙ ap (kept_by (given_of files site kept)) (sym told);
+      tally = w.tally ∙ ap (λ ws. before ++ why_names ws) w.why ∙ ap (λ f. before ++ names_by (given_of files site kept) f) (sym told);
+    }
+
+  -- a round that a fault ended
+  module _ (fault : SiteFault) (s : IsStopped (given_of files site kept) (fixed_bytes files site) fault new before after) where
+    stopped : rendered files site ≡ Failed (s.place, fault)
+    stopped = sym (rendered-same files site kept) ∙ s.fold
+
+    pub stopped-output : output_in files kept (Ok site) ≡ Err fault
+    stopped-output = ap (λ (f : Folded). whole_by site f >>= λ w. Ok (output_of files kept w)) stopped
+
+    pub stopped-settled : Settled files kept (Ok site) new before after
+    stopped-settled = record {
+      kept_is = s.kept ∙ ap (kept_by (given_of files site kept)) (sym stopped);
+      tally = s.tally ∙ ap (λ f. before ++ names_by (given_of files site kept) f) (sym stopped);
+    }
+
+-- ---- what a build answers before its output is touched
+
+pub from_whole : (files : Files) (kept : Entries) (site : Site) (new : Entries) (before after : List ItemName) (round : Round) (output : Output)
+    → IsWhole (given_of files site kept) (fixed_bytes files site) round new before after
+    → output ≡ record { written = written_by files (record { site = site; outs = round.outs }); rendered = length round.why; reused = round.reused; why = round.why }
+    → IsOutput files kept (Ok site) (Ok output) new before after
+from_whole files kept site new before after round output w is = (whole-output files kept site new before after round w output is, whole-settled files kept site new before after round w)
+
+pub from_stopped : (files : Files) (kept : Entries) (site : Site) (new : Entries) (before after : List ItemName) (fault : SiteFault)
+    → IsStopped (given_of files site kept) (fixed_bytes files site) fault new before after → IsOutput files kept (Ok site) (Err (error.Fault fault)) new before after
+from_stopped files kept site new before after fault s = (stopped-output files kept site new before after fault s, stopped-settled files kept site new before after fault s)
+
+-- a site that is not read renders nothing
+pub from_unread : (files : Files) (kept : Entries) (found : Found Site) (e : SiteError) (before : List ItemName) → IsFirst found e → IsOutput files kept found (Err e) kept before before
+from_unread files kept found (error.Fault fault) before first = (
+  ap (output_in files kept) first,
+  record {
+    kept_is = sym (ap (kept_after files kept) first);
+    tally = sym (append-nil before) ∙ sym (ap (λ f. before ++ names_rendered files kept f) first);
+  },
+)
+from_unread files kept found error.Memory before first = tt
+
+-- ---- first faults
+
+pub no-fault : (files : Files) (site : Site) (outs : List Outcome) → rendered files site ≡ Gave outs → fault_of (whole files site) ≡ None
+no-fault files site outs e = ap (λ f. fault_of (whole_by site f)) e
+
+pub first-fault : (files : Files) (site : Site) (place : ℕ) (fault : SiteFault) → rendered files site ≡ Failed (place, fault) → fault_of (whole files site) ≡ Some fault
+first-fault files site place fault e = ap (λ f. fault_of (whole_by site f)) e
+
+fault-of-written : (files : Files) (w : Found Whole) → fault_of (w >>= λ w. Ok (written_by files w)) ≡ fault_of w
+fault-of-written files (Ok w) = refl
+fault-of-written files (Err f) = refl
+
+-- the first fault of a site that was read
+pub fault-of-site : (files : Files) (found : Found Site) (site : Site) → found ≡ Ok site → fault_of (written_in files found) ≡ fault_of (whole files site)
+fault-of-site files found site e = ap (λ f. fault_of (written_in files f)) e ∙ fault-of-written files (whole files site)
+
+pub fault-of-reading : (files : Files) (found : Found Site) (fault : SiteFault) → found ≡ Err fault → fault_of (written_in files found) ≡ Some fault
+fault-of-reading files found fault e = ap (λ f. fault_of (written_in files f)) e
+
+fault-of-both : (files : Files) (kept : Entries) (w : Found Whole) → fault_of (w >>= λ w. Ok (written_by files w)) ≡ fault_of (w >>= λ w. Ok (output_of files kept w))
+fault-of-both files kept (Ok w) = refl
+fault-of-both files kept (Err f) = refl
+
+fault-in : (files : Files) (kept : Entries) (found : Found Site) → fault_of (written_in files found) ≡ fault_of (output_in files kept found)
+fault-in files kept (Ok site) = fault-of-both files kept (whole files site)
+fault-in files kept (Err f) = refl
+
+-- what is kept does not matter to the first fault
+pub fault-now : (now : Standing) → first_fault now ≡ fault_of (full_now now)
+fault-now now = fault-in now.files now.kept (site_now now)

@@ -1,0 +1,5 @@
+pub mod CollectionLaws
+pub mod Filled
+pub mod LabelLaws
+pub mod PlaceLaws
+mod Rows

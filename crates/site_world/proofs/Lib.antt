@@ -1,0 +1,12 @@
+mod Keyed
+mod Pushes
+mod Digits
+mod Apart
+mod BelowPosts
+mod PostLaws
+mod CopiedSums
+mod FormLaws
+mod TextCodes
+mod Loops
+mod FileTexts
+mod Rows

@@ -1,0 +1,19 @@
+//! What a site answers to those who render its items.
+#![tactic(auto)]
+
+mod coded;
+mod copied;
+mod found;
+mod item_places;
+mod looking;
+mod members;
+mod named;
+mod posts;
+mod shelf;
+mod shelves;
+mod site_world;
+mod sources;
+mod text_code;
+mod world;
+
+pub use site_world::SiteWorld;
