@@ -3,7 +3,7 @@ use Rattle.std.specs.Prelude.{ℕ, List}
 use Rattle.site_base.specs.declared.faults.YamlKind.{YamlKind}
 use Rattle.site_base.specs.declared.faults.YamlKind.TheVariants.{Tab, Indent, Quote, Flow, Outside, Number, NoKey, Depth, NotMapping}
 use Rattle.site_base.specs.declared.faults.FaultKind.{FaultKind}
-use Rattle.site_base.specs.declared.faults.FaultKind.TheVariants.{Unbuilt, TooManyFiles, FileTooLong, SiteTooLong, NotUtf8, Yaml, Config, BadDate, Data, PathClash, LiquidSyntax, UnknownTag, IncludeMissing, LinkMissing, FilterArgument, DividedByZero, Overflow, Fraction, Nesting, RangeTooLong, OutputTooLong, TreeTooLong, DateFormat, Unlike, Undefined, UnknownFilter}
+use Rattle.site_base.specs.declared.faults.FaultKind.TheVariants.{TooManyFiles, FileTooLong, SiteTooLong, NotUtf8, Yaml, Config, BadDate, Data, PathClash, LiquidSyntax, UnknownTag, IncludeMissing, LinkMissing, FilterArgument, DividedByZero, Overflow, Fraction, Nesting, RangeTooLong, OutputTooLong, TreeTooLong, DateFormat, Unlike, Undefined, UnknownFilter}
 use Rattle.site_base.specs.declared.faults.SiteFault.{SiteFault}
 
 abbrev pub yaml_number : YamlKind → ℕ
@@ -18,7 +18,6 @@ yaml_number Depth = 8
 yaml_number NotMapping = 9
 
 abbrev pub fault_number : FaultKind → ℕ
-fault_number Unbuilt = 0
 fault_number TooManyFiles = 1
 fault_number FileTooLong = 2
 fault_number SiteTooLong = 3

@@ -40,8 +40,6 @@ impl YamlKind {
 /// Why a site is refused.
 #[derive(Clone, Copy, Debug, PartialEq, Eq)]
 pub enum FaultKind {
-    /// A form that sitebuild does not build yet.
-    Unbuilt,
     TooManyFiles,
     FileTooLong,
     SiteTooLong,
@@ -70,12 +68,11 @@ pub enum FaultKind {
 }
 
 impl FaultKind {
-    /// The number that replies print after `F`: the kind's place, from 0 for `Unbuilt`.
+    /// The number that replies print after `F`: the kind's place, from 1 for `TooManyFiles`.
     pub fn number(self) -> u8
         ensures { result ≡ fault_number self }
     {
         match self {
-            FaultKind::Unbuilt => 0,
             FaultKind::TooManyFiles => 1,
             FaultKind::FileTooLong => 2,
             FaultKind::SiteTooLong => 3,

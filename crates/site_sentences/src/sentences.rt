@@ -12,8 +12,6 @@ pub fn fault_sentence(kind: FaultKind) -> &'static str
     ensures { is_sentence result.now ≡ true }
 {
     match kind {
-        FaultKind::Unbuilt =>
-            "the file uses a form that sitebuild does not build yet; leave it out, or build this site with Jekyll for now",
         FaultKind::TooManyFiles =>
             "the folder has more than 50,000 files, and this is the first one too many; split the site",
         FaultKind::FileTooLong =>
