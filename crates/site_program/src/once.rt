@@ -6,13 +6,15 @@ ghost use Rattle.site_script.specs.Line.{is_moment};
 ghost use Rattle.site_session.specs.Session.{Given, start};
 ghost use Rattle.site_words.specs.declared.faults.UsageKind.{UsageKind};
 ghost use Rattle.site_words.specs.declared.orders.Order.TheVariants as order;
-ghost use Rattle.site_program.specs.Checks.{Checked, CheckTook};
+ghost use Rattle.site_program.specs.Checks.{Checked, CheckTook, EndsAs, SaidBoth};
+ghost use Rattle.site_program.specs.Makes.{first_bytes, make_status, second_bytes};
 ghost use Rattle.site_program.specs.Runs.{OnceRun};
 ghost use Rattle.site_program.specs.Once.{after_scan, once_order, Took, Untouched, WasUsage, Ended};
 ghost use Rattle.site_program.specs.Usage.{usage_line};
 
 use crate::check::scan_and_check;
 use crate::line::do_line;
+use crate::make::make;
 use crate::status::{Status, status_of};
 use crate::usage::{TopCall, read_order, tell_usage};
 use out_tree::OutTree;
@@ -25,9 +27,10 @@ use site_words::{Options, Order, WordsError};
 use source_tree::SourceTree;
 use std::alloc::Global;
 
-/// The commands `once` and `check`. `once` scans the source and, where that answers a number, makes the output equal to what
-/// its files stand for; `check` tells their first fault, or that they have none, and does not call the output. It waits for
-/// nobody and always returns.
+/// The commands `once`, `check` and `make`. `once` scans the source and, where that answers a number, makes the output equal
+/// to what its files stand for; `check` tells their first fault, or that they have none, and does not call the output; `make`
+/// builds a made-up site in memory, edits a post of it and builds it again, and calls neither source nor output. It waits
+/// for nobody and always returns.
 pub fn run_once<S: SourceTree, O: OutTree, K: ByteSink>(
     alloc: Global,
     words: &Words,
@@ -59,6 +62,14 @@ pub fn run_once<S: SourceTree, O: OutTree, K: ByteSink>(
     // and that the output is the same value as before.
     ensures check_untouched { (settings : Settings) → once_order words.now moment ≡ Ok (order.Check settings) → out.new ≡ out.old }
 
+    // Of `make`: that it ends with the first fault of the site or of the edited one, unless the sink fails or memory is wanting,
+    ensures make { (number count : ℕ) → once_order words.now moment ≡ Ok (order.Make number count) → EndsAs (make_status number count moment) result }
+    // what the sink then took,
+    ensures make_took { (number count : ℕ) (before : List ℕ) → once_order words.now moment ≡ Ok (order.Make number count) → K.taken sink.old ≡ Some before →
+        SaidBoth (first_bytes number count moment) (second_bytes number count moment) (make_status number count moment) before (K.taken sink.new) result }
+    // and that it calls neither source nor output.
+    ensures make_untouched { (number count : ℕ) → once_order words.now moment ≡ Ok (order.Make number count) → (source.new ≡ source.old) × (out.new ≡ out.old) }
+
     // Whatever the ends tell: the words alone decide about Usage, and a run that did not come to build left the output alone.
     ensures usage { (kind : UsageKind) → once_order words.now moment ≡ Err kind → WasUsage kind result }
     ensures usage_took { (kind : UsageKind) (before : List ℕ) → K.taken sink.old ≡ Some before → result ≡ Status.Usage kind →
@@ -89,6 +100,7 @@ pub fn run_once<S: SourceTree, O: OutTree, K: ByteSink>(
             Order::Check(settings) => {
                 scan_and_check(alloc, settings, moment, source, sink, &renderer)
             }
+            Order::Make(number, count) => make(alloc, number, count, moment, sink, &renderer),
             _ => unreachable!(),
         },
         Err(WordsError::Usage(kind)) => tell_usage(alloc, kind, sink),

@@ -65,8 +65,16 @@ impl Session {
         requires { is_moment moment ≡ true }
         ensures { result ≡ start settings moment }
     {
+        Session::holding(alloc, Held::new(alloc), settings, moment)
+    }
+
+    /// A session that holds these files, over an output that has not been listed. It takes no memory.
+    pub fn holding(alloc: Global, held: Held, settings: Settings, moment: i64) -> Session
+        requires { is_moment moment ≡ true }
+        ensures { result ≡ record (start settings moment) { files = held } }
+    {
         Session {
-            held: Held::new(alloc),
+            held,
             settings,
             moment,
             memo: Memo::new(alloc),
