@@ -18,11 +18,11 @@ use crate::make::make;
 use crate::status::{Status, status_of};
 use crate::usage::{TopCall, read_order, tell_usage};
 use out_tree::OutTree;
-use page_render::{PageMeaning, PageRenderer};
-use read_record::{Renderer, Tally};
+use page_render::PageRenderer;
+use read_record::Tally;
 use site_base::{ByteSink, Settings, Words};
 use site_script::Line;
-use site_session::{Reply, Session};
+use site_session::{InOrder, Reply, Rounds, Session};
 use site_words::{Options, Order, WordsError};
 use source_tree::SourceTree;
 use std::alloc::Global;
@@ -93,8 +93,9 @@ pub fn run_once<S: SourceTree, O: OutTree, K: ByteSink>(
                     why: false,
                 };
                 let mut tally = Tally::new(alloc);
+                let rounds = InOrder::new(&renderer);
                 scan_and_build(
-                    alloc, options, moment, source, out, sink, &renderer, &mut tally,
+                    alloc, options, moment, source, out, sink, &rounds, &mut tally,
                 )
             }
             Order::Check(settings) => {
@@ -109,19 +110,14 @@ pub fn run_once<S: SourceTree, O: OutTree, K: ByteSink>(
 }
 
 // The session over the script `scan`, `build`, where the build is left out if the scan answers no number.
-pub(crate) fn scan_and_build<
-    S: SourceTree,
-    O: OutTree,
-    K: ByteSink,
-    R: Renderer<Meaning = PageMeaning>,
->(
+pub(crate) fn scan_and_build<S: SourceTree, O: OutTree, K: ByteSink, B: Rounds>(
     alloc: Global,
     options: Options,
     moment: i64,
     source: &mut S,
     out: &mut O,
     sink: &mut K,
-    renderer: &R,
+    rounds: &B,
     tally: &mut Tally,
 ) -> Status
     requires { is_moment moment ≡ true }
@@ -149,7 +145,7 @@ pub(crate) fn scan_and_build<
         source,
         out,
         sink,
-        renderer,
+        rounds,
         tally,
     ) {
         Ok(scanned) => scanned,
@@ -168,7 +164,7 @@ pub(crate) fn scan_and_build<
         source,
         out,
         sink,
-        renderer,
+        rounds,
         tally,
     ) {
         Ok(built) => status_of(built),
