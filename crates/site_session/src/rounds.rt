@@ -32,6 +32,7 @@ pub trait Rounds {
 }
 
 /// One item after another.
+#[derive(Drop)]
 pub struct InOrder<'a, R> {
     renderer: &'a R,
 }
