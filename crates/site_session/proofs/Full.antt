@@ -1,18 +1,17 @@
 -- What a round over a site makes of a build.
-use Rattle.std.proofs.Common.{◌≡◌, ◌∙◌, ℕ, ◌+◌, ◌-◌, List, [], ◌∷◌, ◌++◌, length, map, Option, Some, None, Result, Ok, Err, refl, sym, ap, subst, arith}
-use Rattle.std.proofs.lemmas.List.{append-nil}
+use Rattle.std.proofs.Common.{◌≡◌, ◌∙◌, ℕ, ◌-◌, List, [], ◌∷◌, length, Some, None, Ok, Err, refl, sym, ap, subst, arith}
 use Rattle.std.specs.FinMap.{empty}
 use Rattle.std.specs.List.{slice_get}
 use Rattle.memo_table.specs.Entries.{Entries}
 use Rattle.read_record.specs.Outcomes.{Page}
-use Rattle.read_record.specs.Queries.{Query, Met, Gave, Failed, Missed, interpret}
+use Rattle.read_record.specs.Queries.{Query, Gave, Failed, interpret}
 use Rattle.read_record.specs.Worlds.{Sight}
 use Rattle.read_record.specs.declared.outcome.Outcome.{Outcome}
 use Rattle.render_workers.specs.Folds.{Folded, after_item, fold_from, fold_of}
 use Rattle.render_workers.specs.Rounds.{Adds, IsStopped, IsWhole}
 use Rattle.render_workers.specs.Whys.{why_names}
 use Rattle.render_workers.specs.declared.answers.Round.{Round}
-use Rattle.round_core.specs.Meant.{Given, given_by}
+use Rattle.round_core.specs.Meant.{given_by}
 use Rattle.site_base.specs.Chains.{◌>>=◌}
 use Rattle.site_base.specs.Places.{Files}
 use Rattle.site_base.specs.declared.faults.SiteFault.{SiteFault}
@@ -26,7 +25,6 @@ use Rattle.site_session.specs.Outputs.{IsOutput, Settled}
 use Rattle.site_session.specs.Session.{first_fault, full_now, site_now}
 use Rattle.site_session.specs.Standing.{Standing}
 use Rattle.site_session.specs.declared.output.Output.{Output}
-use Rattle.site_session.specs.declared.output.Written.{Written}
 use Rattle.site_world.specs.Sights.{fixed_bytes, item_names}
 
 -- ---- what is kept does not matter

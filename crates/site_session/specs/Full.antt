@@ -1,5 +1,5 @@
 -- What a site stands for: the files of its output, or its first fault. After Jekyll 4's manual, "Rendering process", whose order of the items is that of `site_reader`.
-use Rattle.std.specs.Prelude.{ℕ, ℤ, suc, ◌-◌, Bool, not, List, [], ◌∷◌, ◌++◌, length, drop, fold, nat_lt, Option, Some, None, Result, Ok, Err, if◌then◌else◌}
+use Rattle.std.specs.Prelude.{ℕ, ℤ, suc, ◌-◌, Bool, not, List, [], ◌∷◌, length, drop, fold, nat_lt, Option, Some, None, Ok, Err, if◌then◌else◌}
 use Rattle.std.specs.FinMap.{empty, get, insert}
 use Rattle.memo_table.specs.Entries.{Entries, of_names}
 use Rattle.page_render.specs.Items.{item}

@@ -1,6 +1,6 @@
 -- A session: what each line of a script does, and its reply. It is a fold over the lines, and does not know how the output is
 -- compared.
-use Rattle.std.specs.Prelude.{◌≡◌, ℕ, ℤ, ◌+◌, Bool, true, false, List, [], ◌∷◌, filter, length, max, Option, Some, None, Ok, Err, if◌then◌else◌}
+use Rattle.std.specs.Prelude.{◌≡◌, ℕ, ℤ, ◌+◌, Bool, List, [], ◌∷◌, filter, length, max, Option, Some, None, Ok, Err, if◌then◌else◌}
 use Rattle.std.specs.FinMap.{entries, empty, insert, remove, contains_key, len}
 use Rattle.site_base.specs.Places.{Files, is_listed}
 use Rattle.site_base.specs.declared.faults.SiteFault.{SiteFault}

@@ -1,5 +1,5 @@
 // How a build goes over the items of its site.
-ghost use Rattle.std.specs.Prelude.{◌≡◌, []};
+ghost use Rattle.std.specs.Prelude.{◌≡◌, List, []};
 ghost use Rattle.page_render.specs.Items.{item};
 ghost use Rattle.render_workers.specs.Rounds.{Adds, IsRound, in_order};
 ghost use Rattle.round_core.specs.Meant.{given_by};
@@ -45,7 +45,7 @@ impl<'a, R> InOrder<'a, R> {
 }
 
 impl<'a, R: Renderer<Meaning = PageMeaning>> Rounds for InOrder<'a, R> {
-    ghost use Rattle.std.specs.Prelude.{sym};
+    ghost use Rattle.std.proofs.Common.{sym};
     ghost use Rattle.std.proofs.lemmas.List.{append-nil};
 
     ghost adds = { in_order };

@@ -1,9 +1,9 @@
-use Rattle.std.proofs.Common.{◌≡◌, ◌∙◌, Ok, Err, ap, subst, sym, rules}
-use Rattle.site_session.specs.Full.{full, output_in, written_in}
+use Rattle.std.proofs.Common.{◌≡◌, ◌∙◌, Ok, Err, subst, sym, rules}
+use Rattle.site_session.specs.Full.{written_in}
 use Rattle.site_session.specs.Replies.{Called}
 use Rattle.site_session.specs.declared.output.Written.{Written}
 use Rattle.site_session.proofs.Builds.{no_calls}
-use Rattle.site_session.proofs.Full.{fault-of-output, written-of}
+use Rattle.site_session.proofs.Full.{written-of}
 use Rattle.site_session.specs.Session.{full_now, site_now}
 use Rattle.site_session.specs.Standing.{Standing, Holds}
 use Rattle.site_session.proofs.session.Session.rebuild_by.Goals as goal
