@@ -1,10 +1,11 @@
 // The made-up site, built, edited and built again in memory.
-ghost use Rattle.std.specs.Prelude.{◌≡◌, ◌≤◌, ℕ, List, Some, OnOk, true};
+ghost use Rattle.std.specs.Prelude.{◌≡◌, ◌≤◌, ℕ, List, Some, OnOk, IfSome, true};
 ghost use Rattle.std.specs.FinMap.{empty};
 ghost use Rattle.site_base.specs.Ends.{Rose};
 ghost use Rattle.site_generator.specs.Generator.{edited_site, made_site};
 ghost use Rattle.site_script.specs.Line.{is_moment};
-ghost use Rattle.site_session.specs.Session.{first_fault};
+ghost use Rattle.site_session.specs.Replies.{built_reply};
+ghost use Rattle.site_session.specs.Session.{Nothing, event_of, first_fault};
 ghost use Rattle.site_session.specs.Standing.{Holds};
 ghost use Rattle.site_program.specs.Checks.{EndsAs, Said, SaidBoth, verdict_status};
 ghost use Rattle.site_program.specs.Makes.{build_bytes, built, first_bytes, make_status, second_bytes};
@@ -57,7 +58,7 @@ pub(crate) fn make<K: ByteSink, R: Renderer<Meaning = PageMeaning>>(
     }
 }
 
-// Builds what the session holds, and writes the reply. An output in memory fails for want of memory alone.
+// Builds what the session holds, and writes the reply.
 fn tell_build<K: ByteSink, R: Renderer<Meaning = PageMeaning>>(
     alloc: Global,
     session: &mut Session,
@@ -65,23 +66,34 @@ fn tell_build<K: ByteSink, R: Renderer<Meaning = PageMeaning>>(
     sink: &mut K,
     renderer: &R,
 ) -> Status
+    requires { Holds (Some out.old.files) session.old.belief empty }
     ensures ends { EndsAs (verdict_status (first_fault session.old)) result }
-    ensures new { Holds (Some out.old.files) session.old.belief empty → result ≡ Status.Done → session.new ≡ (built session.old).0 }
-    ensures belief { Holds (Some out.old.files) session.old.belief empty → Holds (Some out.new.files) session.new.belief empty }
-    ensures took { (before : List ℕ) → Holds (Some out.old.files) session.old.belief empty → K.taken sink.old ≡ Some before →
+    ensures new { result ≡ Status.Done → session.new ≡ (built session.old).0 }
+    ensures files { session.new.files ≡ session.old.files }
+    ensures belief { Holds (Some out.new.files) session.new.belief empty }
+    ensures took { (before : List ℕ) → K.taken sink.old ≡ Some before →
         Said (build_bytes session.old) (verdict_status (first_fault session.old)) before (K.taken sink.new) result }
     ensures later { K.failures sink.old ≤ K.failures sink.new }
     ensures sink_fault { result ≡ Status.SinkFault → Rose (K.failures sink.old) (K.failures sink.new) }
 {
     let mut tally = Tally::new(alloc);
-    let reply = match session.rebuild_serial(alloc, out, renderer, &mut tally) {
-        Ok(Rebuilt::Built(report)) => Reply::Built(report),
-        Ok(Rebuilt::Fault(fault)) => Reply::Faulty(fault),
-        _ => return Status::Memory,
+    let Some(reply) = reply_to(session.rebuild_serial(alloc, out, renderer, &mut tally)) else {
+        return Status::Memory;
     };
     match write_reply(alloc, false, &reply, sink) {
         Ok(()) => status_of(reply),
         Err(stop) => stop.status(),
+    }
+}
+
+// The reply to a build over an output in memory, which fails for want of memory alone.
+fn reply_to(rebuilt: Result<Rebuilt, Memory>) -> Option<Reply>
+    ensures { IfSome result (λ reply. (built_reply rebuilt ≡ Some reply) × (event_of reply ≡ Nothing)) }
+{
+    match rebuilt {
+        Ok(Rebuilt::Built(report)) => Some(Reply::Built(report)),
+        Ok(Rebuilt::Fault(fault)) => Some(Reply::Faulty(fault)),
+        _ => None,
     }
 }
 
