@@ -498,6 +498,9 @@ const TEMPLATES_ARE_REFUSED: &[Row] = &[
         replies: "scanned 1\nfault F11 2 a.html\n",
         outputs: OLD,
     },
+];
+
+const NAMES_OF_NOTHING_ARE_REFUSED: &[Row] = &[
     // An include that is not there, or that would be outside of its folder.
     Row {
         given: Scenario {
@@ -561,6 +564,9 @@ const TEMPLATES_ARE_REFUSED: &[Row] = &[
         replies: "scanned 1\nfault F13 1 a.html\n",
         outputs: OLD,
     },
+];
+
+const ARGUMENTS_OF_FILTERS_ARE_REFUSED: &[Row] = &[
     // Values behind a filter: too few, too many, of a wrong kind.
     Row {
         given: Scenario {
@@ -643,6 +649,9 @@ const TEMPLATES_ARE_REFUSED: &[Row] = &[
         replies: "scanned 1\nfault F14 1 a.html\n",
         outputs: OLD,
     },
+];
+
+const NUMBERS_ARE_REFUSED: &[Row] = &[
     // A division by 0.
     Row {
         given: Scenario {
@@ -709,6 +718,9 @@ const TEMPLATES_ARE_REFUSED: &[Row] = &[
         replies: "scanned 1\nfault F17 1 a.html\n",
         outputs: OLD,
     },
+];
+
+const WHAT_IS_TOO_DEEP_IS_REFUSED: &[Row] = &[
     // Too deep.
     Row {
         given: Scenario {
@@ -789,6 +801,9 @@ const TEMPLATES_ARE_REFUSED: &[Row] = &[
         replies: "scanned 1\nbuilt rendered=1 reused=0 written=1 removed=0\n",
         outputs: &[("a.html", "\nx")],
     },
+];
+
+const RANGES_DATES_AND_COMPARISONS_ARE_REFUSED: &[Row] = &[
     // A range that is too long.
     Row {
         given: Scenario {
@@ -1373,6 +1388,31 @@ fn files_of_a_site_are_refused(rt: HostRuntime) {
 #[test]
 fn templates_are_refused(rt: HostRuntime) {
     check(&rt, rt.alloc(), TEMPLATES_ARE_REFUSED);
+}
+
+#[test]
+fn names_of_nothing_are_refused(rt: HostRuntime) {
+    check(&rt, rt.alloc(), NAMES_OF_NOTHING_ARE_REFUSED);
+}
+
+#[test]
+fn arguments_of_filters_are_refused(rt: HostRuntime) {
+    check(&rt, rt.alloc(), ARGUMENTS_OF_FILTERS_ARE_REFUSED);
+}
+
+#[test]
+fn numbers_are_refused(rt: HostRuntime) {
+    check(&rt, rt.alloc(), NUMBERS_ARE_REFUSED);
+}
+
+#[test]
+fn what_is_too_deep_is_refused(rt: HostRuntime) {
+    check(&rt, rt.alloc(), WHAT_IS_TOO_DEEP_IS_REFUSED);
+}
+
+#[test]
+fn ranges_dates_and_comparisons_are_refused(rt: HostRuntime) {
+    check(&rt, rt.alloc(), RANGES_DATES_AND_COMPARISONS_ARE_REFUSED);
 }
 
 #[test]

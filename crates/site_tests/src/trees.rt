@@ -149,6 +149,9 @@ const WHAT_A_FILE_STANDS_FOR: &[Row] = &[
         replies: "scanned 4\nbuilt rendered=1 reused=0 written=2 removed=0\n",
         outputs: &[("_p/a.html", "/_p/a.html"), (".well/k.txt", "k")],
     },
+];
+
+const POSTS_AND_DRAFTS_ARE_KNOWN_BY_NAME_AND_DAY: &[Row] = &[
     // A file of `_posts` without a date in its name, with a day that is none, or without front matter is nothing. (Jekyll: there the second is a fault, and the third and fourth are posts.)
     Row {
         given: Scenario {
@@ -282,6 +285,9 @@ const WHAT_A_FILE_STANDS_FOR: &[Row] = &[
         replies: "scanned 3\nbuilt rendered=0 reused=0 written=1 removed=0\n",
         outputs: &[("b.txt", "b")],
     },
+];
+
+const COLLECTIONS_HAVE_DOCUMENTS: &[Row] = &[
     // Documents of a collection, and what lies beside them, have an output where the collection has.
     Row {
         given: Scenario {
@@ -666,6 +672,9 @@ const ADDRESSES_ARE_GIVEN: &[Row] = &[
             ("q/t.html", "/q/t.html"),
         ],
     },
+];
+
+const TEMPLATES_GIVE_ADDRESSES: &[Row] = &[
     // By a template, whose end holds for pages and documents too.
     Row {
         given: Scenario {
@@ -806,6 +815,9 @@ const ADDRESSES_ARE_GIVEN: &[Row] = &[
             ("d.html", "d"),
         ],
     },
+];
+
+const ADDRESSES_ARE_MADE_CLEAN: &[Row] = &[
     // A style has no meaning in the permalink of an item or a collection: it is a template.
     Row {
         given: Scenario {
@@ -1031,6 +1043,9 @@ const ITEMS_HAVE_VARIABLES: &[Row] = &[
         replies: "scanned 2\nbuilt rendered=1 reused=0 written=1 removed=0\n",
         outputs: &[("c/a.html", "[]none")],
     },
+];
+
+const DATES_AND_NEIGHBOURS_ARE_VARIABLES: &[Row] = &[
     // Dates with an offset are written in that of the site.
     Row {
         given: Scenario {
@@ -1230,6 +1245,9 @@ const SITES_HAVE_VARIABLES: &[Row] = &[
             ),
         ],
     },
+];
+
+const COLLECTIONS_AND_CATEGORIES_ARE_VARIABLES: &[Row] = &[
     // Collections.
     Row {
         given: Scenario {
@@ -1311,6 +1329,9 @@ const SITES_HAVE_VARIABLES: &[Row] = &[
             ("i.html", "x A;y B A;k B A;j B;B1"),
         ],
     },
+];
+
+const CONFIGURATION_AND_MOMENT_ARE_VARIABLES: &[Row] = &[
     // Keys of the configuration, those that have a meaning with their defaults.
     Row {
         given: Scenario {
@@ -1404,6 +1425,9 @@ const SITES_HAVE_VARIABLES: &[Row] = &[
         replies: "scanned 1\nbuilt rendered=1 reused=0 written=1 removed=0\n",
         outputs: &[("t.html", "1704067200 2024-01-01 00:00:00")],
     },
+];
+
+const DATA_ARE_VARIABLES: &[Row] = &[
     // Data of all forms, below folders.
     Row {
         given: Scenario {
@@ -1634,6 +1658,9 @@ const LAYOUTS_AND_INCLUDES_ARE_PUT_TOGETHER: &[Row] = &[
         replies: "scanned 2\nbuilt rendered=1 reused=0 written=1 removed=0\n",
         outputs: &[("p.html", "*<p>a <em>b</em></p>\n*<p><em>c</em></p>\n")],
     },
+];
+
+const INCLUDES_ARE_PUT_IN: &[Row] = &[
     // An include has parameters, and sees what is around it.
     Row {
         given: Scenario {
@@ -1815,6 +1842,9 @@ const ITEMS_LEAD_TO_OTHERS: &[Row] = &[
             "/base/a.css https://e.org/base/a.css https://e.org/base/i.html https://x.org/y /base/",
         )],
     },
+];
+
+const EXCERPTS_END: &[Row] = &[
     // An excerpt ends at a blank line; in a page it is nil.
     Row {
         given: Scenario {
@@ -1926,6 +1956,9 @@ const ITEMS_LEAD_TO_OTHERS: &[Row] = &[
         replies: "scanned 1\nbuilt rendered=1 reused=0 written=1 removed=0\n",
         outputs: &[("2020/01/01/a.html", "[[]]\n\nb")],
     },
+];
+
+const ITEMS_SHOW_OTHERS: &[Row] = &[
     // The text of an item that is rendered before, and of one that is behind.
     Row {
         given: Scenario {
@@ -2181,6 +2214,9 @@ const POSTS_STAND_ON_PAGES: &[Row] = &[
             ("page2/index.html", "2/2 1 2:A 1 /  "),
         ],
     },
+];
+
+const PAGES_ARE_MADE_WHERE_THERE_ARE_POSTS: &[Row] = &[
     // As many posts as one page has room for.
     Row {
         given: Scenario {
@@ -2348,6 +2384,16 @@ fn what_a_file_stands_for(rt: HostRuntime) {
 }
 
 #[test]
+fn posts_and_drafts_are_known_by_name_and_day(rt: HostRuntime) {
+    check(&rt, rt.alloc(), POSTS_AND_DRAFTS_ARE_KNOWN_BY_NAME_AND_DAY);
+}
+
+#[test]
+fn collections_have_documents(rt: HostRuntime) {
+    check(&rt, rt.alloc(), COLLECTIONS_HAVE_DOCUMENTS);
+}
+
+#[test]
 fn defaults_are_given(rt: HostRuntime) {
     check(&rt, rt.alloc(), DEFAULTS_ARE_GIVEN);
 }
@@ -2358,8 +2404,23 @@ fn addresses_are_given(rt: HostRuntime) {
 }
 
 #[test]
+fn templates_give_addresses(rt: HostRuntime) {
+    check(&rt, rt.alloc(), TEMPLATES_GIVE_ADDRESSES);
+}
+
+#[test]
+fn addresses_are_made_clean(rt: HostRuntime) {
+    check(&rt, rt.alloc(), ADDRESSES_ARE_MADE_CLEAN);
+}
+
+#[test]
 fn items_have_variables(rt: HostRuntime) {
     check(&rt, rt.alloc(), ITEMS_HAVE_VARIABLES);
+}
+
+#[test]
+fn dates_and_neighbours_are_variables(rt: HostRuntime) {
+    check(&rt, rt.alloc(), DATES_AND_NEIGHBOURS_ARE_VARIABLES);
 }
 
 #[test]
@@ -2368,8 +2429,28 @@ fn sites_have_variables(rt: HostRuntime) {
 }
 
 #[test]
+fn collections_and_categories_are_variables(rt: HostRuntime) {
+    check(&rt, rt.alloc(), COLLECTIONS_AND_CATEGORIES_ARE_VARIABLES);
+}
+
+#[test]
+fn configuration_and_moment_are_variables(rt: HostRuntime) {
+    check(&rt, rt.alloc(), CONFIGURATION_AND_MOMENT_ARE_VARIABLES);
+}
+
+#[test]
+fn data_are_variables(rt: HostRuntime) {
+    check(&rt, rt.alloc(), DATA_ARE_VARIABLES);
+}
+
+#[test]
 fn layouts_and_includes_are_put_together(rt: HostRuntime) {
     check(&rt, rt.alloc(), LAYOUTS_AND_INCLUDES_ARE_PUT_TOGETHER);
+}
+
+#[test]
+fn includes_are_put_in(rt: HostRuntime) {
+    check(&rt, rt.alloc(), INCLUDES_ARE_PUT_IN);
 }
 
 #[test]
@@ -2378,6 +2459,21 @@ fn items_lead_to_others(rt: HostRuntime) {
 }
 
 #[test]
+fn excerpts_end(rt: HostRuntime) {
+    check(&rt, rt.alloc(), EXCERPTS_END);
+}
+
+#[test]
+fn items_show_others(rt: HostRuntime) {
+    check(&rt, rt.alloc(), ITEMS_SHOW_OTHERS);
+}
+
+#[test]
 fn posts_stand_on_pages(rt: HostRuntime) {
     check(&rt, rt.alloc(), POSTS_STAND_ON_PAGES);
+}
+
+#[test]
+fn pages_are_made_where_there_are_posts(rt: HostRuntime) {
+    check(&rt, rt.alloc(), PAGES_ARE_MADE_WHERE_THERE_ARE_POSTS);
 }
