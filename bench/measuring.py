@@ -1,5 +1,6 @@
-"""What the benchmarks share: runs of a program on a text, and repeated texts."""
+"""What the benchmarks share: runs of a program on a text or in a folder, and repeated texts."""
 import os
+import sys
 import time
 
 ROOT = os.path.dirname(os.path.dirname(os.path.abspath(__file__)))
@@ -42,3 +43,25 @@ def repeated(part, size):
 
 def size_name(size):
     return f"{size // MIB} MiB" if size >= MIB else f"{size // KIB} KiB"
+
+
+class Run:
+    """What one run in a folder took: wall and processor seconds, and peak bytes. What it prints is dropped."""
+
+    def __init__(self, command, folder, environment=None):
+        started = time.perf_counter()
+        child = os.fork()
+        if child == 0:
+            os.chdir(folder)
+            null = os.open(os.devnull, os.O_RDWR)
+            os.dup2(null, 1)
+            os.execvpe(command[0], command, {**os.environ, **(environment or {})})
+        _, status, usage = os.wait4(child, 0)
+        self.wall = time.perf_counter() - started
+        self.processor = usage.ru_utime + usage.ru_stime
+        self.peak = usage.ru_maxrss * 1024
+        if status:
+            sys.exit(f"{command} in {folder} ended with {status}")
+
+    def __str__(self):
+        return f"{self.wall:8.3f} s wall {self.processor:8.3f} s processor {self.peak / MIB:7.0f} MiB"

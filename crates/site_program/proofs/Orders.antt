@@ -1,13 +1,16 @@
 -- What the words of a top call may order.
-use Rattle.std.proofs.Common.{◌≡◌, inl, inr, ℤ, Bool, true, false, cond, List, ℕ, [], ◌∷◌, refl, sym, ◌∙◌, ap, subst, Option, Some, None, Result, Ok, Err}
+use Rattle.std.proofs.Common.{◌≡◌, ◌≤◌, ◌-◌, ◌^◌, ◌&&◌, ◌||◌, inl, inr, ℤ, Bool, true, false, cond, List, ℕ, [], ◌∷◌, nat_eq, nat_le, refl, sym, ◌∙◌, ap, subst, Option, Some, None, Result, Ok, Err}
 use Rattle.std.specs.Prelude.{codes}
+use Rattle.std.specs.List.{list_any, starts_with}
 use Rattle.std.specs.Str.{bytes_eq}
-use Rattle.std.proofs.lemmas.Bool.{or_cases}
+use Rattle.std.specs.Str.Parse.{digits_value, without_leading_plus}
+use Rattle.std.proofs.lemmas.Bool.{and_parts, leb-true, or_cases}
 use Rattle.std.proofs.lemmas.Slice.Eq.{bytes_eq-Decides}
 use Rattle.site_base.specs.declared.settings.Settings.{Settings}
 use Rattle.site_script.specs.Line.{is_moment}
 use Rattle.site_session.specs.Session.{start}
-use Rattle.site_words.specs.Words.{command_order, options_in, order_with}
+use Rattle.site_words.specs.Numbers.{is_digits, number_in}
+use Rattle.site_words.specs.Words.{command_order, make_of, make_order, numbers_order, options_in, order_with}
 use Rattle.site_words.specs.declared.faults.UsageKind.{UsageKind}
 use Rattle.site_words.specs.declared.faults.UsageKind.TheVariants as kind
 use Rattle.site_words.specs.declared.orders.Options.{Options}
@@ -31,13 +34,18 @@ pub in_time : (top : TopCall) (words : List (List ℕ)) (m : ℤ) (o : Order) �
 in_time top [] m o e = absurd (cc (e))
 in_time top (w ∷ ws) m o e = (timed_is m (command_order w ws) o (chosen (knows top w) (timed m (command_order w ws)) kind.Command o e).1).0
 
+-- how many posts a made-up site may have
+pub record InRange (count : ℕ) : Type 0 where
+  pub low : 1 ≤ count
+  pub high : count ≤ 1000
+
 -- the orders of a top call
 abbrev pub Knows : TopCall → Order → Type 0
 Knows call.Once (order.Once settings) = Unit {0}
 Knows call.Once (order.Check settings) = Unit {0}
 Knows call.Once (order.Build options) = ⊥
 Knows call.Once (order.Session options) = ⊥
-Knows call.Once (order.Make number count) = ⊥
+Knows call.Once (order.Make number count) = InRange count
 Knows call.Jobs (order.Build options) = Unit {0}
 Knows call.Jobs (order.Session options) = Unit {0}
 Knows call.Jobs (order.Once settings) = ⊥
@@ -48,6 +56,37 @@ made_with : (make : Options → Order) (options : Option Options) (o : Order) (P
 made_with make None o P h e = absurd (cc (e))
 made_with make (Some x) o P h e = let same : make x ≡ o = cc in subst P same (h x)
 
+range_by : (t : Bool) (v m : ℕ) → (t ≡ true → InRange v) → cond t (Some v) None ≡ Some m → InRange m
+range_by true v m h e = let same : v ≡ m = cc in subst InRange same (h refl)
+range_by false v m h e = absurd (cc (e))
+
+count_in_range : (text : List ℕ) (m : ℕ) → number_in 1 1000 text ≡ Some m → InRange m
+count_in_range text m e =
+    let digits = without_leading_plus text in
+    let v = digits_value 10 digits in
+    range_by (is_digits digits && (nat_le 1 v && nat_le v 1000)) v m (λ is.
+    let both = and_parts (nat_le 1 v) (nat_le v 1000) (and_parts (is_digits digits) (nat_le 1 v && nat_le v 1000) is).1 in
+    record { low = leb-true 1 v both.0; high = leb-true v 1000 both.1 }) e
+
+made_of : (a b : Option ℕ) (o : Order) → ((m : ℕ) → b ≡ Some m → InRange m) → make_of a b ≡ Ok o → Knows call.Once o
+made_of (Some n) (Some m) o h e = let same : order.Make n m ≡ o = cc in subst (Knows call.Once) same (h m refl)
+made_of (Some n) None o h e = absurd (cc (e))
+made_of None (Some m) o h e = absurd (cc (e))
+made_of None None o h e = absurd (cc (e))
+
+numbers_known : (ws : List (List ℕ)) (o : Order) → numbers_order ws ≡ Ok o → Knows call.Once o
+numbers_known [] o e = absurd (cc (e))
+numbers_known (a ∷ []) o e = absurd (cc (e))
+numbers_known (a ∷ b ∷ []) o e = made_of (number_in 0 (2 ^ 64 - 1) a) (number_in 1 1000 b) o (count_in_range b) e
+numbers_known (a ∷ b ∷ c ∷ ws) o e = absurd (cc (e))
+
+passed : (b : Bool) (r : Result Order UsageKind) (bad : UsageKind) (o : Order) → cond b (Err bad) r ≡ Ok o → r ≡ Ok o
+passed true r bad o e = absurd (cc (e))
+passed false r bad o e = e
+
+makes_known : (ws : List (List ℕ)) (o : Order) → make_order ws ≡ Ok o → Knows call.Once o
+makes_known ws o e = numbers_known ws o (passed (list_any (λ word. starts_with nat_eq word (codes "-")) ws) (numbers_order ws) kind.Option o e)
+
 is_word : (w v : List ℕ) (ws : List (List ℕ)) (o : Order) → bytes_eq w v ≡ true → command_order w ws ≡ Ok o → command_order v ws ≡ Ok o
 is_word w v ws o h is = subst (λ x. command_order x ws ≡ Ok o) ((bytes_eq-Decides w v).0 h) is
 
@@ -57,9 +96,12 @@ known top [] m o e = absurd (cc (e))
 known call.Once (w ∷ ws) m o e =
     let both = chosen (knows call.Once w) (timed m (command_order w ws)) kind.Command o e in
     let is = (timed_is m (command_order w ws) o both.1).1 in
-    elim (or_cases (bytes_eq w (codes "once")) (bytes_eq w (codes "check")) both.0) [
+    elim (or_cases (bytes_eq w (codes "once")) (bytes_eq w (codes "check") || bytes_eq w (codes "make")) both.0) [
       | inl h ↦ made_with (λ x. order.Once x.settings) (options_in false ws) o (Knows call.Once) (λ x. tt) (is_word w (codes "once") ws o h is)
-      | inr h ↦ made_with (λ x. order.Check x.settings) (options_in false ws) o (Knows call.Once) (λ x. tt) (is_word w (codes "check") ws o h is)
+      | inr others ↦ elim (or_cases (bytes_eq w (codes "check")) (bytes_eq w (codes "make")) others) [
+        | inl h ↦ made_with (λ x. order.Check x.settings) (options_in false ws) o (Knows call.Once) (λ x. tt) (is_word w (codes "check") ws o h is)
+        | inr h ↦ makes_known ws o (is_word w (codes "make") ws o h is)
+      ]
     ]
 known call.Jobs (w ∷ ws) m o e =
     let both = chosen (knows call.Jobs w) (timed m (command_order w ws)) kind.Command o e in
@@ -70,12 +112,12 @@ known call.Jobs (w ∷ ws) m o e =
     ]
 
 -- so no arm besides those is reached
-pub none_for_once : (o : Order) → Knows call.Once o → ((s : Settings) → o ≡ order.Once s → ⊥) → ((s : Settings) → o ≡ order.Check s → ⊥) → ⊥
-none_for_once (order.Once s) h no_once no_check = no_once s refl
-none_for_once (order.Check s) h no_once no_check = no_check s refl
-none_for_once (order.Build options) h no_once no_check = h
-none_for_once (order.Session options) h no_once no_check = h
-none_for_once (order.Make number count) h no_once no_check = h
+pub none_for_once : (o : Order) → Knows call.Once o → ((s : Settings) → o ≡ order.Once s → ⊥) → ((s : Settings) → o ≡ order.Check s → ⊥) → ((n c : ℕ) → o ≡ order.Make n c → ⊥) → ⊥
+none_for_once (order.Once s) h no_once no_check no_make = no_once s refl
+none_for_once (order.Check s) h no_once no_check no_make = no_check s refl
+none_for_once (order.Build options) h no_once no_check no_make = h
+none_for_once (order.Session options) h no_once no_check no_make = h
+none_for_once (order.Make number count) h no_once no_check no_make = no_make number count refl
 
 pub none_for_jobs : (o : Order) → Knows call.Jobs o → ((x : Options) → o ≡ order.Build x → ⊥) → ((x : Options) → o ≡ order.Session x → ⊥) → ⊥
 none_for_jobs (order.Build x) h no_build no_session = no_build x refl
@@ -90,6 +132,13 @@ same_once o s t a b = let both : order.Once s ≡ order.Once t = sym a ∙ b in 
 
 pub same_check : (o : Order) (s t : Settings) → o ≡ order.Check s → o ≡ order.Check t → s ≡ t
 same_check o s t a b = let both : order.Check s ≡ order.Check t = sym a ∙ b in cc
+
+pub same_make : (o : Order) (a b c d : ℕ) → o ≡ order.Make a b → o ≡ order.Make c d → (a ≡ c) × (b ≡ d)
+same_make o a b c d x y = let both : order.Make a b ≡ order.Make c d = sym x ∙ y in (cc, cc)
+
+-- the count of an order to make a site is in its range
+pub makes_in_range : (words : List (List ℕ)) (m : ℤ) (o : Order) (n c : ℕ) → order_of call.Once words m ≡ Ok o → o ≡ order.Make n c → InRange c
+makes_in_range words m o n c e is = subst (Knows call.Once) is (known call.Once words m o e)
 
 pub same_build : (o : Order) (x y : Options) → o ≡ order.Build x → o ≡ order.Build y → x ≡ y
 same_build o x y a b = let both : order.Build x ≡ order.Build y = sym a ∙ b in cc

@@ -3,3 +3,4 @@ pub mod Once
 pub mod Checks
 pub mod Runs
 pub mod Sessions
+pub mod Makes

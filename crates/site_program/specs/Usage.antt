@@ -15,7 +15,7 @@ usage_line bad = codes "usage " ++ (decimal (usage_number bad) ++ codes "\n")
 
 -- the words that a top call knows as commands
 abbrev pub knows : TopCall → List ℕ → Bool
-knows call.Once word = bytes_eq word (codes "once") || bytes_eq word (codes "check")
+knows call.Once word = bytes_eq word (codes "once") || (bytes_eq word (codes "check") || bytes_eq word (codes "make"))
 knows call.Jobs word = bytes_eq word (codes "build") || bytes_eq word (codes "session")
 
 -- the moment is looked at last

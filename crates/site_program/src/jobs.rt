@@ -22,7 +22,7 @@ use page_render::PageMeaning;
 use read_record::{Renderer, Tally};
 use site_base::{ByteSink, ByteSource, Words};
 use site_script::{Line, ScriptReader, next_line};
-use site_session::{Reply, Session};
+use site_session::{InOrder, Reply, Rounds, Session};
 use site_words::{Options, Order, WordsError};
 use source_tree::SourceTree;
 use std::alloc::Global;
@@ -89,14 +89,15 @@ pub fn run_jobs<
     ensures input_fault { result ≡ Status.InputFault → Rose (I.failures input.old) (I.failures input.new) }
     ensures sink_fault { result ≡ Status.SinkFault → Rose (K.failures sink.old) (K.failures sink.new) }
 {
+    let rounds = InOrder::new(renderer);
     match read_order(alloc, words, TopCall::Jobs, moment) {
         Ok(order) => match order {
-            Order::Build(options) => scan_and_build(
-                alloc, options, moment, source, out, sink, renderer, tally,
-            ),
+            Order::Build(options) => {
+                scan_and_build(alloc, options, moment, source, out, sink, &rounds, tally)
+            }
             Order::Session(options) => {
                 run_session(
-                    rt, alloc, options, moment, source, out, input, sink, renderer, tally,
+                    rt, alloc, options, moment, source, out, input, sink, &rounds, tally,
                 )
             }
             _ => unreachable!(),
@@ -107,14 +108,7 @@ pub fn run_jobs<
 }
 
 // The script on the input.
-fn run_session<
-    H: Wait,
-    S: SourceTree,
-    O: OutTree,
-    I: ByteSource,
-    K: ByteSink,
-    R: Renderer<Meaning = PageMeaning>,
->(
+fn run_session<H: Wait, S: SourceTree, O: OutTree, I: ByteSource, K: ByteSink, B: Rounds>(
     rt: &H,
     alloc: Global,
     options: Options,
@@ -123,7 +117,7 @@ fn run_session<
     out: &mut O,
     input: &mut I,
     sink: &mut K,
-    renderer: &R,
+    rounds: &B,
     tally: &mut Tally,
 ) -> Status
     requires { is_moment moment ≡ true }
@@ -145,20 +139,13 @@ fn run_session<
         out,
         input,
         sink,
-        renderer,
+        rounds,
         tally,
     )
 }
 
 // The lines on the input, one after another.
-fn do_lines<
-    H: Wait,
-    S: SourceTree,
-    O: OutTree,
-    I: ByteSource,
-    K: ByteSink,
-    R: Renderer<Meaning = PageMeaning>,
->(
+fn do_lines<H: Wait, S: SourceTree, O: OutTree, I: ByteSource, K: ByteSink, B: Rounds>(
     rt: &H,
     alloc: Global,
     why: bool,
@@ -167,7 +154,7 @@ fn do_lines<
     out: &mut O,
     input: &mut I,
     sink: &mut K,
-    renderer: &R,
+    rounds: &B,
     tally: &mut Tally,
 ) -> Status
     ensures run { (given : Given) (text before : List ℕ) → given.why ≡ why → S.files source.old ≡ Some given.source → Holds (O.contents out.old) session.old.belief given.output →
@@ -190,7 +177,7 @@ fn do_lines<
             source,
             out,
             sink,
-            renderer,
+            rounds,
             tally,
         ) {
             Some(status) => return status,
@@ -201,7 +188,7 @@ fn do_lines<
 }
 
 // Does what a line says; `None` where the session goes on.
-fn turn<S: SourceTree, O: OutTree, K: ByteSink, R: Renderer<Meaning = PageMeaning>>(
+fn turn<S: SourceTree, O: OutTree, K: ByteSink, B: Rounds>(
     alloc: Global,
     why: bool,
     session: &mut Session,
@@ -210,7 +197,7 @@ fn turn<S: SourceTree, O: OutTree, K: ByteSink, R: Renderer<Meaning = PageMeanin
     source: &mut S,
     out: &mut O,
     sink: &mut K,
-    renderer: &R,
+    rounds: &B,
     tally: &mut Tally,
 ) -> Option<Status>
     requires { IsInTime line }
@@ -234,7 +221,7 @@ fn turn<S: SourceTree, O: OutTree, K: ByteSink, R: Renderer<Meaning = PageMeanin
         Line::Failed => Some(Status::InputFault),
         Line::Memory => Some(Status::Memory),
         line => match do_line(
-            alloc, why, session, number, line, source, out, sink, renderer, tally,
+            alloc, why, session, number, line, source, out, sink, rounds, tally,
         ) {
             Ok(reply) => bad_status(reply),
             Err(stop) => Some(stop.status()),

@@ -4,6 +4,7 @@
 mod check;
 mod jobs;
 mod line;
+mod make;
 mod once;
 mod status;
 mod std_sink;

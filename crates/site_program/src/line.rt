@@ -11,16 +11,15 @@ ghost use Rattle.site_program.specs.Runs.{Stopped};
 
 use crate::status::Stop;
 use out_tree::OutTree;
-use page_render::PageMeaning;
-use read_record::{Renderer, Tally};
+use read_record::Tally;
 use site_base::{ByteSink, Memory};
 use site_script::Line;
-use site_session::{Reply, Session};
+use site_session::{Reply, Rounds, Session};
 use source_tree::SourceTree;
 use std::alloc::Global;
 
 // Does a line, and writes what is replied, with the reasons of a build where `why` asks for them.
-pub(crate) fn do_line<S: SourceTree, O: OutTree, K: ByteSink, R: Renderer<Meaning = PageMeaning>>(
+pub(crate) fn do_line<S: SourceTree, O: OutTree, K: ByteSink, B: Rounds>(
     alloc: Global,
     why: bool,
     session: &mut Session,
@@ -29,7 +28,7 @@ pub(crate) fn do_line<S: SourceTree, O: OutTree, K: ByteSink, R: Renderer<Meanin
     source: &mut S,
     out: &mut O,
     sink: &mut K,
-    renderer: &R,
+    rounds: &B,
     tally: &mut Tally,
 ) -> Result<Reply, Stop>
     requires { IsInTime line }
@@ -55,7 +54,7 @@ pub(crate) fn do_line<S: SourceTree, O: OutTree, K: ByteSink, R: Renderer<Meanin
     ensures sink_later { K.failures sink.old ≤ K.failures sink.new }
     ensures sink_cause { result ≡ Err Stop.Sink → Rose (K.failures sink.old) (K.failures sink.new) }
 {
-    let reply = match session.answer(alloc, number, line, source, out, renderer, tally) {
+    let reply = match session.answer(alloc, number, line, source, out, rounds, tally) {
         Ok(reply) => reply,
         Err(Memory) => return Err(Stop::Memory),
     };

@@ -6,28 +6,31 @@ ghost use Rattle.site_script.specs.Line.{is_moment};
 ghost use Rattle.site_session.specs.Session.{Given, start};
 ghost use Rattle.site_words.specs.declared.faults.UsageKind.{UsageKind};
 ghost use Rattle.site_words.specs.declared.orders.Order.TheVariants as order;
-ghost use Rattle.site_program.specs.Checks.{Checked, CheckTook};
+ghost use Rattle.site_program.specs.Checks.{Checked, CheckTook, EndsAs, SaidBoth};
+ghost use Rattle.site_program.specs.Makes.{first_bytes, make_status, second_bytes};
 ghost use Rattle.site_program.specs.Runs.{OnceRun};
 ghost use Rattle.site_program.specs.Once.{after_scan, once_order, Took, Untouched, WasUsage, Ended};
 ghost use Rattle.site_program.specs.Usage.{usage_line};
 
 use crate::check::scan_and_check;
 use crate::line::do_line;
+use crate::make::make;
 use crate::status::{Status, status_of};
 use crate::usage::{TopCall, read_order, tell_usage};
 use out_tree::OutTree;
-use page_render::{PageMeaning, PageRenderer};
-use read_record::{Renderer, Tally};
+use page_render::PageRenderer;
+use read_record::Tally;
 use site_base::{ByteSink, Settings, Words};
 use site_script::Line;
-use site_session::{Reply, Session};
+use site_session::{InOrder, Reply, Rounds, Session};
 use site_words::{Options, Order, WordsError};
 use source_tree::SourceTree;
 use std::alloc::Global;
 
-/// The commands `once` and `check`. `once` scans the source and, where that answers a number, makes the output equal to what
-/// its files stand for; `check` tells their first fault, or that they have none, and does not call the output. It waits for
-/// nobody and always returns.
+/// The commands `once`, `check` and `make`. `once` scans the source and, where that answers a number, makes the output equal
+/// to what its files stand for; `check` tells their first fault, or that they have none, and does not call the output; `make`
+/// builds a made-up site in memory, edits a post of it and builds it again, and calls neither source nor output. It waits
+/// for nobody and always returns.
 pub fn run_once<S: SourceTree, O: OutTree, K: ByteSink>(
     alloc: Global,
     words: &Words,
@@ -59,6 +62,14 @@ pub fn run_once<S: SourceTree, O: OutTree, K: ByteSink>(
     // and that the output is the same value as before.
     ensures check_untouched { (settings : Settings) → once_order words.now moment ≡ Ok (order.Check settings) → out.new ≡ out.old }
 
+    // Of `make`: that it ends with the first fault of the site or of the edited one, unless the sink fails or memory is wanting,
+    ensures make { (number count : ℕ) → once_order words.now moment ≡ Ok (order.Make number count) → EndsAs (make_status number count moment) result }
+    // what the sink then took,
+    ensures make_took { (number count : ℕ) (before : List ℕ) → once_order words.now moment ≡ Ok (order.Make number count) → K.taken sink.old ≡ Some before →
+        SaidBoth (first_bytes number count moment) (second_bytes number count moment) (make_status number count moment) before (K.taken sink.new) result }
+    // and that it calls neither source nor output.
+    ensures make_untouched { (number count : ℕ) → once_order words.now moment ≡ Ok (order.Make number count) → (source.new ≡ source.old) × (out.new ≡ out.old) }
+
     // Whatever the ends tell: the words alone decide about Usage, and a run that did not come to build left the output alone.
     ensures usage { (kind : UsageKind) → once_order words.now moment ≡ Err kind → WasUsage kind result }
     ensures usage_took { (kind : UsageKind) (before : List ℕ) → K.taken sink.old ≡ Some before → result ≡ Status.Usage kind →
@@ -82,13 +93,15 @@ pub fn run_once<S: SourceTree, O: OutTree, K: ByteSink>(
                     why: false,
                 };
                 let mut tally = Tally::new(alloc);
+                let rounds = InOrder::new(&renderer);
                 scan_and_build(
-                    alloc, options, moment, source, out, sink, &renderer, &mut tally,
+                    alloc, options, moment, source, out, sink, &rounds, &mut tally,
                 )
             }
             Order::Check(settings) => {
                 scan_and_check(alloc, settings, moment, source, sink, &renderer)
             }
+            Order::Make(number, count) => make(alloc, number, count, moment, sink, &renderer),
             _ => unreachable!(),
         },
         Err(WordsError::Usage(kind)) => tell_usage(alloc, kind, sink),
@@ -97,19 +110,14 @@ pub fn run_once<S: SourceTree, O: OutTree, K: ByteSink>(
 }
 
 // The session over the script `scan`, `build`, where the build is left out if the scan answers no number.
-pub(crate) fn scan_and_build<
-    S: SourceTree,
-    O: OutTree,
-    K: ByteSink,
-    R: Renderer<Meaning = PageMeaning>,
->(
+pub(crate) fn scan_and_build<S: SourceTree, O: OutTree, K: ByteSink, B: Rounds>(
     alloc: Global,
     options: Options,
     moment: i64,
     source: &mut S,
     out: &mut O,
     sink: &mut K,
-    renderer: &R,
+    rounds: &B,
     tally: &mut Tally,
 ) -> Status
     requires { is_moment moment ≡ true }
@@ -137,7 +145,7 @@ pub(crate) fn scan_and_build<
         source,
         out,
         sink,
-        renderer,
+        rounds,
         tally,
     ) {
         Ok(scanned) => scanned,
@@ -156,7 +164,7 @@ pub(crate) fn scan_and_build<
         source,
         out,
         sink,
-        renderer,
+        rounds,
         tally,
     ) {
         Ok(built) => status_of(built),

@@ -14,7 +14,7 @@ use std::alloc::{AllocError, Global};
 // A top call, which knows some of the commands.
 #[derive(Clone, Copy, Debug, PartialEq, Eq)]
 pub(crate) enum TopCall {
-    // `once` and `check`.
+    // `once`, `check` and `make`.
     Once,
     // `build` and `session`.
     Jobs,
@@ -25,7 +25,7 @@ impl TopCall {
         ensures { result ≡ knows self word.now }
     {
         match self {
-            TopCall::Once => word == "once" || word == "check",
+            TopCall::Once => word == "once" || word == "check" || word == "make",
             TopCall::Jobs => word == "build" || word == "session",
         }
     }

@@ -16,6 +16,7 @@ const COMMANDS: &str =
   sitebuild check   [--drafts] [--future]                     tells its first fault, and writes nothing
   sitebuild build   [--drafts] [--future] [--jobs N] [--why]  as once; N is from 1 to 64, --why tells why a page was made
   sitebuild session [--drafts] [--future] [--jobs N] [--why]  does the lines of a script on standard input
+  sitebuild make NUMBER COUNT                                 builds a made-up site of COUNT posts in memory, twice
 ";
 
 /// The line for a fault: `sitebuild: PATH:LINE: SENTENCE (FK)`, without `:LINE` where the kind has no line.

@@ -1,10 +1,10 @@
 -- What a build makes of a session.
-use Rattle.std.proofs.Common.{◌≡◌, inl, inr, ℕ, Bool, true, false, List, [], ◌∷◌, ◌++◌, append_assoc, map, length, refl, sym, ◌∙◌, ap, subst, Option, Some, None, Result, Ok, Err, OnOk, OnErr, arith}
+use Rattle.std.proofs.Common.{◌≡◌, inl, inr, ℕ, true, false, List, [], ◌∷◌, ◌++◌, append_assoc, map, length, refl, sym, ◌∙◌, ap, subst, Option, Some, None, Result, Ok, Err, OnOk, OnErr, arith}
 use Rattle.std.proofs.lemmas.List.{append-nil}
 use Rattle.std.specs.Option.{IsSome}
 use Rattle.site_base.specs.Places.{Files, is_listed}
 use Rattle.out_tree.specs.Belief.{Belief, after, believed, all_marked, IsTrueOf, HoldsOf}
-use Rattle.out_tree.specs.Exact.{IsExactlyBut, MadeBut, MarksThose}
+use Rattle.out_tree.specs.Exact.{MadeBut, MarksThose}
 use Rattle.out_tree.specs.Keep.{is_kept}
 use Rattle.out_tree.specs.declared.state.State.TheVariants as state
 use Rattle.std.specs.FinMap.{get}

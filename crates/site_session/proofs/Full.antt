@@ -1,18 +1,17 @@
 -- What a round over a site makes of a build.
-use Rattle.std.proofs.Common.{◌≡◌, ◌∙◌, ℕ, ◌+◌, ◌-◌, List, [], ◌∷◌, ◌++◌, length, map, Option, Some, None, Result, Ok, Err, refl, sym, ap, subst, arith}
-use Rattle.std.proofs.lemmas.List.{append-nil}
+use Rattle.std.proofs.Common.{◌≡◌, ◌∙◌, ℕ, ◌-◌, List, [], ◌∷◌, length, Some, None, Ok, Err, refl, sym, ap, subst, arith}
 use Rattle.std.specs.FinMap.{empty}
 use Rattle.std.specs.List.{slice_get}
 use Rattle.memo_table.specs.Entries.{Entries}
 use Rattle.read_record.specs.Outcomes.{Page}
-use Rattle.read_record.specs.Queries.{Query, Met, Gave, Failed, Missed, interpret}
+use Rattle.read_record.specs.Queries.{Query, Gave, Failed, interpret}
 use Rattle.read_record.specs.Worlds.{Sight}
 use Rattle.read_record.specs.declared.outcome.Outcome.{Outcome}
 use Rattle.render_workers.specs.Folds.{Folded, after_item, fold_from, fold_of}
-use Rattle.render_workers.specs.Rounds.{IsStopped, IsWhole}
+use Rattle.render_workers.specs.Rounds.{Adds, IsStopped, IsWhole}
 use Rattle.render_workers.specs.Whys.{why_names}
 use Rattle.render_workers.specs.declared.answers.Round.{Round}
-use Rattle.round_core.specs.Meant.{Given, given_by}
+use Rattle.round_core.specs.Meant.{given_by}
 use Rattle.site_base.specs.Chains.{◌>>=◌}
 use Rattle.site_base.specs.Places.{Files}
 use Rattle.site_base.specs.declared.faults.SiteFault.{SiteFault}
@@ -21,12 +20,11 @@ use Rattle.site_reader.specs.Found.{Found, IsFirst}
 use Rattle.site_reader.specs.declared.site_error.SiteError.{SiteError}
 use Rattle.site_reader.specs.declared.site_error.SiteError.TheVariants as error
 use Rattle.site_reader.specs.declared.site.Site.{Site}
-use Rattle.site_session.specs.Full.{Whole, fault_of, given_of, kept_after, kept_by, names_by, names_rendered, output_in, output_of, rendered, whole, whole_by, written_by, written_in}
+use Rattle.site_session.specs.Full.{Whole, fault_of, given_of, kept_after, kept_by, names_by, names_behind, names_past, names_rendered, output_in, output_of, rendered, whole, whole_by, written_by, written_in}
 use Rattle.site_session.specs.Outputs.{IsOutput, Settled}
 use Rattle.site_session.specs.Session.{first_fault, full_now, site_now}
 use Rattle.site_session.specs.Standing.{Standing}
 use Rattle.site_session.specs.declared.output.Output.{Output}
-use Rattle.site_session.specs.declared.output.Written.{Written}
 use Rattle.site_world.specs.Sights.{fixed_bytes, item_names}
 
 -- ---- what is kept does not matter
@@ -60,9 +58,9 @@ fault-of-output files kept (Err f) fault e = let same : f ≡ fault = cc in ap E
 
 -- ---- rounds
 
-module _ (files : Files) (kept : Entries) (site : Site) (new : Entries) (before after : List ItemName) where
+module _ (adds : Adds) (files : Files) (kept : Entries) (site : Site) (new : Entries) (before after : List ItemName) where
   -- a round without a fault
-  module _ (round : Round) (w : IsWhole (given_of files site kept) (fixed_bytes files site) round new before after) where
+  module _ (round : Round) (w : IsWhole adds (given_of files site kept) (fixed_bytes files site) round new before after) where
     told : rendered files site ≡ Gave round.outs
     told = sym (rendered-same files site kept) ∙ w.fold
 
@@ -76,48 +74,49 @@ module _ (files : Files) (kept : Entries) (site : Site) (new : Entries) (before 
         ∙ (λ i. Ok (record { written = written_by files (record { site = site; outs = round.outs }); rendered = length (sym w.why i); reused = (ap (λ ws. length (item_names site) - length ws) (sym w.why) ∙ sym number) i; why = sym w.why i }))
         ∙ ap Ok (sym is)
 
-    pub whole-settled : Settled files kept (Ok site) new before after
+    pub whole-settled : Settled adds files kept (Ok site) new before after
     whole-settled = record {
       kept_is = w.kept ∙ ap (kept_by (given_of files site kept)) (sym told);
-      tally = w.tally ∙ ap (λ ws. before ++ why_names ws) w.why ∙ ap (λ f. before ++ names_by (given_of files site kept) f) (sym told);
+      tally = subst (λ (f : Folded). adds (names_by (given_of files site kept) f) (names_past (given_of files site kept) f) before after) (sym told)
+          (subst (λ ws. adds (why_names ws) [] before after) w.why w.tally);
     }
 
   -- a round that a fault ended
-  module _ (fault : SiteFault) (s : IsStopped (given_of files site kept) (fixed_bytes files site) fault new before after) where
+  module _ (fault : SiteFault) (s : IsStopped adds (given_of files site kept) (fixed_bytes files site) fault new before after) where
     stopped : rendered files site ≡ Failed (s.place, fault)
     stopped = sym (rendered-same files site kept) ∙ s.fold
 
     pub stopped-output : output_in files kept (Ok site) ≡ Err fault
     stopped-output = ap (λ (f : Folded). whole_by site f >>= λ w. Ok (output_of files kept w)) stopped
 
-    pub stopped-settled : Settled files kept (Ok site) new before after
+    pub stopped-settled : Settled adds files kept (Ok site) new before after
     stopped-settled = record {
       kept_is = s.kept ∙ ap (kept_by (given_of files site kept)) (sym stopped);
-      tally = s.tally ∙ ap (λ f. before ++ names_by (given_of files site kept) f) (sym stopped);
+      tally = subst (λ (f : Folded). adds (names_by (given_of files site kept) f) (names_past (given_of files site kept) f) before after) (sym stopped) s.tally;
     }
 
 -- ---- what a build answers before its output is touched
 
-pub from_whole : (files : Files) (kept : Entries) (site : Site) (new : Entries) (before after : List ItemName) (round : Round) (output : Output)
-    → IsWhole (given_of files site kept) (fixed_bytes files site) round new before after
+pub from_whole : (adds : Adds) (files : Files) (kept : Entries) (site : Site) (new : Entries) (before after : List ItemName) (round : Round) (output : Output)
+    → IsWhole adds (given_of files site kept) (fixed_bytes files site) round new before after
     → output ≡ record { written = written_by files (record { site = site; outs = round.outs }); rendered = length round.why; reused = round.reused; why = round.why }
-    → IsOutput files kept (Ok site) (Ok output) new before after
-from_whole files kept site new before after round output w is = (whole-output files kept site new before after round w output is, whole-settled files kept site new before after round w)
+    → IsOutput adds files kept (Ok site) (Ok output) new before after
+from_whole adds files kept site new before after round output w is = (whole-output adds files kept site new before after round w output is, whole-settled adds files kept site new before after round w)
 
-pub from_stopped : (files : Files) (kept : Entries) (site : Site) (new : Entries) (before after : List ItemName) (fault : SiteFault)
-    → IsStopped (given_of files site kept) (fixed_bytes files site) fault new before after → IsOutput files kept (Ok site) (Err (error.Fault fault)) new before after
-from_stopped files kept site new before after fault s = (stopped-output files kept site new before after fault s, stopped-settled files kept site new before after fault s)
+pub from_stopped : (adds : Adds) (files : Files) (kept : Entries) (site : Site) (new : Entries) (before after : List ItemName) (fault : SiteFault)
+    → IsStopped adds (given_of files site kept) (fixed_bytes files site) fault new before after → IsOutput adds files kept (Ok site) (Err (error.Fault fault)) new before after
+from_stopped adds files kept site new before after fault s = (stopped-output adds files kept site new before after fault s, stopped-settled adds files kept site new before after fault s)
 
 -- a site that is not read renders nothing
-pub from_unread : (files : Files) (kept : Entries) (found : Found Site) (e : SiteError) (before : List ItemName) → IsFirst found e → IsOutput files kept found (Err e) kept before before
-from_unread files kept found (error.Fault fault) before first = (
+pub from_unread : (adds : Adds) → ((names : List ItemName) → adds [] [] names names) → (files : Files) (kept : Entries) (found : Found Site) (e : SiteError) (before : List ItemName) → IsFirst found e → IsOutput adds files kept found (Err e) kept before before
+from_unread adds nothing files kept found (error.Fault fault) before first = (
   ap (output_in files kept) first,
   record {
     kept_is = sym (ap (kept_after files kept) first);
-    tally = sym (append-nil before) ∙ sym (ap (λ f. before ++ names_rendered files kept f) first);
+    tally = subst (λ (f : Found Site). adds (names_rendered files kept f) (names_behind files kept f) before before) (sym first) (nothing before);
   },
 )
-from_unread files kept found error.Memory before first = tt
+from_unread adds nothing files kept found error.Memory before first = tt
 
 -- ---- first faults
 

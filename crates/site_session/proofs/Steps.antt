@@ -1,5 +1,5 @@
 -- What the answer of a scan makes of a session.
-use Rattle.std.proofs.Common.{◌≡◌, ℕ, List, refl, sym, ◌∙◌, ap, subst, Option, Some, None, Result, Ok, Err}
+use Rattle.std.proofs.Common.{◌≡◌, ℕ, refl, sym, ◌∙◌, ap, subst, Option, Some, None, Result, Ok, Err}
 use Rattle.std.specs.Result.{OnOk, OnErr, IfOk}
 use Rattle.std.specs.FinMap.{entries, len}
 use Rattle.site_base.specs.Places.{Files}

@@ -1,5 +1,5 @@
 -- The bytes of a reply.
-use Rattle.std.specs.Prelude.{ℕ, Bool, List, [], ◌∷◌, ◌++◌, length, codes, flat_map, Option, Some, None, if◌then◌else◌}
+use Rattle.std.specs.Prelude.{ℕ, Bool, List, [], ◌++◌, length, codes, flat_map, Option, Some, None, if◌then◌else◌}
 use Rattle.std.specs.Fmt.{decimal}
 use Rattle.site_base.specs.Faults.{fault_number}
 use Rattle.site_base.specs.declared.faults.SiteFault.{SiteFault}

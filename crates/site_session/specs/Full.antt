@@ -1,5 +1,5 @@
 -- What a site stands for: the files of its output, or its first fault. After Jekyll 4's manual, "Rendering process", whose order of the items is that of `site_reader`.
-use Rattle.std.specs.Prelude.{ℕ, ℤ, suc, ◌-◌, Bool, not, List, [], ◌∷◌, ◌++◌, length, fold, nat_lt, Option, Some, None, Result, Ok, Err, if◌then◌else◌}
+use Rattle.std.specs.Prelude.{ℕ, ℤ, suc, ◌-◌, Bool, not, List, [], ◌∷◌, length, drop, fold, nat_lt, Option, Some, None, Ok, Err, if◌then◌else◌}
 use Rattle.std.specs.FinMap.{empty, get, insert}
 use Rattle.memo_table.specs.Entries.{Entries, of_names}
 use Rattle.page_render.specs.Items.{item}
@@ -155,3 +155,13 @@ names_by g (Missed k j) = []
 abbrev pub names_rendered : Files → Entries → Found Site → List ItemName
 names_rendered files kept (Ok site) = names_by (given_of files site kept) (rendered files site)
 names_rendered files kept (Err fault) = []
+
+-- the names of the items behind the one that has the first fault, some of which a build may render too
+abbrev pub names_past : Given → Folded → List ItemName
+names_past g (Gave outs) = []
+names_past g (Failed e) = drop (suc e.0) g.names
+names_past g (Missed k j) = []
+
+abbrev pub names_behind : Files → Entries → Found Site → List ItemName
+names_behind files kept (Ok site) = names_past (given_of files site kept) (rendered files site)
+names_behind files kept (Err fault) = []

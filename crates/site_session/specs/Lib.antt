@@ -6,3 +6,4 @@ pub mod Replies
 pub mod Seen
 pub mod Session
 pub mod Standing
+pub mod Rebuilds

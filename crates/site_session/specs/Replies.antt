@@ -1,13 +1,12 @@
 -- The reply that an answer of a session's call goes with; want of memory has none.
-use Rattle.std.specs.Prelude.{◌≡◌, ◌⊎◌, ℕ, ◌+◌, Bool, true, false, List, [], ◌∷◌, ◌++◌, map, Option, Some, None, Result, Ok, Err}
+use Rattle.std.specs.Prelude.{◌≡◌, ◌⊎◌, ℕ, ◌+◌, Bool, true, false, List, [], ◌∷◌, map, Option, Some, None, Result, Ok, Err}
 use Rattle.site_base.specs.declared.errors.Memory.{Memory}
 use Rattle.site_script.specs.Line.{line_number}
 use Rattle.site_script.specs.declared.line.Line.{Line}
 use Rattle.source_tree.specs.declared.scan_error.ScanError.{ScanError}
 use Rattle.source_tree.specs.declared.scan_error.ScanError.TheVariants as scan_error
-use Rattle.site_session.specs.Session.{Given, event_of, names_now, plan, step, Reply, Scanned, ScanFailed, Faulty, Fine, Absent, Built, Marked, Unlisted, BadLine, Silent, output_failures}
+use Rattle.site_session.specs.Session.{Given, event_of, plan, step, Reply, Scanned, ScanFailed, Faulty, Fine, Absent, Built, Marked, Unlisted, BadLine, Silent, output_failures}
 use Rattle.site_base.specs.Places.{Files}
-use Rattle.site_base.specs.declared.item_name.ItemName.{ItemName}
 use Rattle.out_tree.specs.Belief.{Belief, all_marked}
 use Rattle.out_tree.specs.Device.{Calls}
 use Rattle.out_tree.specs.declared.step.Call.{Call}
@@ -106,10 +105,3 @@ AllLeave contents given old before (line ∷ lines) [] first last = ⊥
 AllLeave {D} contents given old before (line ∷ lines) (reply ∷ replies) first last =
     let new = (step given old (line_number before) line (event_of reply)).0 in
     (there : D) × LineLeaves contents old reply new.belief first there × AllLeave contents given new (before + 1) lines replies there last
-
--- ---- what was rendered
-
--- the names of the items that a build renders joined the tally; where memory is wanting nothing is told of it
-abbrev pub Tallied : Standing → Result Rebuilt Memory → List ItemName → List ItemName → Type 0
-Tallied now (Ok rebuilt) before after = after ≡ before ++ names_now now
-Tallied now (Err error) before after = Unit {0}

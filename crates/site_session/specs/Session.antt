@@ -1,6 +1,6 @@
 -- A session: what each line of a script does, and its reply. It is a fold over the lines, and does not know how the output is
 -- compared.
-use Rattle.std.specs.Prelude.{◌≡◌, ℕ, ℤ, ◌+◌, Bool, true, false, List, [], ◌∷◌, filter, length, max, Option, Some, None, Ok, Err, if◌then◌else◌}
+use Rattle.std.specs.Prelude.{◌≡◌, ℕ, ℤ, ◌+◌, Bool, List, [], ◌∷◌, filter, length, max, Option, Some, None, Ok, Err, if◌then◌else◌}
 use Rattle.std.specs.FinMap.{entries, empty, insert, remove, contains_key, len}
 use Rattle.site_base.specs.Places.{Files, is_listed}
 use Rattle.site_base.specs.declared.faults.SiteFault.{SiteFault}
@@ -24,7 +24,7 @@ use Rattle.site_base.specs.declared.item_name.ItemName.{ItemName}
 use Rattle.site_reader.specs.Found.{Found}
 use Rattle.site_reader.specs.Sites.{site}
 use Rattle.site_reader.specs.declared.site.Site.{Site}
-use Rattle.site_session.specs.Full.{fault_of, full, output_in, kept_after, names_rendered}
+use Rattle.site_session.specs.Full.{fault_of, full, output_in, kept_after, names_behind, names_rendered}
 use Rattle.site_session.specs.declared.build.Report.{Report}
 use Rattle.site_session.specs.declared.output.Output.{Output}
 use Rattle.site_session.specs.declared.output.Written.{Written}
@@ -145,18 +145,9 @@ rendered_now now = record now { kept = kept_after now.files now.kept (site_now n
 abbrev pub names_now : Standing → List ItemName
 names_now now = names_rendered now.files now.kept (site_now now)
 
--- the names of the items that a line renders
-abbrev pub names_at : Standing → Line → List ItemName
-names_at now Build = names_now now
-names_at now Scan = []
-names_at now (Put path bytes) = []
-names_at now (Delete path) = []
-names_at now (Time seconds) = []
-names_at now (Bad at bad) = []
-names_at now End = []
-names_at now Eof = []
-names_at now Failed = []
-names_at now Memory = []
+-- and those behind the first fault, some of which it may render too
+abbrev pub names_past_now : Standing → List ItemName
+names_past_now now = names_behind now.files now.kept (site_now now)
 
 -- what follows a line that has this number, and its reply
 abbrev pub step : Given → Standing → ℕ → Line → Event → Standing × Reply

@@ -7,6 +7,7 @@ mod key_text;
 mod made;
 mod output;
 mod reply;
+mod rounds;
 mod session;
 mod tree;
 
@@ -14,4 +15,5 @@ pub use build::{Rebuilt, Report};
 pub use output::{Output, Written};
 pub use render_workers::{Why, Whys};
 pub use reply::Reply;
+pub use rounds::{InOrder, Rounds};
 pub use session::Session;

@@ -10,12 +10,13 @@ ghost use Rattle.site_world.specs.Sights.{fixed_bytes, item_names};
 ghost use Rattle.source_tree.specs.Limits.{most_files};
 
 use crate::made::made_of;
+use crate::rounds::{InOrder, Rounds};
 use crate::tree::tree_of;
 use memo_table::Memo;
 use out_tree::{KeepList, Tree};
 use page_render::PageMeaning;
 use read_record::{Renderer, Tally};
-use render_workers::{Outcomes, Round, RoundError, Whys, regenerate_serial};
+use render_workers::{Outcomes, Round, RoundError, Whys};
 use site_base::{Memory, Settings, SiteFault, Text, TextList};
 use site_reader::{Site, SiteError, read_site};
 use site_world::SiteWorld;
@@ -46,20 +47,20 @@ pub struct Output {
 /// What the held files stand for, or their first fault. Items are rendered whose kept render no longer tells what rendering
 /// anew would give; what is rendered is kept.
 #[tactic(auto, using(crate::proofs::Full::from_unread))]
-pub(crate) fn built_output<R: Renderer<Meaning = PageMeaning>>(
+pub(crate) fn built_output<B: Rounds>(
     alloc: Global,
     held: &Held,
     moment: i64,
     settings: &Settings,
-    renderer: &R,
+    rounds: &B,
     memo: &mut Memo<PageMeaning>,
     tally: &mut Tally,
 ) -> Result<Output, SiteError>
     requires { is_moment moment ≡ true }
-    ensures { IsOutput held.now memo.old (sites.site held.now moment settings.now) result memo.new tally.old tally.new }
+    ensures { IsOutput B.adds held.now memo.old (sites.site held.now moment settings.now) result memo.new tally.old tally.new }
 {
     match read_site(alloc, held, moment, settings) {
-        Ok(site) => site_output(alloc, held, &site, renderer, memo, tally),
+        Ok(site) => site_output(alloc, held, &site, rounds, memo, tally),
         Err(error) => Err(error),
     }
 }
@@ -94,7 +95,8 @@ fn first_item_fault<R: Renderer<Meaning = PageMeaning>>(
 {
     let mut memo = Memo::new(alloc);
     let mut tally = Tally::new(alloc);
-    match round(alloc, held, site, renderer, &mut memo, &mut tally) {
+    let rounds = InOrder::new(renderer);
+    match round(alloc, held, site, &rounds, &mut memo, &mut tally) {
         Ok(_) => Ok(None),
         Err(RoundError::Fault(fault)) => Ok(Some(fault)),
         Err(RoundError::Memory) => Err(Memory),
@@ -102,41 +104,41 @@ fn first_item_fault<R: Renderer<Meaning = PageMeaning>>(
 }
 
 #[tactic(auto, using(crate::proofs::Full::from_whole, crate::proofs::Full::from_stopped))]
-fn site_output<R: Renderer<Meaning = PageMeaning>>(
+fn site_output<B: Rounds>(
     alloc: Global,
     held: &Held,
     site: &Site,
-    renderer: &R,
+    rounds: &B,
     memo: &mut Memo<PageMeaning>,
     tally: &mut Tally,
 ) -> Result<Output, SiteError>
     requires lawful { IsLawful held.now site.now }
     requires few { length site.now.items ≤ 2 * most_files }
     requires moment { pos 0 ≤ℤ site.now.moment }
-    ensures { IsOutput held.now memo.old (Ok site.now) result memo.new tally.old tally.new }
+    ensures { IsOutput B.adds held.now memo.old (Ok site.now) result memo.new tally.old tally.new }
 {
-    match round(alloc, held, site, renderer, memo, tally) {
+    match round(alloc, held, site, rounds, memo, tally) {
         Ok(round) => Ok(output_of(alloc, held, site, round)?),
         Err(RoundError::Fault(fault)) => Err(SiteError::Fault(fault)),
         Err(RoundError::Memory) => Err(SiteError::Memory),
     }
 }
 
-// The items of a site, rendered one after another where nothing that is kept serves.
-fn round<R: Renderer<Meaning = PageMeaning>>(
+// The items of a site, rendered where nothing that is kept serves.
+fn round<B: Rounds>(
     alloc: Global,
     held: &Held,
     site: &Site,
-    renderer: &R,
+    rounds: &B,
     memo: &mut Memo<PageMeaning>,
     tally: &mut Tally,
 ) -> Result<Round, RoundError>
     requires lawful { IsLawful held.now site.now }
     requires moment { pos 0 ≤ℤ site.now.moment }
-    ensures { IsRound (given_of held.now site.now memo.old) (fixed_bytes held.now site.now) result memo.new tally.old tally.new }
+    ensures { IsRound B.adds (given_of held.now site.now memo.old) (fixed_bytes held.now site.now) result memo.new tally.old tally.new }
 {
     let world = SiteWorld::new(alloc, site, held)?;
-    regenerate_serial(alloc, renderer, &world, memo, tally)
+    rounds.go(alloc, &world, memo, tally)
 }
 
 fn output_of(alloc: Global, held: &Held, site: &Site, round: Round) -> Result<Output, Memory>

@@ -8,15 +8,18 @@ ghost use Rattle.site_base.specs.declared.faults.SiteFault.{SiteFault};
 ghost use Rattle.site_script.specs.Line.{IsInTime, is_moment};
 ghost use Rattle.site_session.specs.Full.{full};
 ghost use Rattle.site_session.specs.Standing.{Holds};
-ghost use Rattle.site_session.specs.Session.{Given, Reply, Fine, Absent, Answers, first_fault, names_at, names_now, rendered_now, start, output_failures, source_failures};
+ghost use Rattle.site_session.specs.Session.{Given, Reply, Fine, Absent, Answers, first_fault, names_now, names_past_now, rendered_now, start, output_failures, source_failures};
 ghost use Rattle.site_session.specs.declared.build.Report.{Report};
 ghost use Rattle.site_session.specs.declared.output.Written.{Written};
-ghost use Rattle.site_session.specs.Replies.{scan_reply, built_reply, Called, FailedAt, Leaves, LeavesBy, IsQuiet, Tallied, has_called_output};
+ghost use Rattle.site_session.specs.Rebuilds.{LineTallied, Rebuilds, Tallied};
+ghost use Rattle.site_session.specs.Replies.{scan_reply, built_reply, Called, FailedAt, Leaves, LeavesBy, IsQuiet, has_called_output};
+ghost use Rattle.render_workers.specs.Rounds.{in_order};
 ghost use Rattle.site_script.specs.declared.line.Line.TheVariants as line;
 
 use crate::build::{Rebuilt, make};
 use crate::output::{built_output, first_fault};
 use crate::reply::Reply;
+use crate::rounds::{InOrder, Rounds};
 use memo_table::Memo;
 use out_tree::{OutKeeper, OutTree};
 use page_render::PageMeaning;
@@ -65,8 +68,16 @@ impl Session {
         requires { is_moment moment ≡ true }
         ensures { result ≡ start settings moment }
     {
+        Session::holding(alloc, Held::new(alloc), settings, moment)
+    }
+
+    /// A session that holds these files, over an output that has not been listed. It takes no memory.
+    pub fn holding(alloc: Global, held: Held, settings: Settings, moment: i64) -> Session
+        requires { is_moment moment ≡ true }
+        ensures { result ≡ record (start settings moment) { files = held } }
+    {
         Session {
-            held: Held::new(alloc),
+            held,
             settings,
             moment,
             memo: Memo::new(alloc),
@@ -123,12 +134,25 @@ impl Session {
     }
 
     /// Makes the output equal to what the held files stand for: exactly what rendering them one after another from nothing gives.
-    /// Items are rendered whose kept render no longer tells that; their names join the tally.
+    /// Items are rendered whose kept render no longer tells that; their names join the tally, in render order.
     pub fn rebuild_serial<O: OutTree, R: Renderer<Meaning = PageMeaning>>(
         &mut self,
         alloc: Global,
         out: &mut O,
         renderer: &R,
+        tally: &mut Tally,
+    ) -> Result<Rebuilt, Memory>
+        ensures { Rebuilds in_order O.contents O.calls O.failures self.old self.new result out.old out.new tally.old tally.new }
+    {
+        self.rebuild_by(alloc, out, &InOrder::new(renderer), tally)
+    }
+
+    // The same, however the items are gone over.
+    fn rebuild_by<O: OutTree, B: Rounds>(
+        &mut self,
+        alloc: Global,
+        out: &mut O,
+        rounds: &B,
         tally: &mut Tally,
     ) -> Result<Rebuilt, Memory>
         ensures answers { (given : Given) (number : ℕ) (reply : Reply) → Holds (O.contents out.old) self.old.belief given.output →
@@ -144,8 +168,8 @@ impl Session {
         ensures quiet { (fault : SiteFault) → full self.old.files self.old.moment self.old.settings ≡ Err fault → out.new ≡ out.old }
         ensures called { (first : Files) (written : Written) → Holds (O.contents out.old) self.old.belief first → full self.old.files self.old.moment self.old.settings ≡ Ok written →
             Called self.old.belief first written result (O.calls out.old) (O.calls out.new) }
-        // What is rendered is exactly what is stale, each item once.
-        ensures tallied { Tallied self.old result tally.old tally.new }
+        // What is rendered is what is stale.
+        ensures tallied { Tallied B.adds self.old result tally.old tally.new }
         // The output's count of failures rises by at least what the answer shows, and stays where all went well.
         ensures later { O.failures out.old ≤ O.failures out.new }
         ensures cause { (reply : Reply) → built_reply result ≡ Some reply → min (O.failures out.old + output_failures reply) (2 ^ 64 - 1) ≤ O.failures out.new }
@@ -158,7 +182,7 @@ impl Session {
             &self.held,
             self.moment,
             &self.settings,
-            renderer,
+            rounds,
             &mut self.memo,
             tally,
         );
@@ -170,14 +194,14 @@ impl Session {
     }
 
     /// Does a line of a script, and says what is replied.
-    pub fn answer<S: SourceTree, O: OutTree, R: Renderer<Meaning = PageMeaning>>(
+    pub fn answer<S: SourceTree, O: OutTree, B: Rounds>(
         &mut self,
         alloc: Global,
         number: u64,
         line: Line,
         source: &mut S,
         out: &mut O,
-        renderer: &R,
+        rounds: &B,
         tally: &mut Tally,
     ) -> Result<Reply, Memory>
         requires { IsInTime line }
@@ -196,8 +220,8 @@ impl Session {
         ensures source_cause { IfOk result (λ reply. min (S.failures source.old + source_failures reply) (2 ^ 64 - 1) ≤ S.failures source.new) }
         ensures output_later { O.failures out.old ≤ O.failures out.new }
         ensures output_cause { IfOk result (λ reply. min (O.failures out.old + output_failures reply) (2 ^ 64 - 1) ≤ O.failures out.new) }
-        // What a build renders is what is stale, each item once.
-        ensures tallied { OnOk result (tally.new ≡ tally.old ++ names_at self.old line) }
+        // What a build renders is what is stale; other lines render nothing.
+        ensures tallied { OnOk result (LineTallied B.adds self.old line tally.old tally.new) }
     {
         match line {
             Line::Scan => self.scan_line(alloc, number, source),
@@ -207,7 +231,7 @@ impl Session {
                 self.set_moment(moment);
                 Ok(Reply::Fine)
             }
-            Line::Build => self.build_line(alloc, number, out, renderer, tally),
+            Line::Build => self.build_line(alloc, number, out, rounds, tally),
             Line::Bad(at, kind) => Ok(Reply::BadLine(at, kind)),
             Line::End | Line::Eof | Line::Failed | Line::Memory => Ok(Reply::Silent),
         }
@@ -262,12 +286,12 @@ impl Session {
         }
     }
 
-    fn build_line<O: OutTree, R: Renderer<Meaning = PageMeaning>>(
+    fn build_line<O: OutTree, B: Rounds>(
         &mut self,
         alloc: Global,
         number: u64,
         out: &mut O,
-        renderer: &R,
+        rounds: &B,
         tally: &mut Tally,
     ) -> Result<Reply, Memory>
         ensures answers { (given : Given) → Holds (O.contents out.old) self.old.belief given.output →
@@ -281,9 +305,9 @@ impl Session {
         ensures later { O.failures out.old ≤ O.failures out.new }
         ensures cause { IfOk result (λ reply. min (O.failures out.old + output_failures reply) (2 ^ 64 - 1) ≤ O.failures out.new) }
         ensures quiet { IfOk result (λ reply. source_failures reply ≡ 0) }
-        ensures tallied { OnOk result (tally.new ≡ tally.old ++ names_now self.old) }
+        ensures tallied { OnOk result (B.adds (names_now self.old) (names_past_now self.old) tally.old tally.new) }
     {
-        match self.rebuild_serial(alloc, out, renderer, tally) {
+        match self.rebuild_by(alloc, out, rounds, tally) {
             Ok(Rebuilt::Built(report)) => Ok(Reply::Built(report)),
             Ok(Rebuilt::Fault(fault)) => Ok(Reply::Faulty(fault)),
             Ok(Rebuilt::Marked(paths)) => Ok(Reply::Marked(paths)),

@@ -157,11 +157,25 @@ const WRONG_WORDS: &[(&[&str], i64, UsageKind, &str)] = &[
         "usage 2\n",
     ),
     (
-        &["make", "1", "2"],
+        &["make", "1", "0"],
         NEW_YEAR,
-        UsageKind::Command,
-        "usage 2\n",
+        UsageKind::Number,
+        "usage 4\n",
     ),
+    (&["make", "1"], NEW_YEAR, UsageKind::Number, "usage 4\n"),
+    (
+        &["make", "1", "1001"],
+        NEW_YEAR,
+        UsageKind::Number,
+        "usage 4\n",
+    ),
+    (
+        &["make", "-1", "2"],
+        NEW_YEAR,
+        UsageKind::Option,
+        "usage 3\n",
+    ),
+    (&["make", "1", "2"], -1, UsageKind::Moment, "usage 5\n"),
     (&["once", "--why"], -1, UsageKind::Option, "usage 3\n"),
     (
         &["check", "--drafts", "--drafts"],
@@ -218,4 +232,37 @@ fn is_done(alloc: Global, moment: i64) -> bool {
 fn takes_the_first_moment_and_the_last(rt: HostRuntime) {
     assert!(rt; is_done(rt.alloc(), 0));
     assert!(rt; is_done(rt.alloc(), 253_402_214_399));
+}
+
+fn makes(alloc: Global, count: &str, replies: &str) -> bool {
+    let given = Scenario {
+        words: &["make", "1", count],
+        ..Scenario::once(SITE)
+    };
+    match given.run(alloc, NEW_YEAR) {
+        Ok(outcome) => {
+            outcome.status.number() == 0
+                && replies_are(&outcome, replies)
+                && outcome.ends.out.is_empty()
+        }
+        Err(_) => false,
+    }
+}
+
+#[test]
+fn makes_a_site_and_edits_it(rt: HostRuntime) {
+    assert!(rt;
+        makes(
+            rt.alloc(),
+            "3",
+            "built rendered=4 reused=0 written=4 removed=0\nbuilt rendered=2 reused=2 written=2 removed=0\n"
+        )
+    );
+    assert!(rt;
+        makes(
+            rt.alloc(),
+            "1000",
+            "built rendered=1001 reused=0 written=1001 removed=0\nbuilt rendered=2 reused=999 written=2 removed=0\n"
+        )
+    );
 }

@@ -1,13 +1,15 @@
-use Rattle.std.proofs.Common.{refl, subst}
+use Rattle.std.proofs.Common.{ℕ, List, refl, subst}
 use Rattle.std.proofs.Math.Facts.{to_z-of_z}
 use Rattle.site_session.specs.Session.{start}
 use Rattle.site_session.specs.Standing.{Standing}
-use Rattle.site_program.specs.Checks.{Checked, CheckTook}
+use Rattle.site_program.specs.Checks.{Checked, CheckTook, EndsAs, SaidBoth}
+use Rattle.site_program.specs.Makes.{first_bytes, make_status, second_bytes}
 use Rattle.site_program.specs.Once.{after_scan, Ended, Took}
 use Rattle.site_program.specs.Runs.{OnceRun}
+use Rattle.site_program.specs.declared.status.Status.{Status}
 use Rattle.site_program.specs.declared.usage.TopCall.TheVariants as call
 use Rattle.site_program.proofs.Onces.{cut_none}
-use Rattle.site_program.proofs.Orders.{in_time, known, none_for_once, ordered, same_check, same_once, same_start}
+use Rattle.site_program.proofs.Orders.{in_time, known, makes_in_range, none_for_once, ordered, same_check, same_make, same_once, same_start}
 use Rattle.site_program.proofs.once.run_once.Goals as goal
 
 pub scan_and_build-requires : goal.scan_and_build-requires
@@ -17,7 +19,7 @@ pub scan_and_check-requires : goal.scan_and_check-requires
 scan_and_check-requires g c = in_time call.Once c.args.words.now _ _ c.in-Ok.ensures
 
 pub unreachable-requires : goal.unreachable-requires
-unreachable-requires g c = none_for_once c.in-Ok.order (known call.Once c.args.words.now _ _ c.in-Ok.ensures) c.in_default.not-Once c.in_default.not-Check
+unreachable-requires g c = none_for_once c.in-Ok.order (known call.Once c.args.words.now _ _ c.in-Ok.ensures) c.in_default.not-Once c.in_default.not-Check c.in_default.not-Make
 
 -- the order is the one that the clause speaks of, and a moment that is handed on is the same number
 pub returns-in-Once-clause-once : goal.returns-in-Once-clause-once
@@ -63,3 +65,28 @@ returns-in-Check-clause-check_took g c = λ given settings before is told w.
 pub returns-clause-once_run : goal.returns-clause-once_run
 returns-clause-once_run g c = λ given settings before is why told out w.
     cut_none g.O.OutTree.contents given (start settings c.args.moment) before _ _ _ refl out w refl
+
+pub make-requires-clause-moment : goal.make-requires-clause-moment
+make-requires-clause-moment g c = in_time call.Once c.args.words.now _ _ c.in-Ok.ensures
+
+pub make-requires-clause-low : goal.make-requires-clause-low
+make-requires-clause-low g c = (makes_in_range c.args.words.now _ _ _ _ c.in-Ok.ensures c.in-Make.is).low
+
+pub make-requires-clause-high : goal.make-requires-clause-high
+make-requires-clause-high g c = (makes_in_range c.args.words.now _ _ _ _ c.in-Ok.ensures c.in-Make.is).high
+
+pub returns-in-Make-clause-make : goal.returns-in-Make-clause-make
+returns-in-Make-clause-make g c = λ number count is.
+    let moment_is = to_z-of_z c.ranges.moment in
+    let order_is = ordered call.Once c.args.words.now _ _ _ _ moment_is c.in-Ok.ensures is in
+    let same = same_make c.in-Ok.order c.in-Make.number c.in-Make.count number count c.in-Make.is order_is in
+    subst (λ (s : Status). EndsAs s c.make.result) (λ i. make_status (same.0 i) (same.1 i) (moment_is i)) c.make.ensures.ends
+
+pub returns-in-Make-clause-make_took : goal.returns-in-Make-clause-make_took
+returns-in-Make-clause-make_took g c = λ number count before is w.
+    let moment_is = to_z-of_z c.ranges.moment in
+    let order_is = ordered call.Once c.args.words.now _ _ _ _ moment_is c.in-Ok.ensures is in
+    let same = same_make c.in-Ok.order c.in-Make.number c.in-Make.count number count c.in-Make.is order_is in
+    subst (λ (t : List ℕ × (List ℕ × Status)). SaidBoth t.0 t.1.0 t.1.1 before (g.K.ByteSink.taken c.make.new.sink) c.make.result)
+    (λ i. (first_bytes (same.0 i) (same.1 i) (moment_is i), (second_bytes (same.0 i) (same.1 i) (moment_is i), make_status (same.0 i) (same.1 i) (moment_is i))))
+    (c.make.ensures.took before w)

@@ -1,4 +1,4 @@
-use Rattle.std.proofs.Common.{◌≡◌, ◌∙◌, ap, sym, Some, None}
+use Rattle.std.proofs.Common.{◌∙◌, ap}
 use Rattle.site_session.proofs.Builds.{Listed, ListedBy, called, on_err, make_answers, mid_true, holds_again, same_told}
 use Rattle.site_session.proofs.build.make.Goals as goal
 

@@ -1,4 +1,4 @@
-use Rattle.std.proofs.Common.{◌≡◌, ◌∙◌, sym, ap, subst, List, ℕ, [], Some, length, rules}
+use Rattle.std.proofs.Common.{◌≡◌, ◌∙◌, sym, ap, subst, [], length, rules}
 use Rattle.std.specs.Option.{IsSome}
 use Rattle.out_tree.specs.Belief.{IsTrueOf, believed}
 use Rattle.site_session.proofs.Builds.{all_done, holds_listed, holds_after, makes_but, nothing, some_failed}

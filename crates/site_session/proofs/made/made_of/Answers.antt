@@ -1,4 +1,4 @@
-use Rattle.std.proofs.Common.{◌≡◌, ◌∙◌, ◌++◌, sym, ap, inl, inr, map, arith}
+use Rattle.std.proofs.Common.{◌∙◌, ◌++◌, sym, ap, inl, inr, map, arith}
 use Rattle.std.proofs.lemmas.List.{append-nil}
 use Rattle.site_session.specs.Seen.{seen}
 use Rattle.site_session.proofs.MadeLaws.{made_ended}

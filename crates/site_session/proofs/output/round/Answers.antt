@@ -9,6 +9,6 @@ use Rattle.site_session.proofs.output.round.Goals as goal
 pub returns : goal.returns
 returns g c =
     let world = c.in_ok-world.world in let kept = c.args.memo.now in
-    let result = c.regenerate_serial.result in let memo = c.regenerate_serial.new.memo in let before = c.args.tally.now in let after = c.regenerate_serial.new.tally in
-    subst (λ (files : Files). IsRound (given_of files c.args.site.now kept) (fixed_bytes files c.args.site.now) result memo before after) c.in_ok-world.ensures.held
-    (subst (λ (site : Site). IsRound (given_of world.held.now site kept) (fixed_bytes world.held.now site) result memo before after) c.in_ok-world.ensures.site c.regenerate_serial.ensures.round)
+    let result = c.go.result in let memo = c.go.new.memo in let before = c.args.tally.now in let after = c.go.new.tally in
+    subst (λ (files : Files). IsRound g.B.Rounds.adds (given_of files c.args.site.now kept) (fixed_bytes files c.args.site.now) result memo before after) c.in_ok-world.ensures.held
+    (subst (λ (site : Site). IsRound g.B.Rounds.adds (given_of world.held.now site kept) (fixed_bytes world.held.now site) result memo before after) c.in_ok-world.ensures.site c.go.ensures)

@@ -1,0 +1,59 @@
+-- What a rebuild does to a session, its output and a tally.
+use Rattle.std.specs.Prelude.{◌≡◌, ◌+◌, ◌-◌, ◌^◌, ◌≤◌, ℕ, min, List, Option, Some, Result, Ok, Err, OnErr}
+use Rattle.out_tree.specs.declared.step.Call.{Call}
+use Rattle.render_workers.specs.Rounds.{Adds}
+use Rattle.site_base.specs.Places.{Files}
+use Rattle.site_base.specs.declared.errors.Memory.{Memory}
+use Rattle.site_base.specs.declared.faults.SiteFault.{SiteFault}
+use Rattle.site_base.specs.declared.item_name.ItemName.{ItemName}
+use Rattle.site_script.specs.declared.line.Line.{Line}
+use Rattle.site_script.specs.declared.line.Line.TheVariants as line
+use Rattle.site_session.specs.Full.{full}
+use Rattle.site_session.specs.Replies.{built_reply, Called, FailedAt, Leaves}
+use Rattle.site_session.specs.Session.{Given, Reply, Answers, names_now, names_past_now, output_failures, rendered_now}
+use Rattle.site_session.specs.Standing.{Standing, Holds}
+use Rattle.site_session.specs.declared.build.Rebuilt.{Rebuilt}
+use Rattle.site_session.specs.declared.build.Rebuilt.TheVariants as rebuilt
+use Rattle.site_session.specs.declared.build.Report.{Report}
+use Rattle.site_session.specs.declared.output.Written.{Written}
+
+-- what a build adds to the tally; where memory is wanting nothing is told of it
+abbrev pub Tallied : Adds → Standing → Result Rebuilt Memory → List ItemName → List ItemName → Type 0
+Tallied adds now (Ok rebuilt) before after = adds (names_now now) (names_past_now now) before after
+Tallied adds now (Err error) before after = Unit {0}
+
+-- and what a line adds
+abbrev pub LineTallied : Adds → Standing → Line → List ItemName → List ItemName → Type 0
+LineTallied adds now line.Build before after = adds (names_now now) (names_past_now now) before after
+LineTallied adds now line.Scan before after = after ≡ before
+LineTallied adds now (line.Put path bytes) before after = after ≡ before
+LineTallied adds now (line.Delete path) before after = after ≡ before
+LineTallied adds now (line.Time seconds) before after = after ≡ before
+LineTallied adds now (line.Bad at bad) before after = after ≡ before
+LineTallied adds now line.End before after = after ≡ before
+LineTallied adds now line.Eof before after = after ≡ before
+LineTallied adds now line.Failed before after = after ≡ before
+LineTallied adds now line.Memory before after = after ≡ before
+
+-- what a rebuild answers and leaves
+pub record Rebuilds {D : Type 0} (adds : Adds) (contents : D → Option Files) (calls : D → Option (List Call)) (failures : D → ℕ) (old new : Standing) (result : Result Rebuilt Memory) (before after : D) (tally tally' : List ItemName) : Type 0 where
+  -- it answers as a line `build` of a session is replied
+  pub answers : (given : Given) (number : ℕ) (reply : Reply) → Holds (contents before) old.belief given.output → built_reply result ≡ Some reply → Answers given old number line.Build reply new
+  -- what is believed stays true
+  pub belief : (first : Files) → Holds (contents before) old.belief first → Holds (contents after) new.belief first
+  -- the output is exactly what the held files stand for, but for the paths that failed, and these are marked
+  pub leaves : (first : Files) (failed : List (List ℕ)) → Holds (contents before) old.belief first → FailedAt result failed → Leaves old failed (contents before) (contents after) new.belief
+  pub unlisted : result ≡ Ok rebuilt.Unlisted → contents after ≡ contents before
+  -- a fault is that of rendering from nothing, and the output is the same value
+  pub fault : (f : SiteFault) → result ≡ Ok (rebuilt.Fault f) → (full old.files old.moment old.settings ≡ Err f) × (new ≡ rendered_now old) × (after ≡ before)
+  -- files with a fault make no call on the output; others list it where it was not listed, and then try each step of the plan once
+  pub quiet : (f : SiteFault) → full old.files old.moment old.settings ≡ Err f → after ≡ before
+  pub called : (first : Files) (written : Written) → Holds (contents before) old.belief first → full old.files old.moment old.settings ≡ Ok written → Called old.belief first written result (calls before) (calls after)
+  -- what is rendered is what is stale, each item once
+  pub tallied : Tallied adds old result tally tally'
+  -- the output's count of failures rises by at least what the answer shows, and stays where all went well
+  pub later : failures before ≤ failures after
+  pub cause : (reply : Reply) → built_reply result ≡ Some reply → min (failures before + output_failures reply) (2 ^ 64 - 1) ≤ failures after
+  pub steady : (report : Report) → result ≡ Ok (rebuilt.Built report) → failures after ≡ failures before
+  pub same : (new.files ≡ old.files) × (new.moment ≡ old.moment) × (new.settings ≡ old.settings)
+  pub err : OnErr result (contents after ≡ contents before)
