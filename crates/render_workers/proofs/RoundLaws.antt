@@ -19,7 +19,7 @@ use Rattle.render_workers.specs.declared.answers.RoundError.TheVariants as error
 use Rattle.render_workers.specs.declared.progress.Progress.{Progress}
 use Rattle.render_workers.specs.Folds.{counted, after_count, fold_from, fold_of, AreDone}
 use Rattle.render_workers.specs.Whys.{why_of, why_at, whys_below, why_names}
-use Rattle.render_workers.specs.Rounds.{entry_over, entry_at, with_some, entries_below, IsWhole, IsStopped, IsRound, in_order}
+use Rattle.render_workers.specs.Rounds.{entry_over, entry_at, with_some, entries_below, IsWhole, IsStopped, IsRound}
 use Rattle.render_workers.specs.Turns.{Turns, Ends, IsTurn}
 use Rattle.render_workers.proofs.TryLaws.{of-some}
 use Rattle.render_workers.proofs.FoldLaws.{length-push, drop-next, known-push, counted-done, done-push, fold-next, fold-end}
@@ -112,7 +112,7 @@ module _ (g : Given) (differ : (i j : ℕ) → i < length g.names → slice_get 
   goes q kept' after' t = subst (λ n. SoFar g fixed n q kept' before after') (sym (add-one i)) (goes-suc q kept' after' t)
 
   -- the round ends with a fault
-  pub stops : (fault : SiteFault) (kept' : Entries) (after' : List ItemName) → Ends (g.sight i (slice_get p.outs)) name (g.item name) fault p kept kept' after after' → IsStopped in_order g fixed fault kept' before after'
+  pub stops : (fault : SiteFault) (kept' : Entries) (after' : List ItemName) → Ends (g.sight i (slice_get p.outs)) name (g.item name) fault p kept kept' after after' → IsStopped g fixed fault kept' before after'
   stops fault kept' after' e = record {
     place = i;
     fold = fold-here e.outcome e.met ∙ ap (λ r. after_count r e.outcome p.outs (fold_from g (drop (suc i) g.names))) e.counts ∙ ap (λ n. Failed (n, fault)) so_far.count;
@@ -122,7 +122,7 @@ module _ (g : Given) (differ : (i j : ℕ) → i < length g.names → slice_get 
 
 -- all items are done
 pub whole : (g : Given) (fixed n : ℕ) (p : Progress) (kept kept' : Entries) (before after : List ItemName) (round : Round) → n ≡ length g.names → SoFar g fixed n p kept before after
-    → round.outs ≡ p.outs → round.why ≡ p.why → round.reused + length p.why ≡ length g.names → kept' ≡ of_names g.names kept → IsWhole in_order g fixed round kept' before after
+    → round.outs ≡ p.outs → round.why ≡ p.why → round.reused + length p.why ≡ length g.names → kept' ≡ of_names g.names kept → IsWhole g fixed round kept' before after
 whole g fixed n p kept kept' before after round all s outs why reused left =
     let end : length g.names ≤ length g.names = omega arith in
     let fold : fold_of g fixed ≡ Gave p.outs = s.fold ∙ ap (λ ns. fold_from g ns p.outs p.bytes) (ap (λ (k : ℕ). drop k g.names) all ∙ drop_all (length g.names) g.names end) ∙ fold-end g p.outs p.bytes in
@@ -140,7 +140,7 @@ whole g fixed n p kept kept' before after round all s outs why reused left =
 -- an item behind which the round does not go on
 pub ended : (g : Given) (differ : (i j : ℕ) → i < length g.names → slice_get g.names i ≡ slice_get g.names j → i ≡ j) (fixed i : ℕ) (name : ItemName) → slice_get g.names i ≡ Some name
     → (p q : Progress) (kept kept' : Entries) (before after after' : List ItemName) (error : RoundError) → SoFar g fixed i p kept before after
-    → IsTurn (g.sight i (slice_get p.outs)) name (g.item name) (Err error) p q kept kept' after after' → IsRound in_order g fixed (Err error) kept' before after'
+    → IsTurn (g.sight i (slice_get p.outs)) name (g.item name) (Err error) p q kept kept' after after' → IsRound g fixed (Err error) kept' before after'
 ended g differ fixed i name there p q kept kept' before after after' (error.Fault f) so_far e = stops g differ fixed i name there p kept before after so_far f kept' after' e
 ended g differ fixed i name there p q kept kept' before after after' error.Memory so_far e = tt
 
@@ -154,7 +154,7 @@ module _ (g : Given) (differ : (i j : ℕ) → i < length g.names → slice_get 
       goes g differ fixed i (get_or g.names i nameless) there p kept before after so_far q kept' after'
       (of-some (λ name. IsTurn (g.sight i (slice_get p.outs)) name (g.item name) (Ok u) p q kept kept' after after') (slice_get g.names i) (get_or g.names i nameless) there h)
 
-  pub ended_at : (error : RoundError) → IfSome (slice_get g.names i) (λ name. IsTurn (g.sight i (slice_get p.outs)) name (g.item name) (Err error) p q kept kept' after after') → IsRound in_order g fixed (Err error) kept' before after'
+  pub ended_at : (error : RoundError) → IfSome (slice_get g.names i) (λ name. IsTurn (g.sight i (slice_get p.outs)) name (g.item name) (Err error) p q kept kept' after after') → IsRound g fixed (Err error) kept' before after'
   ended_at error h =
       ended g differ fixed i (get_or g.names i nameless) there p q kept kept' before after after' error so_far
       (of-some (λ name. IsTurn (g.sight i (slice_get p.outs)) name (g.item name) (Err error) p q kept kept' after after') (slice_get g.names i) (get_or g.names i nameless) there h)

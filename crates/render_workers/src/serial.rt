@@ -3,7 +3,7 @@ ghost use Rattle.std.specs.Prelude.{◌≡◌, ◌<◌, IfSome, length, slice_ge
 ghost use Rattle.std.specs.FinMap.{get};
 ghost use Rattle.round_core.specs.Meant.{given_by};
 ghost use Rattle.render_workers.specs.Folds.{AreDone, IsTold, fold_of};
-ghost use Rattle.render_workers.specs.Rounds.{IsRound, in_order};
+ghost use Rattle.render_workers.specs.Rounds.{IsRound};
 ghost use Rattle.render_workers.specs.Turns.{IsAddedNew, IsTurn};
 
 use crate::progress::Progress;
@@ -24,7 +24,7 @@ pub fn regenerate_serial<R: Renderer, W: World>(
     memo: &mut Memo<R::Meaning>,
     tally: &mut Tally,
 ) -> Result<Round, RoundError>
-    ensures round { IsRound in_order (given_by (W.names world.now) (W.sight world.now) R.Meaning.item memo.old) (W.fixed world.now) result memo.new tally.old tally.new }
+    ensures round { IsRound (given_by (W.names world.now) (W.sight world.now) R.Meaning.item memo.old) (W.fixed world.now) result memo.new tally.old tally.new }
 
     // Rendering them one after another never waits for an item.
     ensures told { IsTold (fold_of (given_by (W.names world.now) (W.sight world.now) R.Meaning.item memo.old) (W.fixed world.now)) }
