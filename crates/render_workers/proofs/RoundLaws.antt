@@ -54,10 +54,10 @@ start g p before none nobody = record {
 
 module _ (g : Given) (differ : (i j : ℕ) → i < length g.names → slice_get g.names i ≡ slice_get g.names j → i ≡ j) (fixed i : ℕ) (name : ItemName) (there : slice_get g.names i ≡ Some name)
     (p : Progress) (kept : Entries) (before after : List ItemName) (so_far : SoFar g fixed i p kept before after) where
-  view : g.sight i (slice_get p.outs) ≡ view_at g i
+  pub view : g.sight i (slice_get p.outs) ≡ view_at g i
   view = ap (g.sight i) so_far.known
 
-  named : name ≡ name_at g i
+  pub named : name ≡ name_at g i
   named = sym (get_or_from_slice_get g.names i name nameless there)
 
   meant-here : interpret (g.sight i (slice_get p.outs)) (g.item name) ≡ meant g i
@@ -66,7 +66,7 @@ module _ (g : Given) (differ : (i j : ℕ) → i < length g.names → slice_get 
   entry-here : entry_over (g.sight i (slice_get p.outs)) name (g.item name) ≡ entry_at g i
   entry-here = λ j. entry_over (view j) (named j) (g.item (named j))
 
-  kept-here : get kept name ≡ kept_at g i
+  pub kept-here : get kept name ≡ kept_at g i
   kept-here = ap (λ m. get m name) so_far.kept ∙ kept-before g differ i name there i (omega arith) ∙ ap (entry_of g.entries) (sym there)
 
   why-here : why_of (get kept name) (g.sight i (slice_get p.outs)) name ≡ why_at g i

@@ -1,0 +1,106 @@
+-- What workers brought back, each at the place of its item.
+use Rattle.std.proofs.Common.{◌≡◌, Bool, true, false, ◌==◌, if◌then◌else◌, ℕ, zero, suc, ◌+◌, ◌<◌, ◌≤◌, List, [], ◌∷◌, ◌++◌, length, set, replicate, Option, Some, None, refl, ap, sym, ◌∙◌, subst, arith}
+use Rattle.std.specs.Prelude.{slice_get, IfSome, All}
+use Rattle.std.proofs.lemmas.List.{length-set}
+use Rattle.std.proofs.lemmas.List.Elements.{All-head, All-tail}
+use Rattle.site_base.specs.declared.item_name.ItemName.{ItemName}
+use Rattle.claim_table.specs.Counts.{one_if_same}
+use Rattle.claim_table.specs.Counts as claims
+use Rattle.round_core.specs.Meant.{Given}
+use Rattle.render_workers.specs.declared.part.Brought.{Brought}
+use Rattle.render_workers.specs.declared.part.Work.{Work}
+use Rattle.render_workers.specs.Tallies.{times}
+use Rattle.render_workers.specs.Brought.{IsRightAt, new_name, names_of, items_of, Brings, name_in, Places, names_in, all_placed}
+use Rattle.render_workers.proofs.TallyLaws.{times-append}
+use Rattle.render_workers.proofs.CollectLaws.{AreRight}
+
+same-number : (i : ℕ) → one_if_same i i ≡ 1
+same-number i = omega arith
+
+module _ {M : Type 0} where
+  -- whether something stands at a place
+  abbrev pub is_there : Option (Option (Work M)) → ℕ
+  is_there (Some (Some w)) = 1
+  is_there (Some None) = 0
+  is_there None = 0
+
+  abbrev pub full_at : Places M → ℕ → ℕ
+  full_at ws i = is_there (slice_get ws i)
+
+  -- ---- one place
+
+  names-set : (x : ItemName) (ws : Places M) (i : ℕ) (w : Work M) → i < length ws → full_at ws i ≡ 0 → times x (names_in (set ws i (Some w))) ≡ times x (names_in ws) + times x (new_name w)
+  names-set x [] i w within free = absurd (omega arith)
+  names-set x (None ∷ ws) zero w within free = let a = times-append x (new_name w) (names_in ws) in omega arith
+  names-set x (Some v ∷ ws) zero w within free = absurd (omega arith)
+  names-set x (v ∷ ws) (suc i) w within free =
+      let ih = names-set x ws i w (omega arith) free in
+      let a = times-append x (name_in v) (names_in (set ws i (Some w))) in
+      let b = times-append x (name_in v) (names_in ws) in
+      omega (arith, ih, a, b)
+
+  full-set : (ws : Places M) (i j : ℕ) (w : Work M) → full_at (set ws i (Some w)) j ≤ full_at ws j + one_if_same i j
+  full-set [] i j w = omega arith
+  full-set (v ∷ ws) zero zero w = omega arith
+  full-set (v ∷ ws) zero (suc j) w = omega arith
+  full-set (v ∷ ws) (suc i) zero w = omega arith
+  full-set (v ∷ ws) (suc i) (suc j) w = full-set ws i j w
+
+  right-set : (g : Given) (k : ℕ) (ws : Places M) (i : ℕ) (w : Work M) → AreRight g k ws → IsRightAt g (k + i) w → AreRight g k (set ws i (Some w))
+  unfolding AreRight
+  right-set g k [] i w right here = right
+  right-set g k (v ∷ ws) zero w right here = (subst (λ n. IsRightAt g n w) (omega arith) here, right.1)
+  right-set g k (v ∷ ws) (suc i) w right here = (right.0, right-set g (suc k) ws i w right.1 (subst (λ n. IsRightAt g n w) (omega arith) here))
+
+  -- ---- all places
+
+  pub length-placed : (bs : List (Brought M)) (ws : Places M) → length (all_placed bs ws) ≡ length ws
+  length-placed [] ws = refl
+  length-placed (b ∷ bs) ws = length-placed bs (set ws b.item (Some b.work)) ∙ length-set ws b.item (Some b.work)
+
+  -- no item stands twice in the list, nor at its place and in the list
+  abbrev pub Free : List (Brought M) → Places M → Type 0
+  Free bs ws = (i : ℕ) → claims.times i (items_of bs) + full_at ws i ≤ 1
+
+  module _ (g : Given) (b : Brought M) (bs : List (Brought M)) (ws : Places M) (free : Free (b ∷ bs) ws) where
+    is-free : full_at ws b.item ≡ 0
+    is-free = let f = free b.item in let s = same-number b.item in omega arith
+
+    stays-free : Free bs (set ws b.item (Some b.work))
+    stays-free i = let f = free i in let s = full-set ws b.item i b.work in omega arith
+
+  pub names-placed : (g : Given) (x : ItemName) (bs : List (Brought M)) (ws : Places M) → All (Brings g) bs → length ws ≡ length g.names → Free bs ws
+      → times x (names_in (all_placed bs ws)) ≡ times x (names_in ws) + times x (names_of bs)
+  names-placed g x [] ws right count free = omega arith
+  names-placed g x (b ∷ bs) ws right count free =
+      let here : Brings g b = All-head (Brings g) b bs right in
+      let within : b.item < length ws = rw count here.0 in
+      let later = names-placed g x bs (set ws b.item (Some b.work)) (All-tail (Brings g) b bs right) (length-set ws b.item (Some b.work) ∙ count) (stays-free g b bs ws free) in
+      let one = names-set x ws b.item b.work within (is-free g b bs ws free) in
+      let a = times-append x (new_name b.work) (names_of bs) in
+      omega (arith, later, one, a)
+
+  pub right-placed : (g : Given) (bs : List (Brought M)) (ws : Places M) → All (Brings g) bs → AreRight g 0 ws → AreRight g 0 (all_placed bs ws)
+  right-placed g [] ws right are = are
+  right-placed g (b ∷ bs) ws right are =
+      let here : Brings g b = All-head (Brings g) b bs right in
+      right-placed g bs (set ws b.item (Some b.work)) (All-tail (Brings g) b bs right) (right-set g 0 ws b.item b.work are here.1)
+
+  -- ---- no places yet
+
+  pub right-none : (g : Given) (k n : ℕ) → AreRight {M = M} g k (replicate n None)
+  unfolding AreRight
+  right-none g k zero = tt
+  right-none g k (suc n) = (tt, right-none g (suc k) n)
+
+  pub names-none : (n : ℕ) → names_in {M = M} (replicate n None) ≡ []
+  names-none zero = refl
+  names-none (suc n) = names-none n
+
+  none-full : (n i : ℕ) → full_at (replicate n None) i ≡ 0
+  none-full zero i = refl
+  none-full (suc n) zero = refl
+  none-full (suc n) (suc i) = none-full n i
+
+  pub all-free : (bs : List (Brought M)) (n : ℕ) → ((i : ℕ) → claims.times i (items_of bs) ≤ 1) → Free bs (replicate n None)
+  all-free bs n once i = let o = once i in let f = none-full n i in omega arith

@@ -1,0 +1,34 @@
+// What workers brought back, each at the place of its item.
+ghost use Rattle.std.specs.Prelude.{◌≡◌, ◌<◌, All, IfOk, None, replicate};
+ghost use Rattle.render_workers.specs.Brought.{all_placed};
+
+use crate::part::{Brought, Work};
+use read_record::ItemMeaning;
+use site_base::Memory;
+use std::alloc::Global;
+
+/// Moves what was made of each item to its place among so many items.
+pub(crate) fn place_all<M: ItemMeaning>(
+    alloc: Global,
+    brought: Vec<Brought<M>>,
+    items: u32,
+) -> Result<Vec<Option<Work<M>>>, Memory>
+    requires { All (λ b. b.item < items) brought.items }
+    ensures { IfOk result (λ places. places.items ≡ all_placed brought.items (replicate items None)) }
+{
+    let mut places = empty_places(alloc, items)?;
+    for Brought { item, work } in brought {
+        places[item as usize] = Some(work);
+    }
+    Ok(places)
+}
+
+fn empty_places<M: ItemMeaning>(alloc: Global, items: u32) -> Result<Vec<Option<Work<M>>>, Memory>
+    ensures { IfOk result (λ places. places.items ≡ replicate items None) }
+{
+    let mut places = Vec::with_capacity(alloc, items as usize)?;
+    for _ in 0..items {
+        places.push(None)?;
+    }
+    Ok(places)
+}
