@@ -37,6 +37,14 @@ told-named kept v name why h = at (is_stale kept v) h
     at true e = let same : why_for name (reason_of kept v) ≡ why = cc in ap (λ (w : Why). w.name) (sym same)
     at false e = cc
 
+-- what is kept of an item that a worker kept is what the collector finds
+pub fresh-entry : (o : Option ItemName) (v : View) (item : ItemName → Query SiteFault Page) (m : Entries) (e : Kept) (n : ItemName) → o ≡ Some n → Some e ≡ get m n
+    → IfSome o (λ name. IsFresh (get m name) v name (item name)) → IfSome o (λ name. (get m name ≡ Some e) × Tells v name (item name) e × ([] ≡ []))
+fresh-entry o v item m e n is found h =
+    let f : IsFresh (get m n) v n (item n) = of-some (λ name. IsFresh (get m name) v name (item name)) o n is h in
+    let same : f.0 ≡ e = (let s : Some f.0 ≡ Some e = sym f.1 ∙ sym found in cc) in
+    if-some (λ name. (get m name ≡ Some e) × Tells v name (item name) e × ([] ≡ [])) o n is (sym found, subst (λ x. Tells v n (item n) x) same f.2, refl)
+
 -- the places that are left, one place on
 pub next-place : {A : Type 0} (xs : List A) (i : ℕ) (x d : A) → i < length xs → x ≡ get_or xs i d → drop i xs ≡ x ∷ drop (suc i) xs
 next-place [] i x d h e = absurd (omega arith)
@@ -60,6 +68,7 @@ module _ {M : Type 0} where
 
   -- the names that workers told of the items from i on are names of these items
   names-few : (x : ItemName) (g : Given) (i : ℕ) (ws : Places M) → AreRight g i ws → i + length ws ≡ length g.names → times x (names_in ws) ≤ times x (drop i g.names)
+  unfolding AreRight
   names-few x g i [] right count = omega arith
   names-few x g i (w ∷ ws) right count =
       let within : i < length g.names = omega arith in
@@ -84,15 +93,16 @@ module _ {M : Type 0} where
       (p : Progress) (kept : Entries) (before tally tally' : List ItemName) (w : Option (Work M)) (left : Places M) (c : Collected g fixed i p kept before tally (w ∷ left)) where
     -- what was brought back of the item is right over what the collector knows
     pub right-here : IfSome w (IsRight (get kept name) (g.sight i (slice_get p.outs)) name (g.item name))
+    unfolding AreRight
     right-here = at w c.right.0
       where
         at : (v : Option (Work M)) → IfSome v (IsRightAt g i) → IfSome v (IsRight (get kept name) (g.sight i (slice_get p.outs)) name (g.item name))
         at None h = h
         at (Some v) h =
-            subst (λ (t : Option Kept × View × ItemName). IsRight t.0 t.1.0 t.1.1 (g.item t.1.1) v)
+            subst (λ (t : Option Kept × View × ItemName). IsRight t.0 t.1 t.2 (g.item t.2) v)
             (λ j. (sym (kept-here g differ fixed i name there p kept before c.serial c.so_far) j, sym (view g differ fixed i name there p kept before c.serial c.so_far) j, sym (named g differ fixed i name there p kept before c.serial c.so_far) j)) h
 
-    told : List ItemName
+    abbrev told : List ItemName
     told = why_names (why_of (get kept name) (g.sight i (slice_get p.outs)) name)
 
     -- the tally with the name of this item
@@ -107,6 +117,7 @@ module _ {M : Type 0} where
         omega (arith, a, b, same, d, n, m)
 
     pub goes-on : (q : Progress) (kept' : Entries) → Turns (g.sight i (slice_get p.outs)) name (g.item name) p q kept kept' tally (tally' ++ name_in w) → Collected g fixed (i + 1) q kept' before tally' left
+    unfolding AreRight
     goes-on q kept' t = record {
       serial = c.serial ++ told;
       so_far = goes g differ fixed i name there p kept before c.serial c.so_far q kept' (c.serial ++ told)
@@ -117,6 +128,7 @@ module _ {M : Type 0} where
     }
 
     pub ends-here : (fault : SiteFault) (kept' : Entries) → Ends (g.sight i (slice_get p.outs)) name (g.item name) fault p kept kept' tally (tally' ++ name_in w) → IsWorked g fixed (Err (error.Fault fault)) kept' before tally'
+    unfolding AreRight
     ends-here fault kept' e =
         let end : Ends (g.sight i (slice_get p.outs)) name (g.item name) fault p kept kept' c.serial (c.serial ++ told) = record { outcome = e.outcome; met = e.met; counts = e.counts; kept = e.kept; tally = refl } in (
           c.serial ++ told,

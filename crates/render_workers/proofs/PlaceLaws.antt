@@ -1,5 +1,5 @@
 -- What workers brought back, each at the place of its item.
-use Rattle.std.proofs.Common.{◌≡◌, Bool, true, false, ◌==◌, if◌then◌else◌, ℕ, zero, suc, ◌+◌, ◌<◌, ◌≤◌, List, [], ◌∷◌, ◌++◌, length, set, replicate, Option, Some, None, refl, ap, sym, ◌∙◌, subst, arith}
+use Rattle.std.proofs.Common.{◌≡◌, Bool, true, false, ◌==◌, if◌then◌else◌, ℕ, zero, suc, ◌+◌, ◌<◌, ◌≤◌, List, [], ◌∷◌, ◌++◌, length, set, replicate, Option, Some, None, refl, ap, sym, ◌∙◌, subst, eq-eqb, arith}
 use Rattle.std.specs.Prelude.{slice_get, IfSome, All}
 use Rattle.std.proofs.lemmas.List.{length-set}
 use Rattle.std.proofs.lemmas.List.Elements.{All-head, All-tail}
@@ -15,7 +15,10 @@ use Rattle.render_workers.proofs.TallyLaws.{times-append}
 use Rattle.render_workers.proofs.CollectLaws.{AreRight}
 
 same-number : (i : ℕ) → one_if_same i i ≡ 1
-same-number i = omega arith
+same-number i = ap (λ b. if b then 1 else 0) (eq-eqb i i refl)
+
+other-number : (i j : ℕ) → one_if_same (suc i) (suc j) ≡ one_if_same i j
+other-number i j = refl
 
 module _ {M : Type 0} where
   -- whether something stands at a place
@@ -44,7 +47,7 @@ module _ {M : Type 0} where
   full-set (v ∷ ws) zero zero w = omega arith
   full-set (v ∷ ws) zero (suc j) w = omega arith
   full-set (v ∷ ws) (suc i) zero w = omega arith
-  full-set (v ∷ ws) (suc i) (suc j) w = full-set ws i j w
+  full-set (v ∷ ws) (suc i) (suc j) w = let ih : full_at (set ws i (Some w)) j ≤ full_at ws j + one_if_same i j = full-set ws i j w in let o = other-number i j in omega (arith, ih, o)
 
   right-set : (g : Given) (k : ℕ) (ws : Places M) (i : ℕ) (w : Work M) → AreRight g k ws → IsRightAt g (k + i) w → AreRight g k (set ws i (Some w))
   unfolding AreRight
@@ -56,38 +59,48 @@ module _ {M : Type 0} where
 
   pub length-placed : (bs : List (Brought M)) (ws : Places M) → length (all_placed bs ws) ≡ length ws
   length-placed [] ws = refl
-  length-placed (b ∷ bs) ws = length-placed bs (set ws b.item (Some b.work)) ∙ length-set ws b.item (Some b.work)
+  length-placed (b ∷ bs) ws = length-set (all_placed bs ws) b.item (Some b.work) ∙ length-placed bs ws
+
+  -- the last one first
+  pub placed-last : (bs : List (Brought M)) (b : Brought M) (ws : Places M) → all_placed (bs ++ b ∷ []) ws ≡ all_placed bs (set ws b.item (Some b.work))
+  placed-last [] b ws = refl
+  placed-last (c ∷ bs) b ws = ap (λ (vs : Places M). set vs c.item (Some c.work)) (placed-last bs b ws)
+
+  full-placed : (bs : List (Brought M)) (ws : Places M) (i : ℕ) → full_at (all_placed bs ws) i ≤ full_at ws i + claims.times i (items_of bs)
+  full-placed [] ws i = omega arith
+  full-placed (b ∷ bs) ws i = let ih = full-placed bs ws i in let s = full-set (all_placed bs ws) b.item i b.work in omega (arith, ih, s)
 
   -- no item stands twice in the list, nor at its place and in the list
   abbrev pub Free : List (Brought M) → Places M → Type 0
   Free bs ws = (i : ℕ) → claims.times i (items_of bs) + full_at ws i ≤ 1
 
-  module _ (g : Given) (b : Brought M) (bs : List (Brought M)) (ws : Places M) (free : Free (b ∷ bs) ws) where
-    is-free : full_at ws b.item ≡ 0
-    is-free = let f = free b.item in let s = same-number b.item in omega arith
+  module _ (b : Brought M) (bs : List (Brought M)) (ws : Places M) (free : Free (b ∷ bs) ws) where
+    is-free : full_at (all_placed bs ws) b.item ≡ 0
+    is-free = let f = free b.item in let s = same-number b.item in let p = full-placed bs ws b.item in omega (arith, f, s, p)
 
-    stays-free : Free bs (set ws b.item (Some b.work))
-    stays-free i = let f = free i in let s = full-set ws b.item i b.work in omega arith
+    rest-free : Free bs ws
+    rest-free i = let f = free i in omega (arith, f)
 
   pub names-placed : (g : Given) (x : ItemName) (bs : List (Brought M)) (ws : Places M) → All (Brings g) bs → length ws ≡ length g.names → Free bs ws
       → times x (names_in (all_placed bs ws)) ≡ times x (names_in ws) + times x (names_of bs)
   names-placed g x [] ws right count free = omega arith
   names-placed g x (b ∷ bs) ws right count free =
       let here : Brings g b = All-head (Brings g) b bs right in
-      let within : b.item < length ws = rw count here.0 in
-      let later = names-placed g x bs (set ws b.item (Some b.work)) (All-tail (Brings g) b bs right) (length-set ws b.item (Some b.work) ∙ count) (stays-free g b bs ws free) in
-      let one = names-set x ws b.item b.work within (is-free g b bs ws free) in
+      let within : b.item < length (all_placed bs ws) = rw (length-placed bs ws, count) here.0 in
+      let before = names-placed g x bs ws (All-tail (Brings g) b bs right) count (rest-free b bs ws free) in
+      let one = names-set x (all_placed bs ws) b.item b.work within (is-free b bs ws free) in
       let a = times-append x (new_name b.work) (names_of bs) in
-      omega (arith, later, one, a)
+      omega (arith, before, one, a)
 
   pub right-placed : (g : Given) (bs : List (Brought M)) (ws : Places M) → All (Brings g) bs → AreRight g 0 ws → AreRight g 0 (all_placed bs ws)
   right-placed g [] ws right are = are
   right-placed g (b ∷ bs) ws right are =
       let here : Brings g b = All-head (Brings g) b bs right in
-      right-placed g bs (set ws b.item (Some b.work)) (All-tail (Brings g) b bs right) (right-set g 0 ws b.item b.work are here.1)
+      right-set g 0 (all_placed bs ws) b.item b.work (right-placed g bs ws (All-tail (Brings g) b bs right) are) (subst (λ n. IsRightAt g n b.work) (omega arith) here.1)
 
-  -- ---- no places yet
+-- ---- no places yet
 
+module _ (M : Type 0) where
   pub right-none : (g : Given) (k n : ℕ) → AreRight {M = M} g k (replicate n None)
   unfolding AreRight
   right-none g k zero = tt
@@ -97,10 +110,10 @@ module _ {M : Type 0} where
   names-none zero = refl
   names-none (suc n) = names-none n
 
-  none-full : (n i : ℕ) → full_at (replicate n None) i ≡ 0
+  none-full : (n i : ℕ) → full_at {M = M} (replicate n None) i ≡ 0
   none-full zero i = refl
   none-full (suc n) zero = refl
   none-full (suc n) (suc i) = none-full n i
 
   pub all-free : (bs : List (Brought M)) (n : ℕ) → ((i : ℕ) → claims.times i (items_of bs) ≤ 1) → Free bs (replicate n None)
-  all-free bs n once i = let o = once i in let f = none-full n i in omega arith
+  all-free bs n once i = let o = once i in let f = none-full n i in omega (arith, o, f)

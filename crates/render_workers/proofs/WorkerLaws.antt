@@ -22,10 +22,12 @@ use Rattle.round_core.specs.Steps.{Differs}
 use Rattle.round_core.proofs.MeantLaws.{Within, outs_at, outcome_met, tells-meant, differs-meant}
 use Rattle.render_workers.specs.declared.answers.Why.{Why}
 use Rattle.render_workers.specs.declared.part.Brought.{Brought}
+use Rattle.render_workers.specs.declared.part.Part.{Part}
 use Rattle.render_workers.specs.declared.part.Work.{Work}
 use Rattle.render_workers.specs.declared.part.Work.TheVariants as work
 use Rattle.render_workers.specs.Whys.{other_at, first_other_key, reason_of, why_for, why_of}
 use Rattle.render_workers.specs.Brought.{IsFresh, new_name, names_of, items_of, Brings, IsPart}
+use Rattle.render_workers.specs.Worked.{IsHand, StaysRight}
 use Rattle.render_workers.proofs.WhyLaws.{why-differs}
 use Rattle.render_workers.proofs.TryLaws.{of-some}
 
@@ -118,7 +120,7 @@ module _ {M : Type 0} where
 
   module _ (g : Given) (lawful : Lawful g.sight) (table : TableId) (hand : Hand) (right : AreMeant g (hand_outs hand)) (i : ℕ) (within : i < length g.names)
       (s t : Seated) (tally tally' : List ItemName) (bs cs : List (Brought M)) (part : IsPart g table s tally bs) (seat : t ≡ finished i s) (e : Kept) where
-    name : ItemName
+    abbrev name : ItemName
     name = get_or g.names i nameless
 
     there : slice_get g.names i ≡ Some name
@@ -138,6 +140,21 @@ module _ {M : Type 0} where
         × (why ≡ why_for n (reason_of (get g.entries n) (g.sight i (hand_outs hand)))) × (tally' ≡ tally ++ n ∷ [])) (slice_get g.names i) name there h in
         let told : tally' ≡ tally ++ why.name ∷ [] = k.3 ∙ ap (λ (w : Why). tally ++ w.name ∷ []) (sym k.2) in
         part-more g table s t tally tally' bs cs (record { item = i; work = work.New e why }) part (within, new-right g lawful (hand_outs hand) right i name there e k.1 why k.0 k.2) seat told more
+
+  -- ---- what a worker learns
+
+  -- where an item has to wait, nothing was rendered
+  pub waits-same : (g : Given) (i : ℕ) → i < length g.names → {P : ItemName → Type 0} {before after : List ItemName} → IfSome (slice_get g.names i) (λ n. P n × (after ≡ before)) → after ≡ before
+  waits-same g i within {P} {before} {after} h = (of-some (λ n. P n × (after ≡ before)) (slice_get g.names i) (get_or g.names i nameless) (slice_get-get_or g.names i nameless within) h).1
+
+  -- while it waits, a worker finishes nothing
+  pub learned : (g : Given) (table : TableId) (p q : Part M) (tally : List ItemName) (old new : Hand) → q ≡ p → p.tally ≡ tally → IsPart g table p.seat tally p.brought.items → IsHand g old → StaysRight g old new
+      → IsPart g table q.seat q.tally q.brought.items × IsHand g new
+  learned g table p q tally old new same told part hand stays =
+      (
+        subst (λ (r : Part M). IsPart g table r.seat r.tally r.brought.items) (sym same) (subst (λ t. IsPart g table p.seat t p.brought.items) (sym told) part),
+        (stays.0 ∙ hand.0, stays.1 hand.1),
+      )
 
 -- ---- what is not known
 

@@ -66,4 +66,4 @@ module _ {M : Type 0} where
 
   abbrev pub all_placed : List (Brought M) → Places M → Places M
   all_placed [] places = places
-  all_placed (b ∷ bs) places = all_placed bs (slice_set places b.item (Some b.work))
+  all_placed (b ∷ bs) places = slice_set (all_placed bs places) b.item (Some b.work)

@@ -10,14 +10,15 @@ use std::alloc::Global;
 /// Moves what was made of each item to its place among so many items.
 pub(crate) fn place_all<M: ItemMeaning>(
     alloc: Global,
-    brought: Vec<Brought<M>>,
+    mut brought: Vec<Brought<M>>,
     items: u32,
 ) -> Result<Vec<Option<Work<M>>>, Memory>
     requires { All (λ b. b.item < items) brought.items }
     ensures { IfOk result (λ places. places.items ≡ all_placed brought.items (replicate items None)) }
 {
     let mut places = empty_places(alloc, items)?;
-    for Brought { item, work } in brought {
+    while let Some(last) = brought.pop() {
+        let Brought { item, work } = last;
         places[item as usize] = Some(work);
     }
     Ok(places)
