@@ -1,5 +1,5 @@
 -- What workers brought back, item by item.
-use Rattle.std.proofs.Common.{◌≡◌, Bool, true, false, if◌then◌else◌, ℕ, zero, suc, ◌+◌, ◌<◌, ◌≤◌, List, [], ◌∷◌, ◌++◌, length, get_or, drop, add-one, append-nil, Option, Some, None, Result, Ok, Err, refl, ap, sym, ◌∙◌, subst, arith}
+use Rattle.std.proofs.Common.{◌≡◌, Bool, true, false, if◌then◌else◌, ℕ, zero, suc, ◌+◌, ◌<◌, ◌≤◌, List, [], ◌∷◌, ◌++◌, length, get_or, drop, set, add-one, append-nil, Option, Some, None, Result, Ok, Err, refl, ap, sym, ◌∙◌, subst, arith}
 use Rattle.std.specs.Prelude.{slice_get, IfSome}
 use Rattle.std.specs.FinMap.{get}
 use Rattle.std.proofs.lemmas.List.{drop_all}
@@ -38,12 +38,12 @@ told-named kept v name why h = at (is_stale kept v) h
     at false e = cc
 
 -- what is kept of an item that a worker kept is what the collector finds
-pub fresh-entry : (o : Option ItemName) (v : View) (item : ItemName → Query SiteFault Page) (m : Entries) (e : Kept) (n : ItemName) → o ≡ Some n → Some e ≡ get m n
-    → IfSome o (λ name. IsFresh (get m name) v name (item name)) → IfSome o (λ name. (get m name ≡ Some e) × Tells v name (item name) e × ([] ≡ []))
-fresh-entry o v item m e n is found h =
+pub fresh-entry : (o : Option ItemName) (v : View) (item : ItemName → Query SiteFault Page) (m : Entries) (e : Kept) (n : ItemName) (names : List ItemName) → o ≡ Some n → Some e ≡ get m n
+    → IfSome o (λ name. IsFresh (get m name) v name (item name)) → IfSome o (λ name. (get m name ≡ Some e) × Tells v name (item name) e × (names ≡ names))
+fresh-entry o v item m e n names is found h =
     let f : IsFresh (get m n) v n (item n) = of-some (λ name. IsFresh (get m name) v name (item name)) o n is h in
     let same : f.0 ≡ e = (let s : Some f.0 ≡ Some e = sym f.1 ∙ sym found in cc) in
-    if-some (λ name. (get m name ≡ Some e) × Tells v name (item name) e × ([] ≡ [])) o n is (sym found, subst (λ x. Tells v n (item n) x) same f.2, refl)
+    if-some (λ name. (get m name ≡ Some e) × Tells v name (item name) e × (names ≡ names)) o n is (sym found, subst (λ x. Tells v n (item n) x) same f.2, refl)
 
 -- the places that are left, one place on
 pub next-place : {A : Type 0} (xs : List A) (i : ℕ) (x d : A) → i < length xs → x ≡ get_or xs i d → drop i xs ≡ x ∷ drop (suc i) xs
@@ -128,7 +128,7 @@ module _ {M : Type 0} where
     }
 
     pub ends-here : (fault : SiteFault) (kept' : Entries) → Ends (g.sight i (slice_get p.outs)) name (g.item name) fault p kept kept' tally (tally' ++ name_in w) → IsWorked g fixed (Err (error.Fault fault)) kept' before tally'
-    unfolding AreRight
+    unfolding AreRight stops
     ends-here fault kept' e =
         let end : Ends (g.sight i (slice_get p.outs)) name (g.item name) fault p kept kept' c.serial (c.serial ++ told) = record { outcome = e.outcome; met = e.met; counts = e.counts; kept = e.kept; tally = refl } in (
           c.serial ++ told,
@@ -141,6 +141,42 @@ module _ {M : Type 0} where
       → IsTurn (g.sight i (slice_get p.outs)) name (g.item name) (Err error) p q kept kept' tally (tally' ++ name_in w) → IsWorked g fixed (Err error) kept' before tally'
   ended-collecting g differ fixed i name there p q kept kept' before tally tally' w left (error.Fault f) c e = ends-here g differ fixed i name there p kept before tally tally' w left c f kept' e
   ended-collecting g differ fixed i name there p q kept kept' before tally tally' w left error.Memory c e = tt
+
+  -- ---- by places
+
+  -- the next place is looked at
+  next-left : (ws vs : Places M) (i : ℕ) (w : Option (Work M)) → slice_get ws i ≡ Some w → vs ≡ set ws i None → drop i ws ≡ w ∷ drop (suc i) vs
+  next-left ws vs i w there is = drop-next ws i w there ∙ ap (λ xs. w ∷ xs) (sym (drop-set ws i) ∙ ap (drop (suc i)) (sym is))
+    where
+      drop-set : (xs : Places M) (i : ℕ) → drop (suc i) (set xs i None) ≡ drop (suc i) xs
+      drop-set [] i = refl
+      drop-set (x ∷ xs) zero = refl
+      drop-set (x ∷ xs) (suc i) = drop-set xs i
+
+  module _ (g : Given) (differ : (i j : ℕ) → i < length g.names → slice_get g.names i ≡ slice_get g.names j → i ≡ j) (fixed i : ℕ) (within : i < length g.names)
+      (p : Progress) (kept : Entries) (before tally : List ItemName) (ws vs : Places M) (w : Option (Work M)) (c : Collected g fixed i p kept before tally (drop i ws)) (there : slice_get ws i ≡ Some w) (rest : vs ≡ set ws i None) where
+    its-name : slice_get g.names i ≡ Some (get_or g.names i nameless)
+    its-name = slice_get-get_or g.names i nameless within
+
+    here : Collected g fixed i p kept before tally (w ∷ drop (suc i) vs)
+    here = subst (Collected g fixed i p kept before tally) (next-left ws vs i w there rest) c
+
+    pub right-at : IfSome (slice_get g.names i) (λ name. IfSome w (IsRight (get kept name) (g.sight i (slice_get p.outs)) name (g.item name)))
+    right-at = if-some (λ name. IfSome w (IsRight (get kept name) (g.sight i (slice_get p.outs)) name (g.item name))) (slice_get g.names i) (get_or g.names i nameless) its-name
+        (right-here g differ fixed i (get_or g.names i nameless) its-name p kept before tally tally w (drop (suc i) vs) here)
+
+    pub went-on : (q : Progress) (kept' : Entries) (tally' : List ItemName) (u : Unit {0}) → IfSome (slice_get g.names i) (λ name. IsTurn (g.sight i (slice_get p.outs)) name (g.item name) (Ok u) p q kept kept' tally (tally' ++ name_in w))
+        → Collected g fixed (i + 1) q kept' before tally' (drop (i + 1) vs)
+    went-on q kept' tally' u h =
+        subst (λ k. Collected g fixed (i + 1) q kept' before tally' (drop k vs)) (sym (add-one i))
+        (goes-on g differ fixed i (get_or g.names i nameless) its-name p kept before tally tally' w (drop (suc i) vs) here q kept'
+        (of-some (λ name. IsTurn (g.sight i (slice_get p.outs)) name (g.item name) (Ok u) p q kept kept' tally (tally' ++ name_in w)) (slice_get g.names i) (get_or g.names i nameless) its-name h))
+
+    pub ended-at : (q : Progress) (kept' : Entries) (tally' : List ItemName) (error : RoundError) → IfSome (slice_get g.names i) (λ name. IsTurn (g.sight i (slice_get p.outs)) name (g.item name) (Err error) p q kept kept' tally (tally' ++ name_in w))
+        → IsWorked g fixed (Err error) kept' before tally'
+    ended-at q kept' tally' error h =
+        ended-collecting g differ fixed i (get_or g.names i nameless) its-name p q kept kept' before tally tally' w (drop (suc i) vs) error here
+        (of-some (λ name. IsTurn (g.sight i (slice_get p.outs)) name (g.item name) (Err error) p q kept kept' tally (tally' ++ name_in w)) (slice_get g.names i) (get_or g.names i nameless) its-name h)
 
   -- the collector has gone through all items
   pub collected-all : (g : Given) (fixed n : ℕ) (p : Progress) (kept kept' : Entries) (before tally : List ItemName) (left : Places M) (round : Round) → n ≡ length g.names → Collected g fixed n p kept before tally left

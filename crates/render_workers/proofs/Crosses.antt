@@ -1,4 +1,5 @@
 -- What may cross threads.
+use denote.RattleType.{RattleType}
 use denote.Param.Send.{IsSend, IsSync, sendable}
 use Rattle.std.proofs.Crossing as heap
 use Rattle.std.proofs.MapsCrossing as maps
@@ -7,12 +8,15 @@ use Rattle.site_base.proofs.item_name.ItemName.TheSendSync as ItemName
 use Rattle.site_base.proofs.path.SitePath.TheSendSync as SitePath
 use Rattle.site_base.proofs.text.Text.TheSendSync as Text
 use Rattle.site_base.proofs.value.Hash.TheLaws.TheKnot as values
+use Rattle.read_record.specs.declared.renderer.ItemMeaning as meaning
+use Rattle.read_record.specs.contracts.entry.Entry as Entry
 use Rattle.read_record.specs.contracts.key.Key as Key
 use Rattle.read_record.specs.contracts.record.Record as Record
+use Rattle.read_record.proofs.outcome.Outcome.TheSendSync as Outcome
 use Rattle.read_record.proofs.seen_code.SeenCode.TheSendSync as SeenCode
 
 -- a key in one step, which leaves `search` steps for the map of keys
-key_send : IsSend Key.the_row
+pub key_send : IsSend Key.the_row
 key_send = search (
   SitePath.the_send,
   SitePath.the_sync,
@@ -26,7 +30,7 @@ key_send = search (
   sendable,
 ) depth 60 fits 20000
 
-key_sync : IsSync Key.the_row
+pub key_sync : IsSync Key.the_row
 key_sync = search (
   SitePath.the_send,
   SitePath.the_sync,
@@ -46,4 +50,11 @@ record_send = search (key_send, SeenCode.the_send, IndexMap.the_send, heap.cross
 pub record_sync : IsSync Record.the_row
 record_sync = search (key_sync, SeenCode.the_sync, IndexMap.the_sync, heap.crosses, sendable) depth 60 fits 20000
 
-pub ruleset crosses = (record_send, record_sync)
+module _ (M : RattleType) (m : meaning.Ghosts M.Denot) where
+  pub entry_send : IsSend M → IsSend (Entry.the_row M m)
+  entry_send s = search (record_send, ItemName.the_send, Outcome.the_send, heap.crosses, sendable) depth 60 fits 20000
+
+  pub entry_sync : IsSync M → IsSync (Entry.the_row M m)
+  entry_sync s = search (record_sync, ItemName.the_sync, Outcome.the_sync, heap.crosses, sendable) depth 60 fits 20000
+
+pub ruleset crosses = (key_send, key_sync, record_send, record_sync, entry_send, entry_sync)

@@ -1,24 +1,33 @@
 -- What workers brought back, each at the place of its item.
-use Rattle.std.proofs.Common.{◌≡◌, Bool, true, false, ◌==◌, if◌then◌else◌, ℕ, zero, suc, ◌+◌, ◌<◌, ◌≤◌, List, [], ◌∷◌, ◌++◌, length, set, replicate, Option, Some, None, refl, ap, sym, ◌∙◌, subst, eq-eqb, arith}
+use Rattle.std.proofs.Common.{◌≡◌, ◌≢◌, ◌⊎◌, inl, inr, eqb, ne_eqb, Bool, true, false, ◌==◌, if◌then◌else◌, ℕ, zero, suc, ◌+◌, ◌<◌, ◌≤◌, List, [], ◌∷◌, ◌++◌, length, set, replicate, Option, Some, None, refl, ap, sym, ◌∙◌, subst, eq-eqb, arith}
 use Rattle.std.specs.Prelude.{slice_get, IfSome, All}
-use Rattle.std.proofs.lemmas.List.{length-set}
+use Rattle.std.proofs.lemmas.Bool.Decides.{eqb_tells}
+use Rattle.std.proofs.lemmas.List.{length-set, length-replicate}
 use Rattle.std.proofs.lemmas.List.Elements.{All-head, All-tail}
 use Rattle.site_base.specs.declared.item_name.ItemName.{ItemName}
 use Rattle.claim_table.specs.Counts.{one_if_same}
 use Rattle.claim_table.specs.Counts as claims
+use Rattle.claim_table.specs.Counts.{EachOnce}
+use Rattle.claim_table.specs.Seats.{Seated}
 use Rattle.round_core.specs.Meant.{Given}
+use Rattle.render_workers.specs.declared.progress.Progress.{Progress}
 use Rattle.render_workers.specs.declared.part.Brought.{Brought}
 use Rattle.render_workers.specs.declared.part.Work.{Work}
 use Rattle.render_workers.specs.Tallies.{times}
-use Rattle.render_workers.specs.Brought.{IsRightAt, new_name, names_of, items_of, Brings, name_in, Places, names_in, all_placed}
+use Rattle.render_workers.specs.Brought.{IsRightAt, new_name, names_of, items_of, Brings, IsPart, name_in, Places, names_in, all_placed}
 use Rattle.render_workers.proofs.TallyLaws.{times-append}
-use Rattle.render_workers.proofs.CollectLaws.{AreRight}
+use Rattle.render_workers.proofs.CollectLaws.{AreRight, Collected}
+use Rattle.render_workers.proofs.RoundLaws.{start}
 
 same-number : (i : ℕ) → one_if_same i i ≡ 1
 same-number i = ap (λ b. if b then 1 else 0) (eq-eqb i i refl)
 
 other-number : (i j : ℕ) → one_if_same (suc i) (suc j) ≡ one_if_same i j
-other-number i j = refl
+other-number i j = at (eqb_tells i j)
+  where
+    at : ((eqb i j ≡ true) × (i ≡ j)) ⊎ ((eqb i j ≡ false) × (i ≢ j)) → one_if_same (suc i) (suc j) ≡ one_if_same i j
+    at (inl e) = ap (λ b. if b then 1 else 0) (eq-eqb (suc i) (suc j) (ap suc e.1) ∙ sym e.0)
+    at (inr e) = ap (λ b. if b then 1 else 0) (ne_eqb (suc i) (suc j) (λ q. e.1 (omega (arith, q))) ∙ sym e.0)
 
 module _ {M : Type 0} where
   -- whether something stands at a place
@@ -62,9 +71,12 @@ module _ {M : Type 0} where
   length-placed (b ∷ bs) ws = length-set (all_placed bs ws) b.item (Some b.work) ∙ length-placed bs ws
 
   -- the last one first
-  pub placed-last : (bs : List (Brought M)) (b : Brought M) (ws : Places M) → all_placed (bs ++ b ∷ []) ws ≡ all_placed bs (set ws b.item (Some b.work))
+  placed-last : (bs : List (Brought M)) (b : Brought M) (ws : Places M) → all_placed (bs ++ b ∷ []) ws ≡ all_placed bs (set ws b.item (Some b.work))
   placed-last [] b ws = refl
   placed-last (c ∷ bs) b ws = ap (λ (vs : Places M). set vs c.item (Some c.work)) (placed-last bs b ws)
+
+  pub placed-next : (bs cs : List (Brought M)) (b : Brought M) (ws : Places M) (w : Option (Work M)) → cs ≡ bs ++ b ∷ [] → w ≡ Some b.work → all_placed bs (set ws b.item w) ≡ all_placed cs ws
+  placed-next bs cs b ws w last is = ap (λ v. all_placed bs (set ws b.item v)) is ∙ sym (placed-last bs b ws) ∙ ap (λ xs. all_placed xs ws) (sym last)
 
   full-placed : (bs : List (Brought M)) (ws : Places M) (i : ℕ) → full_at (all_placed bs ws) i ≤ full_at ws i + claims.times i (items_of bs)
   full-placed [] ws i = omega arith
@@ -117,3 +129,27 @@ module _ (M : Type 0) where
 
   pub all-free : (bs : List (Brought M)) (n : ℕ) → ((i : ℕ) → claims.times i (items_of bs) ≤ 1) → Free bs (replicate n None)
   all-free bs n once i = let o = once i in let f = none-full n i in omega (arith, o, f)
+
+  -- ---- the collector begins
+
+  -- what all workers brought back is at its places, and their names joined the tally
+  pub begun : (g : Given) (p : Progress) (before tally rendered : List ItemName) (seat : Seated) (bs : List (Brought M)) (ws : Places M) → p.outs ≡ [] → p.why ≡ [] → tally ≡ before ++ rendered
+      → IsPart g seat.table seat rendered bs → EachOnce seat.mine seat.done → ws ≡ all_placed bs (replicate (length g.names) None) → Collected g p.bytes 0 p g.entries before tally ws
+  begun g p before tally rendered seat bs ws outs why joined part once placed =
+      let none : Places M = replicate (length g.names) None in
+      let free : Free bs none = all-free bs (length g.names) (λ i. (let o = once i in let d = ap (claims.times i) part.done in omega (arith, o, d))) in
+      let room : length none ≡ length g.names = length-replicate (length g.names) None in
+      subst (Collected g p.bytes 0 p g.entries before tally) (sym placed) (record {
+        serial = before;
+        so_far = start g p before outs why;
+        names = λ x. (
+          let a = names-placed g x bs none part.right room free in
+          let b = ap (times x) (names-none (length g.names)) in
+          let c = times-append x before rendered in
+          let d = ap (times x) joined in
+          let e = ap (times x) part.named in
+          omega (arith, a, b, c, d, e)
+        );
+        right = right-placed g bs none part.right (right-none g 0 (length g.names));
+        count = (let l = length-placed bs none in omega (arith, l, room));
+      })

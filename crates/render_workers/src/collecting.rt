@@ -8,7 +8,7 @@ ghost use Rattle.render_workers.specs.Turns.{IsTurn};
 ghost use Rattle.render_workers.specs.Worked.{IsGathered, IsWorked};
 
 use crate::part::{Part, Work};
-use crate::placing::place_all;
+use crate::placing::{place_all, take_from};
 use crate::progress::Progress;
 use crate::serial::{add_new, closed, next_item};
 use crate::{Round, RoundError};
@@ -38,7 +38,7 @@ pub(crate) fn collect<R: Renderer, W: World>(
     tally.join(rendered)?;
     let mut progress = Progress::new(alloc, world.fixed_bytes());
     for item in 0..world.items() {
-        let work = places[item as usize].take();
+        let work = take_from(&mut places, item);
         match collect_next(
             alloc,
             renderer,

@@ -31,7 +31,7 @@ returns-then-not-learn g c =
     let w = c.args.world.now in
     let given = given_by (g.W.World.names w) (g.W.World.sight w) g.R.Meaning.ItemMeaning.item c.args.memo.now in
     let work = c.loop.invariant.work in
-    let same = waits-same given c.args.item c.requires.item c.in-Needs.ensures in
+    let same = waits-same (g.W.World.names w) c.args.item c.requires.item _ g.R.Meaning.ItemMeaning.item _ _ _ _ c.in-Needs.ensures in
     learned given c.args.table.now _ c.learn.new.worker.part c.loop.worker.part.tally _ c.learn.new.worker.hand c.learn.ensures.part same work.0 work.1 c.learn.ensures.hand
 
 pub loop-preserved : goal.loop-preserved
@@ -39,7 +39,7 @@ loop-preserved g c =
     let w = c.args.world.now in
     let given = given_by (g.W.World.names w) (g.W.World.sight w) g.R.Meaning.ItemMeaning.item c.args.memo.now in
     let work = c.loop.invariant.work in
-    let same = waits-same given c.args.item c.requires.item c.in-Needs.ensures in
+    let same = waits-same (g.W.World.names w) c.args.item c.requires.item _ g.R.Meaning.ItemMeaning.item _ _ _ _ c.in-Needs.ensures in
     record {
       next = search rules;
       finite = search rules;

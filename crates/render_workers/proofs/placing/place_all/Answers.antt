@@ -1,0 +1,12 @@
+use Rattle.std.proofs.Common.{rules, ◌∙◌}
+use Rattle.std.proofs.lemmas.List.{length-set}
+use Rattle.render_workers.proofs.PlaceLaws.{placed-next}
+use Rattle.render_workers.proofs.placing.place_all.Goals as goal
+
+pub loop-last-preserved : goal.loop-last-preserved
+loop-last-preserved g c =
+    let at = c.loop-last in record {
+      within = search rules;
+      room = length-set at.places.items c.in-Some.last.item c.put.new.place ∙ at.invariant.room;
+      placed = placed-next c.pop.new.self.items at.brought.items c.in-Some.last at.places.items c.put.new.place c.in-Some.ensures.items c.put.ensures ∙ at.invariant.placed;
+    }
