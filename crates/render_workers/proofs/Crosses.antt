@@ -12,6 +12,17 @@ use Rattle.read_record.specs.declared.renderer.ItemMeaning as meaning
 use Rattle.read_record.specs.contracts.entry.Entry as Entry
 use Rattle.read_record.specs.contracts.key.Key as Key
 use Rattle.read_record.specs.contracts.record.Record as Record
+use Rattle.memo_table.specs.contracts.memo.Memo as Memo
+use Rattle.memo_table.proofs.name_key.NameKey.TheSendSync as NameKey
+use Rattle.round_core.specs.contracts.made.Made as Made
+use Rattle.once_cell.proofs.race.once_box.OnceBox.TheSendSync as OnceBox
+use Rattle.claim_table.proofs.seat.ClaimSeat.TheSendSync as ClaimSeat
+use Rattle.render_workers.specs.contracts.answers.Why as Why
+use Rattle.render_workers.specs.contracts.cells.Cells as Cells
+use Rattle.render_workers.specs.contracts.part.Brought as Brought
+use Rattle.render_workers.specs.contracts.part.Part as Part
+use Rattle.render_workers.specs.contracts.part.Work as Work
+use Rattle.read_record.proofs.tally.Tally.TheSendSync as Tally
 use Rattle.read_record.proofs.outcome.Outcome.TheSendSync as Outcome
 use Rattle.read_record.proofs.seen_code.SeenCode.TheSendSync as SeenCode
 
@@ -57,4 +68,32 @@ module _ (M : RattleType) (m : meaning.Ghosts M.Denot) where
   pub entry_sync : IsSync M → IsSync (Entry.the_row M m)
   entry_sync s = search (record_sync, ItemName.the_sync, Outcome.the_sync, heap.crosses, sendable) depth 60 fits 20000
 
-pub ruleset crosses = (key_send, key_sync, record_send, record_sync, entry_send, entry_sync)
+  -- ---- what a worker brings back
+
+  why_send : IsSend Why.the_row
+  why_send = search (key_send, ItemName.the_send, heap.crosses, sendable) depth 60 fits 20000
+
+  work_send : IsSend M → IsSend (Work.the_row M m)
+  work_send s = let e = entry_send s in search (e, why_send, heap.crosses, sendable) depth 60 fits 20000
+
+  brought_send : IsSend M → IsSend (Brought.the_row M m)
+  brought_send s = let w = work_send s in search (w, heap.crosses, sendable) depth 60 fits 20000
+
+  pub part_send : IsSend M → IsSend (Part.the_row M m)
+  part_send s = let b = brought_send s in search (b, ClaimSeat.the_send, Tally.the_send, heap.crosses, sendable) depth 60 fits 20000
+
+  -- ---- what workers share
+
+  pub memo_sync : IsSync M → IsSync (Memo.the_row M m)
+  memo_sync s = let e = entry_sync s in search (e, NameKey.the_sync, NameKey.the_field_sync, IndexMap.the_sync, heap.crosses, sendable) depth 60 fits 20000
+
+  made_send : IsSend M → IsSend (Made.the_row M m)
+  made_send s = let e = entry_send s in search (e, heap.crosses, sendable) depth 60 fits 20000
+
+  made_sync : IsSync M → IsSync (Made.the_row M m)
+  made_sync s = let e = entry_sync s in search (e, heap.crosses, sendable) depth 60 fits 20000
+
+  pub cells_sync : IsSend M → IsSync M → IsSync (Cells.the_row M m)
+  cells_sync s y = let a = made_send s in let b = made_sync y in search (a, b, OnceBox.the_sync, heap.crosses, sendable) depth 60 fits 20000
+
+pub ruleset crosses = (part_send, memo_sync, cells_sync)

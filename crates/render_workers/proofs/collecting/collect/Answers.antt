@@ -18,7 +18,7 @@ loop-item-init g c =
     record {
       room = ap length placed ∙ length-placed all.brought.items _ ∙ length-replicate (length (g.W.World.names w)) None;
       collected = subst (λ n. Collected given n 0 p c.args.memo.now c.args.tally.now c.join.new.self ws) (c.new-progress.ensures.bytes ∙ c.fixed_bytes.ensures)
-        (begun given p c.args.tally.now c.join.new.self all.tally all.seat all.brought.items ws c.new-progress.ensures.outs c.new-progress.ensures.why c.in_ok-join.ensures c.requires.0 c.requires.1 placed);
+        (begun _ given p c.args.tally.now c.join.new.self all.tally all.seat all.brought.items ws c.new-progress.ensures.outs c.new-progress.ensures.why c.in_ok-join.ensures c.requires.0 c.requires.1 placed);
     }
 
 pub collect_next-requires-clause-done : goal.collect_next-requires-clause-done
