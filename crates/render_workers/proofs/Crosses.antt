@@ -3,6 +3,7 @@ use denote.RattleType.{RattleType}
 use denote.Param.Send.{IsSend, IsSync, sendable}
 use Rattle.std.proofs.Crossing as heap
 use Rattle.std.proofs.MapsCrossing as maps
+use Rattle.std.proofs.option.Option.TheSendSync as Option
 use Rattle.indexmap.proofs.map.IndexMap.TheSendSync as IndexMap
 use Rattle.site_base.proofs.item_name.ItemName.TheSendSync as ItemName
 use Rattle.site_base.proofs.path.SitePath.TheSendSync as SitePath
@@ -27,7 +28,7 @@ use Rattle.read_record.proofs.outcome.Outcome.TheSendSync as Outcome
 use Rattle.read_record.proofs.seen_code.SeenCode.TheSendSync as SeenCode
 
 -- a key in one step, which leaves `search` steps for the map of keys
-pub key_send : IsSend Key.the_row
+key_send : IsSend Key.the_row
 key_send = search (
   SitePath.the_send,
   SitePath.the_sync,
@@ -41,7 +42,21 @@ key_send = search (
   sendable,
 ) depth 60 fits 20000
 
-pub key_sync : IsSync Key.the_row
+pub key_field_send : IsSend Key.the_field.row
+key_field_send = search (
+  SitePath.the_send,
+  SitePath.the_sync,
+  ItemName.the_send,
+  ItemName.the_sync,
+  Text.the_send,
+  Text.the_sync,
+  maps.crosses,
+  heap.crosses,
+  values.crosses,
+  sendable,
+) depth 60 fits 20000
+
+key_sync : IsSync Key.the_row
 key_sync = search (
   SitePath.the_send,
   SitePath.the_sync,
@@ -62,38 +77,65 @@ pub record_sync : IsSync Record.the_row
 record_sync = search (key_sync, SeenCode.the_sync, IndexMap.the_sync, heap.crosses, sendable) depth 60 fits 20000
 
 module _ (M : RattleType) (m : meaning.Ghosts M.Denot) where
-  pub entry_send : IsSend M → IsSend (Entry.the_row M m)
+  entry_field_send : IsSend M → IsSend (Entry.the_field M m).row
+  entry_field_send s = search (record_send, ItemName.the_send, Outcome.the_send, heap.crosses, sendable) depth 60 fits 20000
+
+  entry_send : IsSend M → IsSend (Entry.the_row M m)
   entry_send s = search (record_send, ItemName.the_send, Outcome.the_send, heap.crosses, sendable) depth 60 fits 20000
 
-  pub entry_sync : IsSync M → IsSync (Entry.the_row M m)
-  entry_sync s = search (record_sync, ItemName.the_sync, Outcome.the_sync, heap.crosses, sendable) depth 60 fits 20000
+  entry_field_sync : IsSync M → IsSync (Entry.the_field M m).row
+  entry_field_sync y = search (record_sync, ItemName.the_sync, Outcome.the_sync, heap.crosses, sendable) depth 60 fits 20000
+
+  entry_sync : IsSync M → IsSync (Entry.the_row M m)
+  entry_sync y = search (record_sync, ItemName.the_sync, Outcome.the_sync, heap.crosses, sendable) depth 60 fits 20000
 
   -- ---- what a worker brings back
 
-  why_send : IsSend Why.the_row
-  why_send = search (key_send, ItemName.the_send, heap.crosses, sendable) depth 60 fits 20000
+  why_send : IsSend Why.the_field.row
+  why_send = search (key_send, key_field_send, ItemName.the_send, ItemName.the_field_send, Option.the_send, heap.crosses, sendable) depth 60 fits 20000
+
+  work_field_send : IsSend M → IsSend (Work.the_field M m).row
+  work_field_send s = let e = entry_field_send s in let w = why_send in search (heap.crosses, sendable) depth 60 fits 20000
 
   work_send : IsSend M → IsSend (Work.the_row M m)
-  work_send s = let e = entry_send s in search (e, why_send, heap.crosses, sendable) depth 60 fits 20000
+  work_send s = let e = entry_field_send s in let w = why_send in search (heap.crosses, sendable) depth 60 fits 20000
+
+  brought_field_send : IsSend M → IsSend (Brought.the_field M m).row
+  brought_field_send s = let w = work_field_send s in search (heap.crosses, sendable) depth 60 fits 20000
 
   brought_send : IsSend M → IsSend (Brought.the_row M m)
-  brought_send s = let w = work_send s in search (w, heap.crosses, sendable) depth 60 fits 20000
+  brought_send s = let w = work_field_send s in search (heap.crosses, sendable) depth 60 fits 20000
+
+  pub part_field_send : IsSend M → IsSend (Part.the_field M m).row
+  part_field_send s = let b = brought_field_send s in search (ClaimSeat.the_send, Tally.the_send, heap.crosses, sendable) depth 60 fits 20000
 
   pub part_send : IsSend M → IsSend (Part.the_row M m)
-  part_send s = let b = brought_send s in search (b, ClaimSeat.the_send, Tally.the_send, heap.crosses, sendable) depth 60 fits 20000
+  part_send s = let b = brought_field_send s in search (ClaimSeat.the_send, Tally.the_send, heap.crosses, sendable) depth 60 fits 20000
 
   -- ---- what workers share
 
+  pub memo_field_sync : IsSync M → IsSync (Memo.the_field M m).row
+  memo_field_sync y = let e = entry_field_sync y in search (NameKey.the_sync, NameKey.the_field_sync, IndexMap.the_sync, heap.crosses, sendable) depth 60 fits 20000
+
   pub memo_sync : IsSync M → IsSync (Memo.the_row M m)
-  memo_sync s = let e = entry_sync s in search (e, NameKey.the_sync, NameKey.the_field_sync, IndexMap.the_sync, heap.crosses, sendable) depth 60 fits 20000
+  memo_sync y = let e = entry_field_sync y in search (NameKey.the_sync, NameKey.the_field_sync, IndexMap.the_sync, heap.crosses, sendable) depth 60 fits 20000
+
+  made_field_send : IsSend M → IsSend (Made.the_field M m).row
+  made_field_send s = let e = entry_field_send s in search (heap.crosses, sendable) depth 60 fits 20000
 
   made_send : IsSend M → IsSend (Made.the_row M m)
-  made_send s = let e = entry_send s in search (e, heap.crosses, sendable) depth 60 fits 20000
+  made_send s = let e = entry_field_send s in search (heap.crosses, sendable) depth 60 fits 20000
+
+  made_field_sync : IsSync M → IsSync (Made.the_field M m).row
+  made_field_sync y = let e = entry_field_sync y in search (heap.crosses, sendable) depth 60 fits 20000
 
   made_sync : IsSync M → IsSync (Made.the_row M m)
-  made_sync s = let e = entry_sync s in search (e, heap.crosses, sendable) depth 60 fits 20000
+  made_sync y = let e = entry_field_sync y in search (heap.crosses, sendable) depth 60 fits 20000
+
+  pub cells_field_sync : IsSend M → IsSync M → IsSync (Cells.the_field M m).row
+  cells_field_sync s y = let a = made_field_send s in let b = made_field_sync y in search (OnceBox.the_sync, heap.crosses, sendable) depth 60 fits 20000
 
   pub cells_sync : IsSend M → IsSync M → IsSync (Cells.the_row M m)
-  cells_sync s y = let a = made_send s in let b = made_sync y in search (a, b, OnceBox.the_sync, heap.crosses, sendable) depth 60 fits 20000
+  cells_sync s y = let a = made_field_send s in let b = made_field_sync y in search (OnceBox.the_sync, heap.crosses, sendable) depth 60 fits 20000
 
-pub ruleset crosses = (part_send, memo_sync, cells_sync)
+pub ruleset crosses = (part_field_send, part_send, memo_field_sync, memo_sync, cells_field_sync, cells_sync)

@@ -57,7 +57,6 @@ fn seats(
     Ok(made)
 }
 
-#[tactic(auto, using(crate::proofs::Crosses::crosses))]
 /// Each worker works in a thread of its own.
 fn spread<H: Threads + Wait + Sync, R: Renderer + Sync, W: World + Sync>(
     rt: &H,
