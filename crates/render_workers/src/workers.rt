@@ -8,7 +8,7 @@ use crate::collecting::collect;
 use crate::spreading::work_all;
 use crate::{Round, RoundError};
 use memo_table::Memo;
-use read_record::{Renderer, Tally, World};
+use read_record::{ItemMeaning, Renderer, Tally, World};
 use std::alloc::Global;
 use std::sync::Wait;
 use std::thread::Threads;
@@ -33,6 +33,13 @@ where
     // Rendering them one after another never waits for an item.
     ensures told { IsTold (fold_of (given_by (W.names world.now) (W.sight world.now) R.Meaning.item memo.old) (W.fixed world.now)) }
 {
+    never_waits(world, memo);
     let all = work_all(rt, alloc, renderer, world, memo, jobs)?;
     collect(alloc, renderer, world, memo, all, tally)
+}
+
+// A law of worlds, which takes no time: rendering one item after another never waits for an item.
+fn never_waits<M: ItemMeaning, W: World>(world: &W, memo: &Memo<M>)
+    ensures { IsTold (fold_of (given_by (W.names world.now) (W.sight world.now) M.item memo.now) (W.fixed world.now)) }
+{
 }
