@@ -1,8 +1,7 @@
 -- What workers brought back, item by item.
-use Rattle.std.proofs.Common.{◌≡◌, Bool, true, false, if◌then◌else◌, ℕ, zero, suc, ◌+◌, ◌<◌, ◌≤◌, List, [], ◌∷◌, ◌++◌, length, get_or, drop, set, add-one, append-nil, Option, Some, None, Result, Ok, Err, refl, ap, sym, ◌∙◌, subst, arith}
+use Rattle.std.proofs.Common.{◌≡◌, Bool, true, false, if◌then◌else◌, ℕ, zero, suc, ◌+◌, ◌<◌, ◌≤◌, List, [], ◌∷◌, ◌++◌, length, get_or, drop, set, add-one, Option, Some, None, Ok, Err, refl, ap, sym, ◌∙◌, subst, arith}
 use Rattle.std.specs.Prelude.{slice_get, IfSome}
 use Rattle.std.specs.FinMap.{get}
-use Rattle.std.proofs.lemmas.List.{drop_all}
 use Rattle.std.proofs.lemmas.Option.{slice_get-get_or}
 use Rattle.site_base.specs.declared.faults.SiteFault.{SiteFault}
 use Rattle.site_base.specs.declared.item_name.ItemName.{ItemName}
@@ -10,7 +9,7 @@ use Rattle.read_record.specs.Queries.{Query, View}
 use Rattle.read_record.specs.Outcomes.{Page}
 use Rattle.read_record.specs.Entries.{Kept, Tells}
 use Rattle.memo_table.specs.Entries.{Entries, of_names}
-use Rattle.round_core.specs.Meant.{Given, nameless, name_at, kept_at, query_at, view_at, is_stale}
+use Rattle.round_core.specs.Meant.{Given, nameless, name_at, kept_at, view_at, is_stale}
 use Rattle.render_workers.specs.declared.answers.Why.{Why}
 use Rattle.render_workers.specs.declared.answers.Round.{Round}
 use Rattle.render_workers.specs.declared.answers.RoundError.{RoundError}
@@ -19,9 +18,8 @@ use Rattle.render_workers.specs.declared.part.Work.{Work}
 use Rattle.render_workers.specs.declared.part.Work.TheVariants as work
 use Rattle.render_workers.specs.declared.progress.Progress.{Progress}
 use Rattle.render_workers.specs.Whys.{why_of, why_for, reason_of, why_names}
-use Rattle.render_workers.specs.Rounds.{IsWhole, IsStopped}
 use Rattle.render_workers.specs.Turns.{Turns, Ends, IsTurn}
-use Rattle.render_workers.specs.Tallies.{times, SameNames, HasBetween}
+use Rattle.render_workers.specs.Tallies.{times}
 use Rattle.render_workers.specs.Brought.{IsFresh, IsRight, IsRightAt, name_in, Places, names_in}
 use Rattle.render_workers.specs.Worked.{IsWorked}
 use Rattle.render_workers.proofs.FoldLaws.{drop-next}

@@ -1,6 +1,6 @@
 -- What workers brought back, each at the place of its item.
-use Rattle.std.proofs.Common.{◌≡◌, ◌≢◌, ◌⊎◌, inl, inr, eqb, ne_eqb, Bool, true, false, ◌==◌, if◌then◌else◌, ℕ, zero, suc, ◌+◌, ◌<◌, ◌≤◌, List, [], ◌∷◌, ◌++◌, length, set, replicate, Option, Some, None, refl, ap, sym, ◌∙◌, subst, eq-eqb, arith}
-use Rattle.std.specs.Prelude.{slice_get, IfSome, All}
+use Rattle.std.proofs.Common.{◌≡◌, ◌≢◌, ◌⊎◌, inl, inr, eqb, ne_eqb, true, false, if◌then◌else◌, ℕ, zero, suc, ◌+◌, ◌<◌, ◌≤◌, List, [], ◌∷◌, ◌++◌, length, set, replicate, Option, Some, None, refl, ap, sym, ◌∙◌, subst, eq-eqb, arith}
+use Rattle.std.specs.Prelude.{slice_get, All}
 use Rattle.std.proofs.lemmas.Bool.Decides.{eqb_tells}
 use Rattle.std.proofs.lemmas.List.{length-set, length-replicate}
 use Rattle.std.proofs.lemmas.List.Elements.{All-head, All-tail}
@@ -143,13 +143,13 @@ module _ (M : Type 0) where
         serial = before;
         so_far = start g p before outs why;
         names = λ x. (
-          let a = names-placed g x bs none part.right room free in
-          let b = ap (times x) (names-none (length g.names)) in
-          let c = times-append x before rendered in
-          let d = ap (times x) joined in
-          let e = ap (times x) part.named in
-          omega (arith, a, b, c, d, e)
-        );
+            let a = names-placed g x bs none part.right room free in
+            let b = ap (times x) (names-none (length g.names)) in
+            let c = times-append x before rendered in
+            let d = ap (times x) joined in
+            let e = ap (times x) part.named in
+            omega (arith, a, b, c, d, e)
+            );
         right = right-placed g bs none part.right (right-none g 0 (length g.names));
         count = (let l = length-placed bs none in omega (arith, l, room));
       })

@@ -1,5 +1,5 @@
 -- How often names stand in lists.
-use Rattle.std.proofs.Common.{◌≡◌, ℕ, ◌+◌, ◌≤◌, if◌then◌else◌, List, [], ◌∷◌, ◌++◌, refl, ap, sym, ◌∙◌, arith}
+use Rattle.std.proofs.Common.{◌≡◌, ℕ, ◌+◌, if◌then◌else◌, List, [], ◌∷◌, ◌++◌, arith}
 use Rattle.site_base.specs.declared.item_name.ItemName.{ItemName}
 use Rattle.memo_table.specs.Names.{same_name}
 use Rattle.render_workers.specs.Tallies.{times}

@@ -1,10 +1,9 @@
 -- What one worker makes of an item over what it knows is what the item comes to behind all items before it.
-use Rattle.std.proofs.Common.{◌≡◌, ℕ, ◌+◌, ◌<◌, List, [], ◌∷◌, ◌++◌, length, map, append_assoc, append-nil, get_or, replicate, zero, suc, Option, Some, None, refl, ap, sym, ◌∙◌, subst}
+use Rattle.std.proofs.Common.{◌≡◌, ℕ, ◌+◌, ◌<◌, List, [], ◌∷◌, ◌++◌, length, append_assoc, append-nil, get_or, Option, Some, None, refl, ap, sym, ◌∙◌, subst}
 use Rattle.std.specs.Prelude.{slice_get, IfSome, All}
 use Rattle.std.specs.FinMap.{get}
 use Rattle.std.proofs.lemmas.Option.{get_or_from_slice_get, slice_get-get_or}
-use Rattle.std.proofs.lemmas.List.{length-replicate}
-use Rattle.std.proofs.lemmas.List.Elements.{All-append, All-push, All-nil}
+use Rattle.std.proofs.lemmas.List.Elements.{All-append, All-push}
 use Rattle.atomic_table.specs.Seated.{TableId}
 use Rattle.site_base.specs.declared.faults.SiteFault.{SiteFault}
 use Rattle.site_base.specs.declared.item_name.ItemName.{ItemName}
@@ -18,16 +17,15 @@ use Rattle.read_record.specs.Outcomes.{Page}
 use Rattle.read_record.specs.Worlds.{Lawful}
 use Rattle.read_record.specs.Entries.{Kept, Tells}
 use Rattle.memo_table.specs.Entries.{Entries}
-use Rattle.claim_table.specs.Seats.{Seated, empty_seat, finished, joined}
+use Rattle.claim_table.specs.Seats.{Seated, finished, joined}
 use Rattle.round_core.specs.Meant.{Given, nameless, name_at, query_at, kept_at, entry_of, outcome_of, outs_below, view_at}
 use Rattle.round_core.specs.Facts.{AreMeant}
-use Rattle.round_core.specs.Hands.{Hand, flat, outcome_in, hand_outs}
+use Rattle.round_core.specs.Hands.{Hand, hand_outs}
 use Rattle.round_core.specs.Steps.{Differs}
 use Rattle.round_core.proofs.MeantLaws.{Within, outs_at, outcome_met, tells-meant, differs-meant}
 use Rattle.render_workers.specs.declared.answers.Why.{Why}
 use Rattle.render_workers.specs.declared.part.Brought.{Brought}
 use Rattle.render_workers.specs.declared.part.Part.{Part}
-use Rattle.render_workers.specs.declared.part.Work.{Work}
 use Rattle.render_workers.specs.declared.part.Work.TheVariants as work
 use Rattle.render_workers.specs.Whys.{other_at, first_other_key, reason_of, why_for, why_of}
 use Rattle.render_workers.specs.Turns.{waits_for}
@@ -119,10 +117,6 @@ module _ {M : Type 0} where
       right = subst (All (Brings g)) (sym more) (All-append (Brings g) bs cs one.right two.right);
     }
 
-    -- a claim changes nothing of what is finished
-    pub part-claimed : (s t : Seated) (tally : List ItemName) (bs : List (Brought M)) → IsPart g table s tally bs → t.table ≡ s.table → t.done ≡ s.done → IsPart g table t tally bs
-    part-claimed s t tally bs part at done = record { at_table = at ∙ part.at_table; done = done ∙ part.done; named = part.named; right = part.right }
-
   module _ (g : Given) (lawful : Lawful g.sight) (table : TableId) (hand : Hand) (right : AreMeant g (hand_outs hand)) (i : ℕ) (within : i < length g.names)
       (s t : Seated) (tally tally' : List ItemName) (bs cs : List (Brought M)) (part : IsPart g table s tally bs) (seat : t ≡ finished i s) (e : Kept) where
     abbrev name : ItemName
@@ -151,41 +145,13 @@ module _ {M : Type 0} where
   -- while it waits, a worker finishes nothing
   pub learned : (g : Given) (table : TableId) (p q : Part M) (tally : List ItemName) (old new : Hand) → q ≡ p → p.tally ≡ tally → IsPart g table p.seat tally p.brought.items → IsHand g old → StaysRight g old new
       → IsPart g table q.seat q.tally q.brought.items × IsHand g new
-  learned g table p q tally old new same told part hand stays =
-      (
-        subst (λ (r : Part M). IsPart g table r.seat r.tally r.brought.items) (sym same) (subst (λ t. IsPart g table p.seat t p.brought.items) (sym told) part),
-        (stays.0 ∙ hand.0, stays.1 hand.1),
-      )
+  learned g table p q tally old new same told part hand stays = (
+    subst (λ (r : Part M). IsPart g table r.seat r.tally r.brought.items) (sym same) (subst (λ t. IsPart g table p.seat t p.brought.items) (sym told) part),
+    (stays.0 ∙ hand.0, stays.1 hand.1),
+  )
 
 -- where an item has to wait, nothing was rendered
 pub waits-same : (names : List ItemName) (i : ℕ) → i < length names → (view : View) (item : ItemName → Query SiteFault Page) (m : Entries) (j : ℕ) (before after : List ItemName)
     → IfSome (slice_get names i) (λ name. (waits_for (get m name) view (item name) ≡ Some j) × (after ≡ before)) → after ≡ before
 waits-same names i within view item m j before after h =
     (of-some (λ name. (waits_for (get m name) view (item name) ≡ Some j) × (after ≡ before)) (slice_get names i) (get_or names i nameless) (slice_get-get_or names i nameless within) h).1
-
--- ---- what is not known
-
-unknown-in : (o : Option (Option Kept)) (k : Option Kept) → o ≡ Some k → outcome_in (flat o) ≡ None → o ≡ Some None
-unknown-in (Some None) k is none = refl
-unknown-in (Some (Some e)) k is none = cc
-unknown-in None k is none = cc
-
--- an item of a hand without an outcome is not known
-pub unknown : (hand : Hand) (i : ℕ) → i < length hand → hand_outs hand i ≡ None → slice_get hand i ≡ Some None
-unknown hand i within none = unknown-in (slice_get hand i) (get_or hand i None) (slice_get-get_or hand i None within) none
-
--- ---- a worker begins
-
-nothing-known : (n i : ℕ) → hand_outs (replicate n None) i ≡ None
-nothing-known zero i = refl
-nothing-known (suc n) zero = refl
-nothing-known (suc n) (suc i) = nothing-known n i
-
-pub begins : {M : Type 0} (g : Given) (table : TableId) (seat : Seated) (tally : List ItemName) (bs : List (Brought M)) (hand : Hand) → seat ≡ empty_seat table → tally ≡ [] → bs ≡ [] → hand ≡ replicate (length g.names) None
-    → IsPart g table seat tally bs × IsHand g hand
-begins {M} g table seat tally bs hand is told none known =
-    let nobody : IsPart {M = M} g table (empty_seat table) [] [] = record { at_table = refl; done = refl; named = refl; right = All-nil (Brings g) } in
-    (
-      subst (λ (t : Seated × List ItemName × List (Brought M)). IsPart g table t.0 t.1 t.2) (λ i. (sym is i, sym told i, sym none i)) nobody,
-      (ap length known ∙ length-replicate (length g.names) None, subst (λ h. AreMeant g (hand_outs h)) (sym known) (λ i o e. (let n = nothing-known (length g.names) i in cc))),
-    )

@@ -3,11 +3,10 @@ ghost use Rattle.std.specs.Prelude.{◌≡◌, ◌<◌, ◌≤◌, length, slice
 ghost use Rattle.round_core.specs.Meant.{given_by};
 ghost use Rattle.render_workers.specs.Worked.{StaysRight};
 
-use crate::cells::{Cells, has_fault};
+use crate::cells::Cells;
 use memo_table::Memo;
 use read_record::{Checked, Entry, Finished, ItemMeaning, World};
 use round_core::{Hand, Made};
-use std::alloc::Global;
 use std::sync::Wait;
 
 /// What came of the try to take an item.

@@ -12,7 +12,7 @@ use crate::part::{Part, Work};
 use crate::settling::{Settled, settle};
 use claim_table::{ClaimSeat, ClaimTable, Claimed};
 use memo_table::Memo;
-use read_record::{Finished, ItemMeaning, Outcome, Renderer, World};
+use read_record::{Finished, ItemMeaning, Renderer, World};
 use round_core::{Hand, Made};
 use site_base::Memory;
 use std::alloc::Global;

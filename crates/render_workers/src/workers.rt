@@ -41,5 +41,4 @@ where
 // A law of worlds, which takes no time: rendering one item after another never waits for an item.
 fn never_waits<M: ItemMeaning, W: World>(world: &W, memo: &Memo<M>)
     ensures { IsTold (fold_of (given_by (W.names world.now) (W.sight world.now) M.item memo.now) (W.fixed world.now)) }
-{
-}
+{}

@@ -197,7 +197,7 @@ const CHAIN: &[Step] = &[(2_000, Needs::Before, NONE, "x")];
 
 #[test]
 fn a_chain_of_items(rt: HostRuntime) {
-    assert!(rt; agree(&rt, rt.alloc(), EACH, CHAIN));
+    assert!(rt; agree(&rt, rt.alloc(), &[1, 2, 4, 8], CHAIN));
 }
 
 // A fault in the first item, in the middle and in the last one; what was kept below it agrees in the round behind.

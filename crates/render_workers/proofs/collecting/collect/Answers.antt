@@ -18,7 +18,7 @@ loop-item-init g c =
     record {
       room = ap length placed ∙ length-placed all.brought.items _ ∙ length-replicate (length (g.W.World.names w)) None;
       collected = subst (λ n. Collected given n 0 p c.args.memo.now c.args.tally.now c.join.new.self ws) (c.new-progress.ensures.bytes ∙ c.fixed_bytes.ensures)
-        (begun _ given p c.args.tally.now c.join.new.self all.tally all.seat all.brought.items ws c.new-progress.ensures.outs c.new-progress.ensures.why c.in_ok-join.ensures c.requires.0 c.requires.1 placed);
+          (begun _ given p c.args.tally.now c.join.new.self all.tally all.seat all.brought.items ws c.new-progress.ensures.outs c.new-progress.ensures.why c.in_ok-join.ensures c.requires.0 c.requires.1 placed);
     }
 
 pub collect_next-requires-clause-done : goal.collect_next-requires-clause-done
@@ -51,7 +51,7 @@ loop-item-preserved g c =
     record {
       room = ap length c.take_from-work.ensures.rest ∙ length-set at.places.items at.item None ∙ at.invariant.room;
       collected = went-on given (g.met.W.World.names_differ w) (g.W.World.fixed w) at.item within at.progress at.memo c.args.tally.now at.tally at.places.items c.take_from-work.new.places.items c.take_from-work.result
-        at.invariant.collected c.take_from-work.ensures.taken c.take_from-work.ensures.rest c.collect_next.new.progress c.collect_next.new.memo c.collect_next.new.tally c.in-Ok.field-0 c.in-Ok.ensures;
+          at.invariant.collected c.take_from-work.ensures.taken c.take_from-work.ensures.rest c.collect_next.new.progress c.collect_next.new.memo c.collect_next.new.tally c.in-Ok.field-0 c.in-Ok.ensures;
     }
 
 pub closed-requires : goal.closed-requires

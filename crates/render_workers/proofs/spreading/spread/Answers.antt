@@ -1,7 +1,5 @@
 use denote.Param.Send.{sendable}
 use Rattle.std.proofs.Crossing as heap
-use Rattle.std.proofs.alloc.Global.TheSendSync as Global
-use Rattle.std.proofs.result.Result.TheSendSync as Result
 use Rattle.site_base.proofs.errors.Memory.TheSendSync as Memory
 use Rattle.claim_table.proofs.table.ClaimTable.TheSendSync as ClaimTable
 use Rattle.render_workers.proofs.Crosses.{part_send, part_field_send, memo_sync, memo_field_sync, cells_sync, cells_field_sync}
