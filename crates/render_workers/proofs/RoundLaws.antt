@@ -54,10 +54,10 @@ start g p before none nobody = record {
 
 module _ (g : Given) (differ : (i j : ℕ) → i < length g.names → slice_get g.names i ≡ slice_get g.names j → i ≡ j) (fixed i : ℕ) (name : ItemName) (there : slice_get g.names i ≡ Some name)
     (p : Progress) (kept : Entries) (before after : List ItemName) (so_far : SoFar g fixed i p kept before after) where
-  view : g.sight i (slice_get p.outs) ≡ view_at g i
+  pub view : g.sight i (slice_get p.outs) ≡ view_at g i
   view = ap (g.sight i) so_far.known
 
-  named : name ≡ name_at g i
+  pub named : name ≡ name_at g i
   named = sym (get_or_from_slice_get g.names i name nameless there)
 
   meant-here : interpret (g.sight i (slice_get p.outs)) (g.item name) ≡ meant g i
@@ -66,7 +66,7 @@ module _ (g : Given) (differ : (i j : ℕ) → i < length g.names → slice_get 
   entry-here : entry_over (g.sight i (slice_get p.outs)) name (g.item name) ≡ entry_at g i
   entry-here = λ j. entry_over (view j) (named j) (g.item (named j))
 
-  kept-here : get kept name ≡ kept_at g i
+  pub kept-here : get kept name ≡ kept_at g i
   kept-here = ap (λ m. get m name) so_far.kept ∙ kept-before g differ i name there i (omega arith) ∙ ap (entry_of g.entries) (sym there)
 
   why-here : why_of (get kept name) (g.sight i (slice_get p.outs)) name ≡ why_at g i
@@ -76,7 +76,7 @@ module _ (g : Given) (differ : (i j : ℕ) → i < length g.names → slice_get 
   unfolding whys_below
   whys-next = ap (λ ws. whys_below g i ++ ws) why-here
 
-  tally-next : (after' : List ItemName) → after' ≡ after ++ why_names (why_of (get kept name) (g.sight i (slice_get p.outs)) name) → after' ≡ before ++ why_names (whys_below g (suc i))
+  pub tally-next : (after' : List ItemName) → after' ≡ after ++ why_names (why_of (get kept name) (g.sight i (slice_get p.outs)) name) → after' ≡ before ++ why_names (whys_below g (suc i))
   tally-next after' e =
       let ws = why_of (get kept name) (g.sight i (slice_get p.outs)) name in
       e ∙ ap (λ ns. ns ++ why_names ws) so_far.tally ∙ append_assoc before (why_names (whys_below g i)) (why_names ws)
@@ -86,7 +86,7 @@ module _ (g : Given) (differ : (i j : ℕ) → i < length g.names → slice_get 
   unfolding entries_below
   entries-next e h = ap (λ o. with_some o (entries_below g i)) (sym h)
 
-  fold-here : (o : Outcome) → interpret (g.sight i (slice_get p.outs)) (g.item name) ≡ met_of o → fold_of g fixed ≡ after_count (counted o name p.bytes) o p.outs (fold_from g (drop (suc i) g.names))
+  pub fold-here : (o : Outcome) → interpret (g.sight i (slice_get p.outs)) (g.item name) ≡ met_of o → fold_of g fixed ≡ after_count (counted o name p.bytes) o p.outs (fold_from g (drop (suc i) g.names))
   fold-here o met =
       so_far.fold ∙ ap (λ ns. fold_from g ns p.outs p.bytes) (drop-next g.names i name there)
       ∙ fold-next g name (drop (suc i) g.names) p.outs p.bytes o (ap (λ n. interpret (g.sight n (slice_get p.outs)) (g.item name)) so_far.count ∙ met)
@@ -112,7 +112,7 @@ module _ (g : Given) (differ : (i j : ℕ) → i < length g.names → slice_get 
   goes q kept' after' t = subst (λ n. SoFar g fixed n q kept' before after') (sym (add-one i)) (goes-suc q kept' after' t)
 
   -- the round ends with a fault
-  pub stops : (fault : SiteFault) (kept' : Entries) (after' : List ItemName) → Ends (g.sight i (slice_get p.outs)) name (g.item name) fault p kept kept' after after' → IsStopped g fixed fault kept' before after'
+  unfoldable pub stops : (fault : SiteFault) (kept' : Entries) (after' : List ItemName) → Ends (g.sight i (slice_get p.outs)) name (g.item name) fault p kept kept' after after' → IsStopped g fixed fault kept' before after'
   stops fault kept' after' e = record {
     place = i;
     fold = fold-here e.outcome e.met ∙ ap (λ r. after_count r e.outcome p.outs (fold_from g (drop (suc i) g.names))) e.counts ∙ ap (λ n. Failed (n, fault)) so_far.count;

@@ -1,0 +1,7 @@
+//! Rounds of many workers, beside rounds of one item after another.
+#![tactic(auto)]
+
+#[cfg(test)]
+mod rounds;
+#[cfg(test)]
+mod row;
