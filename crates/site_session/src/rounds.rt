@@ -1,15 +1,17 @@
 // How a build goes over the items of its site.
 ghost use Rattle.std.specs.Prelude.{◌≡◌, List, []};
 ghost use Rattle.page_render.specs.Items.{item};
-ghost use Rattle.render_workers.specs.Rounds.{Adds, IsRound, in_order};
 ghost use Rattle.round_core.specs.Meant.{given_by};
 ghost use Rattle.site_base.specs.declared.item_name.ItemName.{ItemName};
+ghost use Rattle.site_session.specs.Rounds.{Adds, IsGone};
 
 use memo_table::Memo;
 use page_render::PageMeaning;
 use read_record::{Renderer, Tally, World};
-use render_workers::{Round, RoundError, regenerate_serial};
+use render_workers::{Round, RoundError, regenerate, regenerate_serial};
 use std::alloc::Global;
+use std::sync::Wait;
+use std::thread::Threads;
 
 /// How a build goes over the items of its site. What comes of it is the same however it goes; only the order in which names
 /// join the tally may differ, and which items behind the first fault were rendered.
@@ -25,13 +27,13 @@ pub trait Rounds {
         memo: &mut Memo<PageMeaning>,
         tally: &mut Tally,
     ) -> Result<Round, RoundError>
-        ensures { IsRound adds (given_by (W.names world.now) (W.sight world.now) item memo.old) (W.fixed world.now) result memo.new tally.old tally.new };
+        ensures { IsGone adds (given_by (W.names world.now) (W.sight world.now) item memo.old) (W.fixed world.now) result memo.new tally.old tally.new };
 
     // Where nothing is due, nothing joins.
     ghost nothing: { (names : List ItemName) → adds [] [] names names };
 }
 
-/// One item after another.
+/// One item after another, on this thread.
 #[derive(Drop)]
 pub struct InOrder<'a, R> {
     renderer: &'a R,
@@ -47,11 +49,13 @@ impl<'a, R> InOrder<'a, R> {
 impl<'a, R: Renderer<Meaning = PageMeaning>> Rounds for InOrder<'a, R> {
     ghost use Rattle.std.proofs.Common.{sym};
     ghost use Rattle.std.proofs.lemmas.List.{append-nil};
+    ghost use Rattle.site_session.specs.Rounds.{in_order};
 
     ghost adds = { in_order };
 
     ghost nothing = { λ names. sym (append-nil names) };
 
+    #[tactic(auto, using(crate::proofs::RoundLaws::serial_gone))]
     fn go<W: World + Sync>(
         &self,
         alloc: Global,
@@ -60,5 +64,45 @@ impl<'a, R: Renderer<Meaning = PageMeaning>> Rounds for InOrder<'a, R> {
         tally: &mut Tally,
     ) -> Result<Round, RoundError> {
         regenerate_serial(alloc, self.renderer, world, memo, tally)
+    }
+}
+
+// The most workers that a round may have.
+const MOST_JOBS: u32 = 64;
+
+/// By many workers, each on a thread of its own.
+#[derive(Drop)]
+pub struct ByWorkers<'a, H, R> {
+    rt: &'a H,
+    renderer: &'a R,
+    jobs: u32,
+}
+
+impl<'a, H, R> ByWorkers<'a, H, R> {
+    /// By this renderer and so many workers: one where the number is 0, and 64 where it is larger.
+    pub fn new(rt: &'a H, renderer: &'a R, jobs: u32) -> ByWorkers<'a, H, R> {
+        ByWorkers { rt, renderer, jobs }
+    }
+}
+
+impl<'a, H: Threads + Wait + Sync, R: Renderer<Meaning = PageMeaning> + Sync> Rounds
+    for ByWorkers<'a, H, R> {
+    ghost use Rattle.site_session.specs.Rounds.{in_any_order};
+    ghost use Rattle.site_session.proofs.RoundLaws.{nothing_between};
+
+    ghost adds = { in_any_order };
+
+    ghost nothing = { nothing_between };
+
+    #[tactic(auto, using(crate::proofs::RoundLaws::worked_gone))]
+    fn go<W: World + Sync>(
+        &self,
+        alloc: Global,
+        world: &W,
+        memo: &mut Memo<PageMeaning>,
+        tally: &mut Tally,
+    ) -> Result<Round, RoundError> {
+        let jobs = self.jobs.clamp(1, MOST_JOBS);
+        regenerate(self.rt, alloc, self.renderer, world, memo, jobs, tally)
     }
 }
