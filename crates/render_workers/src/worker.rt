@@ -71,11 +71,12 @@ fn go_through<'a, H: Wait, R: Renderer, W: World>(
         looked_at: 0,
     };
     for item in 0..world.items() {
-        if cells.is_over(rt, item) {
-            break;
-        }
         match table.try_claim(&mut worker.part.seat, item) {
             Claimed::Mine => {
+                // Above a fault nobody needs an item, so this one is left.
+                if cells.is_over(rt, item) {
+                    break;
+                }
                 make(
                     rt,
                     alloc,
