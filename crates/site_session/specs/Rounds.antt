@@ -1,5 +1,7 @@
 -- What a round over the items of a site leaves, one after another or by many workers: the two differ in nothing but the tally.
 use Rattle.std.specs.Prelude.{◌≡◌, ℕ, suc, ◌+◌, List, [], ◌++◌, length, drop, Result, Ok, Err}
+use Rattle.std.proofs.Common.{subst, sym, arith}
+use Rattle.std.proofs.lemmas.List.{append-nil}
 use Rattle.memo_table.specs.Entries.{Entries, of_names}
 use Rattle.read_record.specs.Queries.{Gave, Failed}
 use Rattle.render_workers.specs.Folds.{fold_of}
@@ -45,3 +47,9 @@ abbrev pub IsGone : Adds → Given → ℕ → Result Round RoundError → Entri
 IsGone adds g fixed (Ok round) kept before after = Whole adds g fixed round kept before after
 IsGone adds g fixed (Err (error.Fault f)) kept before after = Stopped adds g fixed f kept before after
 IsGone adds g fixed (Err error.Memory) kept before after = Unit {0}
+
+-- ---- laws
+
+-- where nothing is due, nothing joins
+pub nothing_between : (names : List ItemName) → in_any_order [] [] names names
+nothing_between names = subst (λ (sure : List ItemName). HasBetween sure [] names) (sym (append-nil names)) (λ name. (omega arith, omega arith))

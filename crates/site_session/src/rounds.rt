@@ -1,14 +1,15 @@
 // How a build goes over the items of its site.
-ghost use Rattle.std.specs.Prelude.{◌≡◌, List, []};
-ghost use Rattle.page_render.specs.Items.{item};
-ghost use Rattle.round_core.specs.Meant.{given_by};
+ghost use Rattle.std.specs.Prelude.{◌≡◌, ◌≤◌, List, []};
 ghost use Rattle.site_base.specs.declared.item_name.ItemName.{ItemName};
-ghost use Rattle.site_session.specs.Rounds.{Adds, IsGone};
+ghost use Rattle.site_session.specs.Full.{given_of};
+ghost use Rattle.site_session.specs.Rounds.{Adds, IsGone, in_any_order};
+ghost use Rattle.site_world.specs.Sights.{fixed_bytes};
 
 use memo_table::Memo;
 use page_render::PageMeaning;
-use read_record::{Renderer, Tally, World};
+use read_record::{Renderer, Tally};
 use render_workers::{Round, RoundError, regenerate, regenerate_serial};
+use site_world::SiteWorld;
 use std::alloc::Global;
 use std::sync::Wait;
 use std::thread::Threads;
@@ -20,14 +21,14 @@ pub trait Rounds {
     ghost adds: { Adds };
 
     /// Keeps or renders the items of a world, and keeps what it rendered.
-    fn go<W: World + Sync>(
+    fn go(
         &self,
         alloc: Global,
-        world: &W,
+        world: &SiteWorld<'_>,
         memo: &mut Memo<PageMeaning>,
         tally: &mut Tally,
     ) -> Result<Round, RoundError>
-        ensures { IsGone adds (given_by (W.names world.now) (W.sight world.now) item memo.old) (W.fixed world.now) result memo.new tally.old tally.new };
+        ensures { IsGone adds (given_of world.now.held.now world.now.site.now memo.old) (fixed_bytes world.now.held.now world.now.site.now) result memo.new tally.old tally.new };
 
     // Where nothing is due, nothing joins.
     ghost nothing: { (names : List ItemName) → adds [] [] names names };
@@ -56,10 +57,10 @@ impl<'a, R: Renderer<Meaning = PageMeaning>> Rounds for InOrder<'a, R> {
     ghost nothing = { λ names. sym (append-nil names) };
 
     #[tactic(auto, using(crate::proofs::RoundLaws::serial_gone))]
-    fn go<W: World + Sync>(
+    fn go(
         &self,
         alloc: Global,
-        world: &W,
+        world: &SiteWorld<'_>,
         memo: &mut Memo<PageMeaning>,
         tally: &mut Tally,
     ) -> Result<Round, RoundError> {
@@ -87,22 +88,37 @@ impl<'a, H, R> ByWorkers<'a, H, R> {
 
 impl<'a, H: Threads + Wait + Sync, R: Renderer<Meaning = PageMeaning> + Sync> Rounds
     for ByWorkers<'a, H, R> {
-    ghost use Rattle.site_session.specs.Rounds.{in_any_order};
-    ghost use Rattle.site_session.proofs.RoundLaws.{nothing_between};
+    ghost use Rattle.site_session.specs.Rounds.{in_any_order, nothing_between};
 
     ghost adds = { in_any_order };
 
     ghost nothing = { nothing_between };
 
     #[tactic(auto, using(crate::proofs::RoundLaws::worked_gone))]
-    fn go<W: World + Sync>(
+    fn go(
         &self,
         alloc: Global,
-        world: &W,
+        world: &SiteWorld<'_>,
         memo: &mut Memo<PageMeaning>,
         tally: &mut Tally,
     ) -> Result<Round, RoundError> {
         let jobs = self.jobs.clamp(1, MOST_JOBS);
-        regenerate(self.rt, alloc, self.renderer, world, memo, jobs, tally)
+        by_workers(self.rt, alloc, self.renderer, world, memo, jobs, tally)
     }
+}
+
+#[tactic(auto, using(crate::proofs::RoundLaws::worked_gone))]
+fn by_workers<H: Threads + Wait + Sync, R: Renderer<Meaning = PageMeaning> + Sync>(
+    rt: &H,
+    alloc: Global,
+    renderer: &R,
+    world: &SiteWorld<'_>,
+    memo: &mut Memo<PageMeaning>,
+    jobs: u32,
+    tally: &mut Tally,
+) -> Result<Round, RoundError>
+    requires { (1 ≤ jobs) × (jobs ≤ 64) }
+    ensures { IsGone in_any_order (given_of world.now.held.now world.now.site.now memo.old) (fixed_bytes world.now.held.now world.now.site.now) result memo.new tally.old tally.new }
+{
+    regenerate(rt, alloc, renderer, world, memo, jobs, tally)
 }
