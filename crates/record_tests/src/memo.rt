@@ -1,40 +1,72 @@
 // What is kept of small sites at several paths.
 use crate::records::{First, SampleItems, entry_of, name_at, sample_at};
 use memo_table::Memo;
-use read_record::Outcome;
+use read_record::{Entry, Outcome};
 use site_base::Memory;
 use std::alloc::Global;
 
-// Keeps the first item of a site whose first variable is this one.
-fn keep(
-    alloc: Global,
-    memo: &mut Memo<SampleItems>,
-    path: &str,
-    variable: i64,
-) -> Result<(), Memory> {
+/// A render that is kept.
+enum Keep {
+    /// Of the first item of a site at this path, with this variable.
+    First(&'static str, i64),
+    /// Of the second item, behind the first.
+    Second(&'static str),
+}
+
+/// Renders that are kept one after another, and what is left of them.
+struct Row {
+    keeps: &'static [Keep],
+    /// The path of the site whose items stay. Without one, all do.
+    stays: Option<&'static str>,
+    /// A path, a part, and the output that is kept of this item; the empty text stands for no entry.
+    outputs: &'static [(&'static str, u32, &'static str)],
+}
+
+fn first_entry(alloc: Global, path: &str, variable: i64) -> Result<Entry<SampleItems>, Memory> {
     let world = sample_at(alloc, path, variable)?;
-    let entry = entry_of(alloc, &world, 0, &First(None))?;
-    memo.merge(alloc, entry)
+    entry_of(alloc, &world, 0, &First(None))
 }
 
-// Keeps the second item, behind the first.
-fn keep_second(alloc: Global, memo: &mut Memo<SampleItems>, path: &str) -> Result<(), Memory> {
+fn first_done(alloc: Global, path: &str) -> Result<First, Memory> {
+    let first = first_entry(alloc, path, 1)?;
+    Ok(First(Some(first.outcome().copy(alloc)?)))
+}
+
+fn second_entry(alloc: Global, path: &str) -> Result<Entry<SampleItems>, Memory> {
+    let outs = first_done(alloc, path)?;
     let world = sample_at(alloc, path, 1)?;
-    let first = entry_of(alloc, &world, 0, &First(None))?;
-    let outcome = first.outcome().copy(alloc)?;
-    let entry = entry_of(alloc, &world, 1, &First(Some(outcome)))?;
-    memo.merge(alloc, entry)
+    entry_of(alloc, &world, 1, &outs)
 }
 
-fn three_sites(alloc: Global) -> Result<Memo<SampleItems>, Memory> {
+fn entry(alloc: Global, keep: &Keep) -> Result<Entry<SampleItems>, Memory> {
+    match keep {
+        Keep::First(path, variable) => first_entry(alloc, path, *variable),
+        Keep::Second(path) => second_entry(alloc, path),
+    }
+}
+
+fn kept(alloc: Global, keeps: &[Keep]) -> Result<Memo<SampleItems>, Memory> {
     let mut memo = Memo::new(alloc);
-    keep(alloc, &mut memo, "a.html", 1)?;
-    keep(alloc, &mut memo, "b.html", 3)?;
-    keep(alloc, &mut memo, "c.html", 5)?;
+    for keep in keeps {
+        memo.merge(alloc, entry(alloc, keep)?)?;
+    }
     Ok(memo)
 }
 
-// Whether the entry of an item has this output; the empty text stands for no entry.
+fn forget(alloc: Global, memo: &mut Memo<SampleItems>, stays: &str) -> Result<(), Memory> {
+    let world = sample_at(alloc, stays, 1)?;
+    memo.forget_missing(&world);
+    Ok(())
+}
+
+fn left(alloc: Global, row: &Row) -> Result<Memo<SampleItems>, Memory> {
+    let mut memo = kept(alloc, row.keeps)?;
+    if let Some(stays) = row.stays {
+        forget(alloc, &mut memo, stays)?;
+    }
+    Ok(memo)
+}
+
 fn has(alloc: Global, memo: &Memo<SampleItems>, path: &str, part: u32, output: &str) -> bool {
     match name_at(alloc, path, part) {
         Ok(name) => match memo.entry(&name) {
@@ -47,101 +79,139 @@ fn has(alloc: Global, memo: &Memo<SampleItems>, path: &str, part: u32, output: &
 
 fn is_output(outcome: &Outcome, want: &str) -> bool {
     match outcome {
-        Outcome::Done { content: _, output } => output.as_bytes() == want.as_bytes(),
+        Outcome::Done { content: _, output } => output.as_str() == want,
         Outcome::Fault(_) => false,
     }
 }
 
-// Whether the first items of the three sites have these outputs.
-fn have(alloc: Global, memo: &Memo<SampleItems>, a: &str, b: &str, c: &str) -> bool {
-    if !has(alloc, memo, "a.html", 0, a) {
-        return false;
+fn has_all(alloc: Global, memo: &Memo<SampleItems>, outputs: &[(&str, u32, &str)]) -> bool {
+    for (path, part, output) in outputs {
+        if !has(alloc, memo, path, *part, output) {
+            return false;
+        }
     }
-    if !has(alloc, memo, "b.html", 0, b) {
-        return false;
-    }
-    has(alloc, memo, "c.html", 0, c)
+    true
 }
 
-fn keeps_each(alloc: Global) -> Result<bool, Memory> {
-    let memo = three_sites(alloc)?;
-    Ok(have(alloc, &memo, "1", "3", "5"))
-}
-
-fn keeps_the_later(alloc: Global) -> Result<bool, Memory> {
-    let mut memo = three_sites(alloc)?;
-    keep(alloc, &mut memo, "b.html", 7)?;
-    Ok(have(alloc, &memo, "1", "7", "5"))
-}
-
-fn keeps_both_parts(alloc: Global) -> Result<bool, Memory> {
-    let mut memo = three_sites(alloc)?;
-    keep_second(alloc, &mut memo, "a.html")?;
-    Ok(has(alloc, &memo, "a.html", 1, "2") && have(alloc, &memo, "1", "3", "5"))
-}
-
-// What is left of three entries where this site's items stay.
-fn left(alloc: Global, site: &str) -> Result<Memo<SampleItems>, Memory> {
-    let mut memo = three_sites(alloc)?;
-    let world = sample_at(alloc, site, 1)?;
-    memo.forget_missing(&world);
-    Ok(memo)
-}
-
-fn leaves(alloc: Global, site: &str, a: &str, b: &str, c: &str) -> bool {
-    match left(alloc, site) {
-        Ok(memo) => have(alloc, &memo, a, b, c),
+fn comes_out(alloc: Global, row: &Row) -> bool {
+    match left(alloc, row) {
+        Ok(memo) => has_all(alloc, &memo, row.outputs),
         Err(_) => false,
     }
 }
 
-// Both items of a site, put in behind another and in turned order.
-fn leaves_both_parts(alloc: Global) -> Result<bool, Memory> {
-    let mut memo = Memo::new(alloc);
-    keep(alloc, &mut memo, "b.html", 3)?;
-    keep_second(alloc, &mut memo, "a.html")?;
-    keep(alloc, &mut memo, "a.html", 1)?;
-    let world = sample_at(alloc, "a.html", 1)?;
-    memo.forget_missing(&world);
-    Ok(has(alloc, &memo, "a.html", 1, "2") && have(alloc, &memo, "1", "", ""))
-}
+const NOTHING: Row = Row {
+    keeps: &[],
+    stays: None,
+    outputs: &[("a.html", 0, ""), ("b.html", 0, ""), ("c.html", 0, "")],
+};
 
 #[test]
 fn keeps_nothing_at_first(rt: HostRuntime) {
-    assert!(rt; have(rt.alloc(), &Memo::new(rt.alloc()), "", "", ""));
+    assert!(rt; comes_out(rt.alloc(), &NOTHING));
 }
+
+const THREE_SITES: &[Keep] = &[
+    Keep::First("a.html", 1),
+    Keep::First("b.html", 3),
+    Keep::First("c.html", 5),
+];
+
+const EACH: Row = Row {
+    keeps: THREE_SITES,
+    stays: None,
+    outputs: &[("a.html", 0, "1"), ("b.html", 0, "3"), ("c.html", 0, "5")],
+};
 
 #[test]
 fn keeps_an_entry_for_each_path(rt: HostRuntime) {
-    assert_eq!(rt; keeps_each(rt.alloc()), Ok(true));
+    assert!(rt; comes_out(rt.alloc(), &EACH));
 }
+
+const LATER: Row = Row {
+    keeps: &[
+        Keep::First("a.html", 1),
+        Keep::First("b.html", 3),
+        Keep::First("c.html", 5),
+        Keep::First("b.html", 7),
+    ],
+    stays: None,
+    outputs: &[("a.html", 0, "1"), ("b.html", 0, "7"), ("c.html", 0, "5")],
+};
 
 #[test]
 fn keeps_the_later_entry_of_a_name(rt: HostRuntime) {
-    assert_eq!(rt; keeps_the_later(rt.alloc()), Ok(true));
+    assert!(rt; comes_out(rt.alloc(), &LATER));
 }
+
+const BOTH_PARTS: Row = Row {
+    keeps: &[
+        Keep::First("a.html", 1),
+        Keep::First("b.html", 3),
+        Keep::First("c.html", 5),
+        Keep::Second("a.html"),
+    ],
+    stays: None,
+    outputs: &[
+        ("a.html", 1, "2"),
+        ("a.html", 0, "1"),
+        ("b.html", 0, "3"),
+        ("c.html", 0, "5"),
+    ],
+};
 
 #[test]
 fn tells_the_parts_of_a_path_apart(rt: HostRuntime) {
-    assert_eq!(rt; keeps_both_parts(rt.alloc()), Ok(true));
+    assert!(rt; comes_out(rt.alloc(), &BOTH_PARTS));
 }
 
-// A site, and the outputs of the first items that are left.
-const LEFT: &[(&str, &str, &str, &str)] = &[
-    ("a.html", "1", "", ""),
-    ("b.html", "", "3", ""),
-    ("c.html", "", "", "5"),
-    ("d.html", "", "", ""),
+const LEFT: &[Row] = &[
+    Row {
+        keeps: THREE_SITES,
+        stays: Some("a.html"),
+        outputs: &[("a.html", 0, "1"), ("b.html", 0, ""), ("c.html", 0, "")],
+    },
+    Row {
+        keeps: THREE_SITES,
+        stays: Some("b.html"),
+        outputs: &[("a.html", 0, ""), ("b.html", 0, "3"), ("c.html", 0, "")],
+    },
+    Row {
+        keeps: THREE_SITES,
+        stays: Some("c.html"),
+        outputs: &[("a.html", 0, ""), ("b.html", 0, ""), ("c.html", 0, "5")],
+    },
+    Row {
+        keeps: THREE_SITES,
+        stays: Some("d.html"),
+        outputs: &[("a.html", 0, ""), ("b.html", 0, ""), ("c.html", 0, "")],
+    },
 ];
 
 #[test]
 fn forgets_what_a_site_lacks(rt: HostRuntime) {
-    for (site, a, b, c) in LEFT {
-        assert!(rt; leaves(rt.alloc(), site, a, b, c));
+    for row in LEFT {
+        assert!(rt; comes_out(rt.alloc(), row));
     }
 }
 
+// Both items of a site, put in behind another and in turned order.
+const TURNED: Row = Row {
+    keeps: &[
+        Keep::First("b.html", 3),
+        Keep::Second("a.html"),
+        Keep::First("a.html", 1),
+    ],
+    stays: Some("a.html"),
+    outputs: &[
+        ("a.html", 1, "2"),
+        ("a.html", 0, "1"),
+        ("b.html", 0, ""),
+        ("c.html", 0, ""),
+    ],
+};
+
 #[test]
 fn keeps_all_items_of_a_site(rt: HostRuntime) {
-    assert_eq!(rt; leaves_both_parts(rt.alloc()), Ok(true));
+    assert!(rt; comes_out(rt.alloc(), &TURNED));
 }

@@ -1,10 +1,11 @@
 // A small site in memory, and what is read there.
 ghost use Rattle.std.specs.Prelude.{◌≡◌, ◌≢◌, ◌<◌, IfOk, codes};
 ghost use Rattle.site_base.specs.View.{plain};
-ghost use Rattle.read_record.specs.Queries.{Gave, Known, run};
+ghost use Rattle.read_record.specs.Queries.{Ask, Gave, Give, Known, run};
 ghost use Rattle.read_record.specs.Records.{agreement_of};
 ghost use Rattle.read_record.specs.Outcomes.{met_of};
-ghost use Rattle.read_record.specs.Answers.{IsReply, Renders};
+ghost use Rattle.read_record.specs.Answers.{IsNoted, IsReply, Renders};
+ghost use Rattle.read_record.specs.declared.key.Key.TheVariants.{Content, SiteVar, Var};
 ghost use Rattle.read_record.specs.Samples.{content_reply, page_of, sample_item, variable_of};
 
 use read_record::{
@@ -15,7 +16,6 @@ use site_base::{
     ItemName, Memory, SharedBytes, SitePath, Text, Value, copy, same_code, value_text,
 };
 use std::alloc::Global;
-use std::test::Fail;
 
 /// Two items, which are the parts 0 and 1 of one path. Each has one variable.
 #[derive(Drop)]
@@ -210,32 +210,35 @@ fn render_first<L: Look>(alloc: Global, name: &ItemName, look: &mut L) -> Render
     ensures same { L.view look.new ≡ L.view look.old }
     ensures outcome { Renders (run (L.view look.old) (L.trace look.old) (sample_item name.now)) result (L.trace look.new) }
 {
-    let site = match site_key(alloc) {
-        Ok(key) => key,
-        Err(_) => return Rendered::Memory,
-    };
-    let own = match own_key(alloc, name) {
-        Ok(key) => key,
-        Err(_) => return Rendered::Memory,
-    };
-    match look.look(alloc, &site) {
-        Answer::Seen(_) => {}
-        Answer::Needs(item) => return Rendered::Needs(item),
-        Answer::Memory => return Rendered::Memory,
+    match look_site(alloc, look) {
+        Answer::Seen(_) => render_own_and_site(alloc, name, look),
+        Answer::Needs(item) => Rendered::Needs(item),
+        Answer::Memory => Rendered::Memory,
     }
-    let variable = match look.look(alloc, &own) {
-        Answer::Seen(value) => value,
-        Answer::Needs(item) => return Rendered::Needs(item),
-        Answer::Memory => return Rendered::Memory,
-    };
-    match look.look(alloc, &site) {
-        Answer::Seen(_) => {}
-        Answer::Needs(item) => return Rendered::Needs(item),
-        Answer::Memory => return Rendered::Memory,
+}
+
+fn render_own_and_site<L: Look>(alloc: Global, name: &ItemName, look: &mut L) -> Rendered
+    ensures same { L.view look.new ≡ L.view look.old }
+    ensures outcome { Renders (run (L.view look.old) (L.trace look.old) (Ask (Var name.now (codes "v")) (λ v. Ask (SiteVar (codes "t")) (λ _. Give (page_of v))))) result (L.trace look.new) }
+{
+    match look_own(alloc, name, look) {
+        Answer::Seen(variable) => render_site(alloc, &variable, look),
+        Answer::Needs(item) => Rendered::Needs(item),
+        Answer::Memory => Rendered::Memory,
     }
-    match page_of(alloc, &variable) {
-        Ok(outcome) => Rendered::Out(outcome),
-        Err(_) => Rendered::Memory,
+}
+
+fn render_site<L: Look>(alloc: Global, variable: &Value, look: &mut L) -> Rendered
+    ensures same { L.view look.new ≡ L.view look.old }
+    ensures outcome { Renders (run (L.view look.old) (L.trace look.old) (Ask (SiteVar (codes "t")) (λ _. Give (page_of (plain variable.now))))) result (L.trace look.new) }
+{
+    match look_site(alloc, look) {
+        Answer::Seen(_) => match page_of(alloc, variable) {
+            Ok(outcome) => Rendered::Out(outcome),
+            Err(_) => Rendered::Memory,
+        },
+        Answer::Needs(item) => Rendered::Needs(item),
+        Answer::Memory => Rendered::Memory,
     }
 }
 
@@ -244,44 +247,73 @@ fn render_second<L: Look>(alloc: Global, name: &ItemName, look: &mut L) -> Rende
     ensures same { L.view look.new ≡ L.view look.old }
     ensures outcome { Renders (run (L.view look.old) (L.trace look.old) (sample_item name.now)) result (L.trace look.new) }
 {
-    let first = match first_key(alloc, name) {
-        Ok(key) => key,
-        Err(_) => return Rendered::Memory,
-    };
-    let own = match own_key(alloc, name) {
-        Ok(key) => key,
-        Err(_) => return Rendered::Memory,
-    };
-    match look.look(alloc, &first) {
-        Answer::Seen(_) => {}
-        Answer::Needs(item) => return Rendered::Needs(item),
-        Answer::Memory => return Rendered::Memory,
+    match look_content(alloc, name, look) {
+        Answer::Seen(_) => render_own(alloc, name, look),
+        Answer::Needs(item) => Rendered::Needs(item),
+        Answer::Memory => Rendered::Memory,
     }
-    let variable = match look.look(alloc, &own) {
-        Answer::Seen(value) => value,
-        Answer::Needs(item) => return Rendered::Needs(item),
-        Answer::Memory => return Rendered::Memory,
-    };
-    match page_of(alloc, &variable) {
-        Ok(outcome) => Rendered::Out(outcome),
-        Err(_) => Rendered::Memory,
+}
+
+fn render_own<L: Look>(alloc: Global, name: &ItemName, look: &mut L) -> Rendered
+    ensures same { L.view look.new ≡ L.view look.old }
+    ensures outcome { Renders (run (L.view look.old) (L.trace look.old) (Ask (Var name.now (codes "v")) (λ v. Give (page_of v)))) result (L.trace look.new) }
+{
+    match look_own(alloc, name, look) {
+        Answer::Seen(variable) => match page_of(alloc, &variable) {
+            Ok(outcome) => Rendered::Out(outcome),
+            Err(_) => Rendered::Memory,
+        },
+        Answer::Needs(item) => Rendered::Needs(item),
+        Answer::Memory => Rendered::Memory,
+    }
+}
+
+// The variable of the site, which has none.
+fn look_site<L: Look>(alloc: Global, look: &mut L) -> Answer
+    ensures same { L.view look.new ≡ L.view look.old }
+    ensures noted { IsNoted (L.view look.old (SiteVar (codes "t"))) (SiteVar (codes "t")) (L.trace look.old) result (L.trace look.new) }
+{
+    match site_key(alloc) {
+        Ok(key) => look.look(alloc, &key),
+        Err(_) => Answer::Memory,
+    }
+}
+
+fn look_own<L: Look>(alloc: Global, name: &ItemName, look: &mut L) -> Answer
+    ensures same { L.view look.new ≡ L.view look.old }
+    ensures noted { IsNoted (L.view look.old (Var name.now (codes "v"))) (Var name.now (codes "v")) (L.trace look.old) result (L.trace look.new) }
+{
+    match own_key(alloc, name) {
+        Ok(key) => look.look(alloc, &key),
+        Err(_) => Answer::Memory,
+    }
+}
+
+// The content of the first item.
+fn look_content<L: Look>(alloc: Global, name: &ItemName, look: &mut L) -> Answer
+    ensures same { L.view look.new ≡ L.view look.old }
+    ensures noted { IsNoted (L.view look.old (Content (record { path = name.now.path; part = 0 }))) (Content (record { path = name.now.path; part = 0 })) (L.trace look.old) result (L.trace look.new) }
+{
+    match first_key(alloc, name) {
+        Ok(key) => look.look(alloc, &key),
+        Err(_) => Answer::Memory,
     }
 }
 
 fn site_key(alloc: Global) -> Result<Key, Memory>
-    ensures { IfOk result (λ key. key ≡ Key.SiteVar (codes "t")) }
+    ensures { IfOk result (λ key. key ≡ SiteVar (codes "t")) }
 {
     Ok(Key::SiteVar(Text::copy(alloc, "t")?))
 }
 
 fn own_key(alloc: Global, name: &ItemName) -> Result<Key, Memory>
-    ensures { IfOk result (λ key. key ≡ Key.Var name.now (codes "v")) }
+    ensures { IfOk result (λ key. key ≡ Var name.now (codes "v")) }
 {
     Ok(Key::Var(name.copy(alloc)?, Text::copy(alloc, "v")?))
 }
 
 fn first_key(alloc: Global, name: &ItemName) -> Result<Key, Memory>
-    ensures { IfOk result (λ key. key ≡ Key.Content (record { path = name.now.path; part = 0 })) }
+    ensures { IfOk result (λ key. key ≡ Content (record { path = name.now.path; part = 0 })) }
 {
     Ok(Key::Content(ItemName {
         path: name.path.copy(alloc)?,
@@ -349,135 +381,174 @@ fn first_entry(alloc: Global) -> Result<Entry<SampleItems>, Memory> {
     entry_of(alloc, &world, 0, &First(None))
 }
 
-fn second_entry(alloc: Global, outs: &First) -> Result<Entry<SampleItems>, Memory> {
-    let world = make_sample(alloc, 1)?;
-    entry_of(alloc, &world, 1, outs)
-}
-
 fn first_done(alloc: Global) -> Result<First, Memory> {
     let entry = first_entry(alloc)?;
     let outcome = entry.outcome().copy(alloc)?;
     Ok(First(Some(outcome)))
 }
 
+fn second_entry(alloc: Global) -> Result<Entry<SampleItems>, Memory> {
+    let outs = first_done(alloc)?;
+    let world = make_sample(alloc, 1)?;
+    entry_of(alloc, &world, 1, &outs)
+}
+
 fn is_key_at(reads: &Record, place: u64, key: &Key) -> bool {
     place < reads.len() && *reads.key_at(place) == *key
 }
 
-fn reads_of_site(alloc: Global, reads: &Record) -> Result<bool, Memory> {
-    let key = site_key(alloc)?;
-    Ok(is_key_at(reads, 0, &key))
+fn reads_site_at(alloc: Global, reads: &Record, place: u64) -> bool {
+    match site_key(alloc) {
+        Ok(key) => is_key_at(reads, place, &key),
+        Err(_) => false,
+    }
 }
 
-fn reads_of_variable(alloc: Global, entry: &Entry<SampleItems>) -> Result<bool, Memory> {
-    let key = own_key(alloc, entry.name())?;
-    Ok(is_key_at(entry.reads(), 1, &key))
+fn reads_own_at(alloc: Global, entry: &Entry<SampleItems>, place: u64) -> bool {
+    match own_key(alloc, entry.name()) {
+        Ok(key) => is_key_at(entry.reads(), place, &key),
+        Err(_) => false,
+    }
 }
 
+// How many keys the first item's record has, whether the first is the site's variable, and whether the second is the item's own.
+fn first_reads(alloc: Global) -> Option<(u64, bool, bool)> {
+    match first_entry(alloc) {
+        Ok(entry) => Some((
+            entry.reads().len(),
+            reads_site_at(alloc, entry.reads(), 0),
+            reads_own_at(alloc, &entry, 1),
+        )),
+        Err(_) => None,
+    }
+}
+
+// Each key once, also the one that found nothing, in the order first read.
 #[test]
-fn records_each_key_once(rt: HostRuntime) -> Result<(), Fail> {
-    let entry = first_entry(rt.alloc())?;
-    assert_eq!(rt; entry.reads().len(), 2);
-    Ok(())
+fn records_each_key_once(rt: HostRuntime) {
+    assert!(rt; first_reads(rt.alloc()) == Some((2, true, true)));
 }
 
-#[test]
-fn records_what_found_nothing(rt: HostRuntime) -> Result<(), Fail> {
-    let entry = first_entry(rt.alloc())?;
-    assert_eq!(rt; reads_of_site(rt.alloc(), entry.reads()), Ok(true));
-    Ok(())
+fn needs_first(alloc: Global, world: &Sample, tally: &mut Tally) -> bool {
+    match render_traced(alloc, &SampleRenderer, world, 1, &First(None), tally) {
+        Traced::Needs(item) => item == 0,
+        Traced::Entry(_) => false,
+        Traced::Memory => false,
+    }
 }
 
-#[test]
-fn records_in_the_order_first_read(rt: HostRuntime) -> Result<(), Fail> {
-    let entry = first_entry(rt.alloc())?;
-    assert_eq!(rt; reads_of_variable(rt.alloc(), &entry), Ok(true));
-    Ok(())
-}
-
-fn waits(alloc: Global, tally: &mut Tally) -> Result<bool, Memory> {
-    let world = make_sample(alloc, 1)?;
-    let traced = render_traced(alloc, &SampleRenderer, &world, 1, &First(None), tally);
-    Ok(matches!(traced, Traced::Needs(0)))
+// Whether the second item waits for the first, and how many names are told then.
+fn waits(alloc: Global) -> Option<(bool, usize)> {
+    let mut tally = Tally::new(alloc);
+    match make_sample(alloc, 1) {
+        Ok(world) => {
+            let waits = needs_first(alloc, &world, &mut tally);
+            Some((waits, tally.rendered().len()))
+        }
+        Err(_) => None,
+    }
 }
 
 #[test]
 fn waits_for_the_first_item(rt: HostRuntime) {
-    let mut tally = Tally::new(rt.alloc());
-    assert_eq!(rt; waits(rt.alloc(), &mut tally), Ok(true));
-    assert_eq!(rt; tally.rendered().len(), 0);
+    assert!(rt; waits(rt.alloc()) == Some((true, 0)));
+}
+
+fn second_reads(alloc: Global) -> Option<u64> {
+    match second_entry(alloc) {
+        Ok(entry) => Some(entry.reads().len()),
+        Err(_) => None,
+    }
 }
 
 #[test]
-fn renders_the_second_item_behind_the_first(rt: HostRuntime) -> Result<(), Fail> {
-    let outs = first_done(rt.alloc())?;
-    let entry = second_entry(rt.alloc(), &outs)?;
-    assert_eq!(rt; entry.reads().len(), 2);
-    Ok(())
+fn renders_the_second_item_behind_the_first(rt: HostRuntime) {
+    assert!(rt; second_reads(rt.alloc()) == Some(2));
 }
 
-fn render_into(alloc: Global, tally: &mut Tally) -> Result<bool, Memory> {
+fn renders_first(alloc: Global, world: &Sample, tally: &mut Tally) -> bool {
+    match render_traced(alloc, &SampleRenderer, world, 0, &First(None), tally) {
+        Traced::Entry(_) => true,
+        Traced::Needs(_) => false,
+        Traced::Memory => false,
+    }
+}
+
+// What is told of a render of the first item.
+fn first_told(alloc: Global) -> Result<Tally, Memory> {
     let world = make_sample(alloc, 1)?;
-    let traced = render_traced(alloc, &SampleRenderer, &world, 0, &First(None), tally);
-    Ok(matches!(traced, Traced::Entry(_)))
+    let mut tally = Tally::new(alloc);
+    if renders_first(alloc, &world, &mut tally) {
+        Ok(tally)
+    } else {
+        Err(Memory)
+    }
 }
 
-fn parts(tally: &Tally) -> Option<(u32, u32)> {
-    match tally.rendered() {
+// The same behind the second item's name.
+fn both_told(alloc: Global) -> Result<Tally, Memory> {
+    let mut tally = Tally::new(alloc);
+    tally.add(alloc, &name(alloc, 1)?)?;
+    tally.join(first_told(alloc)?)?;
+    Ok(tally)
+}
+
+fn told_parts(alloc: Global) -> Option<(u32, u32)> {
+    match both_told(alloc) {
+        Ok(tally) => parts(tally.rendered()),
+        Err(_) => None,
+    }
+}
+
+fn parts(names: &[ItemName]) -> Option<(u32, u32)> {
+    match names {
         [first, second] => Some((first.part, second.part)),
         _ => None,
     }
 }
 
 #[test]
-fn tells_what_was_rendered(rt: HostRuntime) -> Result<(), Fail> {
-    let alloc = rt.alloc();
-    let mut tally = Tally::new(alloc);
-    tally.add(alloc, &name(alloc, 1)?)?;
-    let mut part = Tally::new(alloc);
-    assert_eq!(rt; render_into(alloc, &mut part), Ok(true));
-    tally.join(part)?;
-    assert_eq!(rt; parts(&tally), Some((1, 0)));
-    Ok(())
+fn tells_what_was_rendered(rt: HostRuntime) {
+    assert!(rt; told_parts(rt.alloc()) == Some((1, 0)));
 }
 
-// What a site says of a record whose first item has this variable.
-fn checked(
-    alloc: Global,
-    variable: i64,
-    reads: &Record,
-    item: u32,
-    outs: &First,
-) -> Result<Checked, Memory>
+// What a site says of a record whose first item has this variable, where nothing is done.
+fn checked(alloc: Global, variable: i64, reads: &Record, item: u32) -> Option<Checked>
     requires { item < 2 }
 {
-    let world = make_sample(alloc, variable)?;
-    Ok(check(reads, &world, item, outs))
+    match make_sample(alloc, variable) {
+        Ok(world) => Some(check(reads, &world, item, &First(None))),
+        Err(_) => None,
+    }
+}
+
+fn first_checked(alloc: Global, variable: i64) -> Option<Checked> {
+    match first_entry(alloc) {
+        Ok(entry) => checked(alloc, variable, entry.reads(), 0),
+        Err(_) => None,
+    }
+}
+
+fn second_checked(alloc: Global, variable: i64) -> Option<Checked> {
+    match second_entry(alloc) {
+        Ok(entry) => checked(alloc, variable, entry.reads(), 1),
+        Err(_) => None,
+    }
 }
 
 #[test]
-fn agrees_where_nothing_changed(rt: HostRuntime) -> Result<(), Fail> {
-    let entry = first_entry(rt.alloc())?;
-    let found = checked(rt.alloc(), 1, entry.reads(), 0, &First(None));
-    assert_eq!(rt; found, Ok(Checked::Agrees));
-    Ok(())
+fn agrees_where_nothing_changed(rt: HostRuntime) {
+    assert!(rt; first_checked(rt.alloc(), 1) == Some(Checked::Agrees));
 }
 
 #[test]
-fn differs_at_the_place_of_the_key(rt: HostRuntime) -> Result<(), Fail> {
-    let entry = first_entry(rt.alloc())?;
-    let found = checked(rt.alloc(), 5, entry.reads(), 0, &First(None));
-    assert_eq!(rt; found, Ok(Checked::Differs(1)));
-    Ok(())
+fn differs_at_the_place_of_the_key(rt: HostRuntime) {
+    assert!(rt; first_checked(rt.alloc(), 5) == Some(Checked::Differs(1)));
 }
 
 #[test]
-fn needs_the_first_item_again(rt: HostRuntime) -> Result<(), Fail> {
-    let outs = first_done(rt.alloc())?;
-    let entry = second_entry(rt.alloc(), &outs)?;
-    let found = checked(rt.alloc(), 5, entry.reads(), 1, &First(None));
-    assert_eq!(rt; found, Ok(Checked::Needs(0)));
-    Ok(())
+fn needs_the_first_item_again(rt: HostRuntime) {
+    assert!(rt; second_checked(rt.alloc(), 5) == Some(Checked::Needs(0)));
 }
 
 fn output_len(outcome: &Outcome) -> usize {
@@ -487,22 +558,40 @@ fn output_len(outcome: &Outcome) -> usize {
     }
 }
 
-#[test]
-fn copies_an_entry(rt: HostRuntime) -> Result<(), Fail> {
-    let entry = first_entry(rt.alloc())?;
-    let copy = entry.copy(rt.alloc())?;
-    assert_eq!(rt; copy.name().part, 0);
-    assert_eq!(rt; copy.reads().len(), 2);
-    assert_eq!(rt; output_len(copy.outcome()), 1);
-    Ok(())
+fn first_copy(alloc: Global) -> Result<Entry<SampleItems>, Memory> {
+    let entry = first_entry(alloc)?;
+    entry.copy(alloc)
+}
+
+// Of a copy the part, how many keys it read, and how long its output is.
+fn copied(alloc: Global) -> Option<(u32, u64, usize)> {
+    match first_copy(alloc) {
+        Ok(copy) => Some((
+            copy.name().part,
+            copy.reads().len(),
+            output_len(copy.outcome()),
+        )),
+        Err(_) => None,
+    }
 }
 
 #[test]
-fn passes_between_threads(rt: HostRuntime) -> Result<(), Fail> {
-    let entry = first_entry(rt.alloc())?;
-    is_shared(entry.outcome());
-    is_sent(&Tally::new(rt.alloc()));
-    Ok(())
+fn copies_an_entry(rt: HostRuntime) {
+    assert!(rt; copied(rt.alloc()) == Some((0, 2, 1)));
+}
+
+fn pass(outcome: &Outcome, tally: &Tally) {
+    is_shared(outcome);
+    is_sent(tally);
+}
+
+#[test]
+fn passes_between_threads(rt: HostRuntime) {
+    let outcome = Outcome::Done {
+        content: Text::new(rt.alloc()),
+        output: Text::new(rt.alloc()),
+    };
+    pass(&outcome, &Tally::new(rt.alloc()));
 }
 
 fn is_shared<T: Send + Sync>(_value: &T) {}

@@ -22,24 +22,23 @@ use page_render::PageMeaning;
 use read_record::{Renderer, Tally};
 use site_base::{ByteSink, ByteSource, Words};
 use site_script::{Line, ScriptReader, next_line};
-use site_session::{ByWorkers, Reply, Rounds, Session};
+use site_session::{InOrder, Reply, Rounds, Session};
 use site_words::{Options, Order, WordsError};
 use source_tree::SourceTree;
 use std::alloc::Global;
 use std::sync::Wait;
-use std::thread::Threads;
 
 /// The commands `session`, which does the lines of the script on the input, and `build`, which is the script `scan`,
 /// `build` and leaves the build out where the scan answers no number.
 ///
 /// It waits for its input, which may have no end.
 pub fn run_jobs<
-    H: Threads + Wait + Sync,
+    H: Wait,
     S: SourceTree,
     O: OutTree,
     I: ByteSource,
     K: ByteSink,
-    R: Renderer<Meaning = PageMeaning> + Sync,
+    R: Renderer<Meaning = PageMeaning>,
 >(
     rt: &H,
     alloc: Global,
@@ -90,14 +89,13 @@ pub fn run_jobs<
     ensures input_fault { result ≡ Status.InputFault → Rose (I.failures input.old) (I.failures input.new) }
     ensures sink_fault { result ≡ Status.SinkFault → Rose (K.failures sink.old) (K.failures sink.new) }
 {
+    let rounds = InOrder::new(renderer);
     match read_order(alloc, words, TopCall::Jobs, moment) {
         Ok(order) => match order {
             Order::Build(options) => {
-                let rounds = ByWorkers::new(rt, renderer, options.jobs);
                 scan_and_build(alloc, options, moment, source, out, sink, &rounds, tally)
             }
             Order::Session(options) => {
-                let rounds = ByWorkers::new(rt, renderer, options.jobs);
                 run_session(
                     rt, alloc, options, moment, source, out, input, sink, &rounds, tally,
                 )

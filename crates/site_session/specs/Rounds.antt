@@ -1,12 +1,9 @@
--- What a round over the items of a site leaves, one after another or by many workers: the two differ in nothing but the tally.
+-- What a round over the items of a site leaves. How it goes makes a difference to the tally alone.
 use Rattle.std.specs.Prelude.{◌≡◌, ℕ, suc, ◌+◌, List, [], ◌++◌, length, drop, Result, Ok, Err}
-use Rattle.std.proofs.Common.{subst, sym, arith}
-use Rattle.std.proofs.lemmas.List.{append-nil}
 use Rattle.memo_table.specs.Entries.{Entries, of_names}
 use Rattle.read_record.specs.Queries.{Gave, Failed}
 use Rattle.render_workers.specs.Folds.{fold_of}
 use Rattle.render_workers.specs.Rounds.{entries_below}
-use Rattle.render_workers.specs.Tallies.{HasBetween}
 use Rattle.render_workers.specs.Whys.{whys_below, why_names}
 use Rattle.render_workers.specs.declared.answers.Round.{Round}
 use Rattle.render_workers.specs.declared.answers.RoundError.{RoundError}
@@ -22,10 +19,6 @@ Adds = List ItemName → List ItemName → List ItemName → List ItemName → T
 -- one after another: the names that are due, in render order
 abbrev pub in_order : Adds
 in_order due later before after = after ≡ before ++ due
-
--- by workers: the names that are due, each as often as it is due, and besides at most the later ones, in any order
-abbrev pub in_any_order : Adds
-in_any_order due later before after = HasBetween (before ++ due) later after
 
 -- the fold gives these outcomes; the stale items are told with their reasons, and the others counted; each item has its certified
 -- entry, and no other name is kept
@@ -47,9 +40,3 @@ abbrev pub IsGone : Adds → Given → ℕ → Result Round RoundError → Entri
 IsGone adds g fixed (Ok round) kept before after = Whole adds g fixed round kept before after
 IsGone adds g fixed (Err (error.Fault f)) kept before after = Stopped adds g fixed f kept before after
 IsGone adds g fixed (Err error.Memory) kept before after = Unit {0}
-
--- ---- laws
-
--- where nothing is due, nothing joins
-pub nothing_between : (names : List ItemName) → in_any_order [] [] names names
-nothing_between names = subst (λ (sure : List ItemName). HasBetween sure [] names) (sym (append-nil names)) (λ name. (omega arith, omega arith))

@@ -13,13 +13,13 @@ ghost use Rattle.site_session.specs.declared.build.Report.{Report};
 ghost use Rattle.site_session.specs.declared.output.Written.{Written};
 ghost use Rattle.site_session.specs.Rebuilds.{LineTallied, Rebuilds, Tallied};
 ghost use Rattle.site_session.specs.Replies.{scan_reply, built_reply, Called, FailedAt, Leaves, LeavesBy, IsQuiet, has_called_output};
-ghost use Rattle.site_session.specs.Rounds.{in_any_order, in_order};
+ghost use Rattle.site_session.specs.Rounds.{in_order};
 ghost use Rattle.site_script.specs.declared.line.Line.TheVariants as line;
 
 use crate::build::{Rebuilt, make};
 use crate::output::{built_output, first_fault};
 use crate::reply::Reply;
-use crate::rounds::{ByWorkers, InOrder, Rounds};
+use crate::rounds::{InOrder, Rounds};
 use memo_table::Memo;
 use out_tree::{OutKeeper, OutTree};
 use page_render::PageMeaning;
@@ -30,8 +30,6 @@ use site_script::{Line, ScriptKind};
 use source_tree::{Held, PutError, ScanError, SourceTree};
 use std::alloc::Global;
 use std::marker::Model;
-use std::sync::Wait;
-use std::thread::Threads;
 
 /// The files that are held, the moment, the renders that are kept, and what is believed of the output.
 #[derive(Drop)]
@@ -147,24 +145,6 @@ impl Session {
         ensures { Rebuilds in_order O.contents O.calls O.failures self.old self.new result out.old out.new tally.old tally.new }
     {
         self.rebuild_by(alloc, out, &InOrder::new(renderer), tally)
-    }
-
-    /// The same by so many workers, each on a thread of its own. Names join the tally in any order; where an item has the first
-    /// fault, names of items behind it may join too, each once at most. It waits for the workers.
-    pub fn rebuild<H: Threads + Wait + Sync, O: OutTree, R: Renderer<Meaning = PageMeaning> + Sync>(
-        &mut self,
-        rt: &H,
-        alloc: Global,
-        jobs: u32,
-        out: &mut O,
-        renderer: &R,
-        tally: &mut Tally,
-    ) -> Result<Rebuilt, Memory>
-        requires least { 1 ≤ jobs }
-        requires most { jobs ≤ 64 }
-        ensures { Rebuilds in_any_order O.contents O.calls O.failures self.old self.new result out.old out.new tally.old tally.new }
-    {
-        self.rebuild_by(alloc, out, &ByWorkers::new(rt, renderer, jobs), tally)
     }
 
     // The same, however the items are gone over.

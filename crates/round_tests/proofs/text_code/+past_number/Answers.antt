@@ -4,7 +4,7 @@ use Rattle.site_base.specs.Code.{past}
 use Rattle.site_base.specs.Decimal.{decimal}
 use Rattle.site_base.proofs.DecimalLaws.{decimal_large}
 use Rattle.site_base.proofs.PastLaws.{past_past}
-use Rattle.record_tests.proofs.text_code.+past_number.Goals as goal
+use Rattle.round_tests.proofs.text_code.+past_number.Goals as goal
 
 pub returns : goal.returns
 returns t c =

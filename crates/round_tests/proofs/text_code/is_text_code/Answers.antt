@@ -1,5 +1,5 @@
 use Rattle.site_base.proofs.PastLaws.{is_whole, is_other}
-use Rattle.record_tests.proofs.text_code.is_text_code.Goals as goal
+use Rattle.round_tests.proofs.text_code.is_text_code.Goals as goal
 
 pub returns-in-Some : goal.returns-in-Some
 returns-in-Some c = is_whole _ _ _ _ c.in-Some.ensures c.is_empty.ensures

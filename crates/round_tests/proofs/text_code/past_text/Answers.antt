@@ -3,7 +3,7 @@ use Rattle.std.specs.Option.{option_copied}
 use Rattle.site_base.specs.Code.{past}
 use Rattle.site_base.specs.Decimal.{decimal}
 use Rattle.site_base.proofs.PastLaws.{past_past, past_parts}
-use Rattle.record_tests.proofs.text_code.past_text.Goals as goal
+use Rattle.round_tests.proofs.text_code.past_text.Goals as goal
 
 pub returns : goal.returns
 returns c =

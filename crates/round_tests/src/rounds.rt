@@ -5,7 +5,8 @@ ghost use Rattle.site_base.specs.Plain.{text};
 ghost use Rattle.read_record.specs.Queries.{View, Trace, Gave, Known, run, ran};
 ghost use Rattle.read_record.specs.Records.{agreement_of};
 ghost use Rattle.read_record.specs.Outcomes.{met_of};
-ghost use Rattle.read_record.specs.Answers.{IsReply, Renders};
+ghost use Rattle.read_record.specs.Answers.{IsNoted, IsReply, Renders};
+ghost use Rattle.read_record.specs.declared.key.Key.TheVariants.{Content, Var};
 ghost use Rattle.read_record.specs.Forms.{is_words};
 ghost use Rattle.round_core.specs.Samples.{content_reply, page_of, variable_page, sample_item};
 
@@ -22,19 +23,25 @@ use site_base::{
 };
 use std::alloc::Global;
 
-/// Three items, which are the parts 0, 1 and 2 of one path. Item 1 shows its variable. The others show the content of item 1: its
-/// source where they stand before it, and what was made of it where they stand behind it.
+/// The names of three items, which are the parts 0, 1 and 2 of one path.
 #[derive(Drop)]
-pub(crate) struct Three {
+struct Names {
     first: ItemName,
     second: ItemName,
     third: ItemName,
-    source: Value,
-    variable: Value,
-    copied: u64,
     ghost first_part: { first.part ≡ 0 },
     ghost second_part: { second.part ≡ 1 },
     ghost third_part: { third.part ≡ 2 },
+}
+
+/// Three items. Item 1 shows its variable. The others show the content of item 1: its source where they stand before it, and
+/// what was made of it where they stand behind it.
+#[derive(Drop)]
+pub(crate) struct Three {
+    names: Names,
+    source: Value,
+    variable: Value,
+    copied: u64,
     ghost source_words: { IsTrue (is_words (plain source)) },
 }
 
@@ -43,13 +50,13 @@ impl World for Three {
     ghost use Rattle.site_base.specs.View.{plain};
     ghost use Rattle.round_core.specs.Samples.{sample_sight, sample-lawful, sample-formed, sample-names_differ};
 
-    ghost names = { λ w. w.first ∷ w.second ∷ w.third ∷ [] };
+    ghost names = { λ w. w.names.first ∷ w.names.second ∷ w.names.third ∷ [] };
 
     ghost fixed = { λ w. w.copied };
 
     ghost sight = { λ w. sample_sight (plain w.source) (plain w.variable) };
 
-    ghost names_differ = { λ w. sample-names_differ w.first w.second w.third w.first_part w.second_part w.third_part };
+    ghost names_differ = { λ w. sample-names_differ w.names.first w.names.second w.names.third w.names.first_part w.names.second_part w.names.third_part };
 
     ghost lawful = { λ w. sample-lawful (plain w.source) (plain w.variable) };
 
@@ -61,11 +68,11 @@ impl World for Three {
 
     fn name(&self, item: u32) -> &ItemName {
         if item == 0 {
-            &self.first
+            &self.names.first
         } else if item == 1 {
-            &self.second
+            &self.names.second
         } else {
-            &self.third
+            &self.names.third
         }
     }
 
@@ -213,11 +220,7 @@ fn render_variable<L: Look>(alloc: Global, name: &ItemName, look: &mut L) -> Ren
     ensures same { L.view look.new ≡ L.view look.old }
     ensures outcome { Renders (run (L.view look.old) (L.trace look.old) (sample_item name.now)) result (L.trace look.new) }
 {
-    let key = match own_key(alloc, name) {
-        Ok(key) => key,
-        Err(_) => return Rendered::Memory,
-    };
-    match look.look(alloc, &key) {
+    match look_own(alloc, name, look) {
         Answer::Seen(value) => match variable_page(alloc, name, &value) {
             Ok(outcome) => Rendered::Out(outcome),
             Err(_) => Rendered::Memory,
@@ -232,17 +235,34 @@ fn render_content<L: Look>(alloc: Global, name: &ItemName, look: &mut L) -> Rend
     ensures same { L.view look.new ≡ L.view look.old }
     ensures outcome { Renders (run (L.view look.old) (L.trace look.old) (sample_item name.now)) result (L.trace look.new) }
 {
-    let key = match content_key(alloc, name) {
-        Ok(key) => key,
-        Err(_) => return Rendered::Memory,
-    };
-    match look.look(alloc, &key) {
+    match look_content(alloc, name, look) {
         Answer::Seen(value) => match page_of(alloc, &value) {
             Ok(outcome) => Rendered::Out(outcome),
             Err(_) => Rendered::Memory,
         },
         Answer::Needs(item) => Rendered::Needs(item),
         Answer::Memory => Rendered::Memory,
+    }
+}
+
+fn look_own<L: Look>(alloc: Global, name: &ItemName, look: &mut L) -> Answer
+    ensures same { L.view look.new ≡ L.view look.old }
+    ensures noted { IsNoted (L.view look.old (Var name.now (codes "v"))) (Var name.now (codes "v")) (L.trace look.old) result (L.trace look.new) }
+{
+    match own_key(alloc, name) {
+        Ok(key) => look.look(alloc, &key),
+        Err(_) => Answer::Memory,
+    }
+}
+
+// The content of the second item.
+fn look_content<L: Look>(alloc: Global, name: &ItemName, look: &mut L) -> Answer
+    ensures same { L.view look.new ≡ L.view look.old }
+    ensures noted { IsNoted (L.view look.old (Content (record { path = name.now.path; part = 1 }))) (Content (record { path = name.now.path; part = 1 })) (L.trace look.old) result (L.trace look.new) }
+{
+    match content_key(alloc, name) {
+        Ok(key) => look.look(alloc, &key),
+        Err(_) => Answer::Memory,
     }
 }
 
@@ -261,13 +281,13 @@ fn variable_page(alloc: Global, name: &ItemName, variable: &Value) -> Result<Out
 }
 
 fn own_key(alloc: Global, name: &ItemName) -> Result<Key, Memory>
-    ensures { IfOk result (λ key. key ≡ Key.Var name.now (codes "v")) }
+    ensures { IfOk result (λ key. key ≡ Var name.now (codes "v")) }
 {
     Ok(Key::Var(name.copy(alloc)?, Text::copy(alloc, "v")?))
 }
 
 fn content_key(alloc: Global, name: &ItemName) -> Result<Key, Memory>
-    ensures { IfOk result (λ key. key ≡ Key.Content (record { path = name.now.path; part = 1 })) }
+    ensures { IfOk result (λ key. key ≡ Content (record { path = name.now.path; part = 1 })) }
 {
     Ok(Key::Content(ItemName {
         path: name.path.copy(alloc)?,
@@ -284,9 +304,24 @@ fn page_of(alloc: Global, value: &Value) -> Result<Outcome, Memory>
     })
 }
 
-const SOURCE: &str = "*x*";
+/// The variable of a second item.
+#[derive(Clone, Copy)]
+pub(crate) enum Variable<'a> {
+    Nil,
+    One,
+    Text(&'a str),
+}
 
-const MADE: &str = "<p><em>x</em></p>\n";
+/// Three items at a path, and what their world is made of.
+#[derive(Clone, Copy)]
+pub(crate) struct Site<'a> {
+    pub path: &'a str,
+    /// The source of the second item.
+    pub source: Option<&'a str>,
+    pub variable: Variable<'a>,
+    /// How many bytes are copied beside the items.
+    pub copied: u64,
+}
 
 fn name(alloc: Global, path: &str, part: u32) -> Result<ItemName, Memory>
     ensures part { IfOk result (λ name. name.part ≡ part) }
@@ -298,37 +333,65 @@ fn name(alloc: Global, path: &str, part: u32) -> Result<ItemName, Memory>
     }
 }
 
-// A site whose second item has this source and this variable.
-fn make_three(alloc: Global, source: &str, variable: &str) -> Result<Three, Memory>
-    ensures { IfOk result (λ three. three.second ≡ record { path = codes "a.html"; part = 1 }) }
-{
-    let source = Value::Text(Text::copy(alloc, source)?);
-    let variable = Value::Text(Text::copy(alloc, variable)?);
-    three_at(alloc, "a.html", source, variable, 0)
-}
-
-/// The same at a path, by values, beside which so many bytes are copied.
-pub(crate) fn three_at(
-    alloc: Global,
-    path: &str,
-    source: Value,
-    variable: Value,
-    copied: u64,
-) -> Result<Three, Memory>
-    requires { IsTrue (is_words (plain source)) }
-    ensures { IfOk result (λ three. three.second ≡ record { path = path.now; part = 1 }) }
+fn make_names(alloc: Global, path: &str) -> Result<Names, Memory>
+    ensures { IfOk result (λ names. names.second ≡ record { path = path.now; part = 1 }) }
 {
     let first = name(alloc, path, 0)?;
     let second = name(alloc, path, 1)?;
     let third = name(alloc, path, 2)?;
-    Ok(Three {
+    Ok(Names {
         first,
         second,
         third,
+    })
+}
+
+fn source_of(alloc: Global, source: Option<&str>) -> Result<Value, Memory>
+    ensures { IfOk result (λ value. IsTrue (is_words (plain value))) }
+{
+    match source {
+        Some(source) => Ok(Value::Text(Text::copy(alloc, source)?)),
+        None => Ok(Value::Nil),
+    }
+}
+
+fn variable_of(alloc: Global, variable: &Variable<'_>) -> Result<Value, Memory> {
+    match variable {
+        Variable::Nil => Ok(Value::Nil),
+        Variable::One => Ok(Value::Int(1)),
+        Variable::Text(text) => Ok(Value::Text(Text::copy(alloc, text)?)),
+    }
+}
+
+pub(crate) fn three_of(alloc: Global, site: &Site<'_>) -> Result<Three, Memory>
+    ensures { IfOk result (λ three. three.names.second ≡ record { path = site.now.path.now; part = 1 }) }
+{
+    let names = make_names(alloc, site.path)?;
+    let source = source_of(alloc, site.source)?;
+    let variable = variable_of(alloc, &site.variable)?;
+    Ok(Three {
+        names,
         source,
         variable,
-        copied,
+        copied: site.copied,
     })
+}
+
+const SOURCE: &str = "*x*";
+
+const MADE: &str = "<p><em>x</em></p>\n";
+
+// The three items where this was made of the second one's source.
+fn make_three(alloc: Global, made: &str) -> Result<Three, Memory>
+    ensures { IfOk result (λ three. three.names.second ≡ record { path = codes "a.html"; part = 1 }) }
+{
+    let site = Site {
+        path: "a.html",
+        source: Some(SOURCE),
+        variable: Variable::Text(made),
+        copied: 0,
+    };
+    three_of(alloc, &site)
 }
 
 type ThreeMemo = Memo<ThreeItems>;
@@ -352,7 +415,7 @@ fn is_new(made: &Made<ThreeItems>, want: &str) -> bool {
 
 fn is_output(outcome: &Outcome, want: &str) -> bool {
     match outcome {
-        Outcome::Done { content: _, output } => output.as_bytes() == want.as_bytes(),
+        Outcome::Done { content: _, output } => output.as_str() == want,
         Outcome::Fault(_) => false,
     }
 }
@@ -367,20 +430,50 @@ fn is_kept(core: &Core<ThreeItems>, item: u32) -> bool {
     false
 }
 
-// How many items are claimed, how many cells are set, and how many workers know an item.
-fn counts(core: &Core<ThreeItems>) -> (usize, usize, usize) {
-    (core.claims().len(), core.cells().len(), core.known().len())
+/// What a list of events leaves.
+#[derive(Clone, Copy)]
+enum Left {
+    /// The event at this place is the first that is not allowed.
+    Refused(u64),
+    /// So many items are claimed, so many cells are set, and so many workers know an item.
+    Counts(usize, usize, usize),
+    /// The first and the last cell hold new entries with these outputs.
+    Outputs(&'static str, &'static str),
+    /// The second cell holds what was kept.
+    Kept,
+    /// The second cell holds something else.
+    NotKept,
 }
 
-// What two workers leave with nothing kept: the counts.
-fn left(alloc: Global, events: &[Event]) -> Result<(usize, usize, usize), CoreError> {
-    let Ok(world) = make_three(alloc, SOURCE, MADE) else {
-        return Err(CoreError::Memory);
+fn is_left(core: &Core<ThreeItems>, want: &Left) -> bool {
+    match want {
+        Left::Refused(_) => false,
+        Left::Counts(claims, cells, known) => {
+            core.claims().len() == *claims
+                && core.cells().len() == *cells
+                && core.known().len() == *known
+        }
+        Left::Outputs(first, last) => is_made(core, 0, first) && is_made(core, 2, last),
+        Left::Kept => is_kept(core, 1),
+        Left::NotKept => !is_kept(core, 1),
+    }
+}
+
+fn is_refused(error: CoreError, want: &Left) -> bool {
+    match want {
+        Left::Refused(place) => error == CoreError::Refused(*place),
+        _ => false,
+    }
+}
+
+// Whether this is what the events of so many workers leave over what is kept.
+fn leaves(alloc: Global, memo: &ThreeMemo, workers: u32, events: &[Event], want: &Left) -> bool {
+    let Ok(world) = make_three(alloc, MADE) else {
+        return false;
     };
-    let memo = Memo::new(alloc);
-    match run(alloc, &ThreeRenderer, &world, &memo, 2, events) {
-        Ok(core) => Ok(counts(&core)),
-        Err(error) => Err(error),
+    match run(alloc, &ThreeRenderer, &world, memo, workers, events) {
+        Ok(core) => is_left(&core, want),
+        Err(error) => is_refused(error, want),
     }
 }
 
@@ -403,38 +496,61 @@ const WITHOUT_TAKE: &[Event] = &[
     Event::Finish(0, 2),
 ];
 
-// Whether the first and the last cell hold these outputs, once all three items are rendered.
-fn shows(alloc: Global, first: &str, last: &str) -> Result<bool, CoreError> {
-    let Ok(world) = make_three(alloc, SOURCE, MADE) else {
-        return Err(CoreError::Memory);
-    };
-    let memo = Memo::new(alloc);
-    match run(alloc, &ThreeRenderer, &world, &memo, 2, WITH_TAKE) {
-        Ok(core) => Ok(is_made(&core, 0, first) && is_made(&core, 2, last)),
-        Err(error) => Err(error),
+// Whether this is what the events of two workers leave where nothing is kept.
+fn two_leave(alloc: Global, events: &[Event], want: &Left) -> bool {
+    leaves(alloc, &Memo::new(alloc), 2, events, want)
+}
+
+const LEFT: &[(&str, &[Event], Left)] = &[
+    ("no events", &[], Left::Counts(0, 0, 0)),
+    ("three items, one taken", WITH_TAKE, Left::Counts(3, 3, 1)),
+    (
+        "the source before the second item, what is made of it behind",
+        WITH_TAKE,
+        Left::Outputs(SOURCE, MADE),
+    ),
+    (
+        "an item that was needed and not taken",
+        WITHOUT_TAKE,
+        Left::Refused(5),
+    ),
+];
+
+#[test]
+fn leaves_what_was_made(rt: HostRuntime) {
+    for (what, events, want) in LEFT {
+        assert!(rt; two_leave(rt.alloc(), events, want), "at {what}");
     }
 }
 
-#[test]
-fn shows_the_source_before_and_what_is_made_behind(rt: HostRuntime) {
-    assert_eq!(rt; shows(rt.alloc(), SOURCE, MADE), Ok(true));
-}
-
-#[test]
-fn needs_what_was_not_taken(rt: HostRuntime) {
-    assert_eq!(rt; left(rt.alloc(), WITHOUT_TAKE), Err(CoreError::Refused(5)));
-}
-
-// Events, and the place of the first that is refused.
-const REFUSED: &[(&[Event], u64)] = &[
-    // Claims: an item that is claimed, a worker and an item that are not there.
-    (&[Event::Claim(0, 0), Event::Claim(0, 0)], 1),
-    (&[Event::Claim(0, 0), Event::Claim(1, 0)], 1),
-    (&[Event::Claim(2, 0)], 0),
-    (&[Event::Claim(1, 2), Event::Claim(1, 3)], 1),
-    // Takes: an empty cell, an item that is known, one that waits for another.
-    (&[Event::Claim(0, 1), Event::Take(0, 1)], 1),
+const REFUSED: &[(&str, &[Event], u64)] = &[
     (
+        "a claim of an item that is claimed",
+        &[Event::Claim(0, 0), Event::Claim(0, 0)],
+        1,
+    ),
+    (
+        "a claim of what another claimed",
+        &[Event::Claim(0, 0), Event::Claim(1, 0)],
+        1,
+    ),
+    (
+        "a claim by a worker that is not there",
+        &[Event::Claim(2, 0)],
+        0,
+    ),
+    (
+        "a claim of an item that is not there",
+        &[Event::Claim(1, 2), Event::Claim(1, 3)],
+        1,
+    ),
+    (
+        "a take of an empty cell",
+        &[Event::Claim(0, 1), Event::Take(0, 1)],
+        1,
+    ),
+    (
+        "a take of an item that is known",
         &[
             Event::Claim(0, 1),
             Event::Finish(0, 1),
@@ -444,6 +560,7 @@ const REFUSED: &[(&[Event], u64)] = &[
         3,
     ),
     (
+        "a take of an item that waits for another",
         &[
             Event::Claim(0, 1),
             Event::Finish(0, 1),
@@ -455,15 +572,23 @@ const REFUSED: &[(&[Event], u64)] = &[
         5,
     ),
     (
+        "a take by a worker that is not there",
         &[Event::Claim(0, 1), Event::Finish(0, 1), Event::Take(2, 1)],
         2,
     ),
-    // Keeps: nothing is kept.
-    (&[Event::Claim(0, 1), Event::Keep(0, 1)], 1),
-    // Finishes: an item that another claimed, one that nobody claimed, a cell that is set.
-    (&[Event::Claim(0, 1), Event::Finish(1, 1)], 1),
-    (&[Event::Finish(1, 1)], 0),
     (
+        "a keep where nothing is kept",
+        &[Event::Claim(0, 1), Event::Keep(0, 1)],
+        1,
+    ),
+    (
+        "a finish of what another claimed",
+        &[Event::Claim(0, 1), Event::Finish(1, 1)],
+        1,
+    ),
+    ("a finish of what nobody claimed", &[Event::Finish(1, 1)], 0),
+    (
+        "a finish of a cell that is set",
         &[Event::Claim(0, 1), Event::Finish(0, 1), Event::Finish(0, 1)],
         2,
     ),
@@ -471,53 +596,59 @@ const REFUSED: &[(&[Event], u64)] = &[
 
 #[test]
 fn refuses_at_the_first_event_that_is_not_allowed(rt: HostRuntime) {
-    for (events, place) in REFUSED {
-        assert_eq!(rt; left(rt.alloc(), events), Err(CoreError::Refused(*place)));
+    for (what, events, place) in REFUSED {
+        assert!(rt;
+            two_leave(rt.alloc(), events, &Left::Refused(*place)),
+            "at {what}"
+        );
     }
 }
 
-#[test]
-fn leaves_nothing_without_events(rt: HostRuntime) {
-    assert_eq!(rt; left(rt.alloc(), &[]), Ok((0, 0, 0)));
+/// Of no item it is known what it came to.
+struct Nothing;
+
+impl Finished for Nothing {
+    ghost use Rattle.std.specs.Prelude.{None};
+
+    ghost outcomes = { λ _ _. None };
+
+    fn done(&self, _item: u32) -> Option<&Outcome> {
+        None
+    }
 }
 
-#[test]
-fn counts_what_is_left(rt: HostRuntime) {
-    assert_eq!(rt; left(rt.alloc(), WITH_TAKE), Ok((3, 3, 1)));
-}
-
-// The entry of the second item.
-fn second_entry(alloc: Global, source: &str, made: &str) -> Result<Entry<ThreeItems>, Memory>
-    ensures { IfOk result (λ entry. entry.name ≡ record { path = codes "a.html"; part = 1 }) }
+fn render_in(alloc: Global, world: &Three) -> Result<Entry<ThreeItems>, Memory>
+    ensures { IfOk result (λ entry. entry.name ≡ world.now.names.second) }
 {
-    let world = make_three(alloc, source, made)?;
-    let hand: Hand<'static, ThreeItems> = Hand::new(alloc, &world)?;
     let mut tally = Tally::new(alloc);
-    match render_traced(alloc, &ThreeRenderer, &world, 1, &hand, &mut tally) {
+    match render_traced(alloc, &ThreeRenderer, world, 1, &Nothing, &mut tally) {
         Traced::Entry(entry) => Ok(entry),
         Traced::Needs(_) => Err(Memory),
         Traced::Memory => Err(Memory),
     }
 }
 
-fn kept_second(alloc: Global, source: &str, made: &str) -> Result<ThreeMemo, Memory> {
+// The entry of the second item, where this was made of it.
+fn second_entry(alloc: Global, made: &str) -> Result<Entry<ThreeItems>, Memory>
+    ensures { IfOk result (λ entry. entry.name ≡ record { path = codes "a.html"; part = 1 }) }
+{
+    match make_three(alloc, made) {
+        Ok(world) => render_in(alloc, &world),
+        Err(_) => Err(Memory),
+    }
+}
+
+fn kept_second(alloc: Global, made: &str) -> Result<ThreeMemo, Memory> {
     let mut memo = Memo::new(alloc);
-    memo.merge(alloc, second_entry(alloc, source, made)?)?;
+    memo.merge(alloc, second_entry(alloc, made)?)?;
     Ok(memo)
 }
 
-// What one worker makes of the second item, where the entry of a site of which this was made is kept: whether its cell holds
-// what was kept.
-fn kept(alloc: Global, made: &str, events: &[Event]) -> Result<bool, CoreError> {
-    let (Ok(world), Ok(memo)) = (
-        make_three(alloc, SOURCE, MADE),
-        kept_second(alloc, SOURCE, made),
-    ) else {
-        return Err(CoreError::Memory);
-    };
-    match run(alloc, &ThreeRenderer, &world, &memo, 1, events) {
-        Ok(core) => Ok(is_kept(&core, 1)),
-        Err(error) => Err(error),
+// Whether this is what the events of one worker leave where the second item's entry is kept, as it is where this was made of it.
+fn one_leaves(alloc: Global, made: &str, events: &[Event], want: &Left) -> bool {
+    match kept_second(alloc, made) {
+        Ok(memo) => leaves(alloc, &memo, 1, events, want),
+        Err(_) => false,
     }
 }
 
@@ -525,31 +656,45 @@ const KEEPS: &[Event] = &[Event::Claim(0, 1), Event::Keep(0, 1)];
 
 const FINISHES: &[Event] = &[Event::Claim(0, 1), Event::Finish(0, 1)];
 
-#[test]
-fn keeps_what_agrees(rt: HostRuntime) {
-    assert_eq!(rt; kept(rt.alloc(), MADE, KEEPS), Ok(true));
-    assert_eq!(rt;
-        kept(rt.alloc(), MADE, FINISHES),
-        Err(CoreError::Refused(1))
-    );
-}
+const OVER_KEPT: &[(&str, &str, &[Event], Left)] = &[
+    ("a keep of what agrees", MADE, KEEPS, Left::Kept),
+    ("a render of what agrees", MADE, FINISHES, Left::Refused(1)),
+    ("a keep of what differs", "y", KEEPS, Left::Refused(1)),
+    ("a render of what differs", "y", FINISHES, Left::NotKept),
+];
 
 #[test]
-fn renders_what_differs(rt: HostRuntime) {
-    assert_eq!(rt; kept(rt.alloc(), "y", KEEPS), Err(CoreError::Refused(1)));
-    assert_eq!(rt; kept(rt.alloc(), "y", FINISHES), Ok(false));
+fn keeps_what_agrees_and_renders_what_differs(rt: HostRuntime) {
+    for (what, made, events, want) in OVER_KEPT {
+        assert!(rt; one_leaves(rt.alloc(), made, events, want), "at {what}");
+    }
 }
 
-fn takes(alloc: Global, made: &str) -> Result<(Checked, bool), Memory> {
-    let world = make_three(alloc, SOURCE, MADE)?;
-    let entry = second_entry(alloc, SOURCE, made)?;
-    let mut hand = Hand::new(alloc, &world)?;
-    let checked = hand.take(&world, 1, &entry);
-    Ok((checked, hand.done(1).is_some()))
+// What a hand answers of the second item's entry, and whether it has the item then.
+fn takes_in(alloc: Global, world: &Three, entry: &Entry<ThreeItems>) -> Option<(Checked, bool)>
+    requires { entry.now.name ≡ world.now.names.second }
+{
+    match Hand::new(alloc, world) {
+        Ok(mut hand) => {
+            let checked = hand.take(world, 1, entry);
+            Some((checked, hand.done(1).is_some()))
+        }
+        Err(_) => None,
+    }
+}
+
+fn takes(alloc: Global, made: &str) -> Option<(Checked, bool)> {
+    let Ok(world) = make_three(alloc, MADE) else {
+        return None;
+    };
+    match second_entry(alloc, made) {
+        Ok(entry) => takes_in(alloc, &world, &entry),
+        Err(_) => None,
+    }
 }
 
 #[test]
 fn takes_what_agrees(rt: HostRuntime) {
-    assert_eq!(rt; takes(rt.alloc(), MADE), Ok((Checked::Agrees, true)));
-    assert_eq!(rt; takes(rt.alloc(), "y"), Ok((Checked::Differs(0), false)));
+    assert!(rt; takes(rt.alloc(), MADE) == Some((Checked::Agrees, true)));
+    assert!(rt; takes(rt.alloc(), "y") == Some((Checked::Differs(0), false)));
 }
