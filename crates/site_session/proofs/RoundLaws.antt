@@ -1,6 +1,5 @@
 -- What a round of one item after another leaves.
-use Rattle.std.proofs.Common.{◌≡◌, ℕ, ◌+◌, ◌≤◌, suc, List, [], ◌++◌, drop, Result, Ok, Err, arith, subst, sym}
-use Rattle.std.proofs.lemmas.List.{append-nil}
+use Rattle.std.proofs.Common.{ℕ, List, Result, Ok, Err}
 use Rattle.memo_table.specs.Entries.{Entries}
 use Rattle.render_workers.specs.Rounds.{IsRound}
 use Rattle.render_workers.specs.declared.answers.Round.{Round}
