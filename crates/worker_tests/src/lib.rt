@@ -3,5 +3,4 @@
 
 #[cfg(test)]
 mod rounds;
-#[cfg(test)]
 mod row;
