@@ -36,7 +36,7 @@ fn begins_usage(alloc: Global, kind: UsageKind, wanted: &str) -> bool {
     match usage_lines(alloc, kind) {
         Ok(text) => {
             let lines = text.as_str();
-            lines.starts_with(wanted) && lines.ends_with("standard input\n")
+            lines.starts_with(wanted) && lines.ends_with("in memory, twice\n")
         }
         Err(_) => false,
     }
