@@ -65,3 +65,10 @@ class Run:
 
     def __str__(self):
         return f"{self.wall:8.3f} s wall {self.processor:8.3f} s processor {self.peak / MIB:7.0f} MiB"
+
+
+def set_aside(folder, made):
+    """Moves an earlier output away. It is not deleted: ext4 makes files slowly for some seconds after many were deleted."""
+    path = os.path.join(folder, made)
+    if os.path.exists(path):
+        os.rename(path, f"{folder}.{made}.{time.monotonic_ns()}")

@@ -3,4 +3,9 @@ pub mod WhyLaws
 pub mod KeepLaws
 pub mod TryLaws
 pub mod RoundLaws
+pub mod TallyLaws
+pub mod WorkerLaws
+pub mod CollectLaws
+pub mod PlaceLaws
+pub mod Crosses
 mod Rows

@@ -19,7 +19,7 @@ use Rattle.render_workers.specs.declared.answers.RoundError.TheVariants as error
 use Rattle.render_workers.specs.declared.progress.Progress.{Progress}
 use Rattle.render_workers.specs.Folds.{counted, after_count, fold_from, fold_of, AreDone}
 use Rattle.render_workers.specs.Whys.{why_of, why_at, whys_below, why_names}
-use Rattle.render_workers.specs.Rounds.{entry_over, entry_at, with_some, entries_below, IsWhole, IsStopped, IsRound, in_order}
+use Rattle.render_workers.specs.Rounds.{entry_over, entry_at, with_some, entries_below, IsWhole, IsStopped, IsRound}
 use Rattle.render_workers.specs.Turns.{Turns, Ends, IsTurn}
 use Rattle.render_workers.proofs.TryLaws.{of-some}
 use Rattle.render_workers.proofs.FoldLaws.{length-push, drop-next, known-push, counted-done, done-push, fold-next, fold-end}
@@ -54,10 +54,10 @@ start g p before none nobody = record {
 
 module _ (g : Given) (differ : (i j : ℕ) → i < length g.names → slice_get g.names i ≡ slice_get g.names j → i ≡ j) (fixed i : ℕ) (name : ItemName) (there : slice_get g.names i ≡ Some name)
     (p : Progress) (kept : Entries) (before after : List ItemName) (so_far : SoFar g fixed i p kept before after) where
-  view : g.sight i (slice_get p.outs) ≡ view_at g i
+  pub view : g.sight i (slice_get p.outs) ≡ view_at g i
   view = ap (g.sight i) so_far.known
 
-  named : name ≡ name_at g i
+  pub named : name ≡ name_at g i
   named = sym (get_or_from_slice_get g.names i name nameless there)
 
   meant-here : interpret (g.sight i (slice_get p.outs)) (g.item name) ≡ meant g i
@@ -66,7 +66,7 @@ module _ (g : Given) (differ : (i j : ℕ) → i < length g.names → slice_get 
   entry-here : entry_over (g.sight i (slice_get p.outs)) name (g.item name) ≡ entry_at g i
   entry-here = λ j. entry_over (view j) (named j) (g.item (named j))
 
-  kept-here : get kept name ≡ kept_at g i
+  pub kept-here : get kept name ≡ kept_at g i
   kept-here = ap (λ m. get m name) so_far.kept ∙ kept-before g differ i name there i (omega arith) ∙ ap (entry_of g.entries) (sym there)
 
   why-here : why_of (get kept name) (g.sight i (slice_get p.outs)) name ≡ why_at g i
@@ -76,7 +76,7 @@ module _ (g : Given) (differ : (i j : ℕ) → i < length g.names → slice_get 
   unfolding whys_below
   whys-next = ap (λ ws. whys_below g i ++ ws) why-here
 
-  tally-next : (after' : List ItemName) → after' ≡ after ++ why_names (why_of (get kept name) (g.sight i (slice_get p.outs)) name) → after' ≡ before ++ why_names (whys_below g (suc i))
+  pub tally-next : (after' : List ItemName) → after' ≡ after ++ why_names (why_of (get kept name) (g.sight i (slice_get p.outs)) name) → after' ≡ before ++ why_names (whys_below g (suc i))
   tally-next after' e =
       let ws = why_of (get kept name) (g.sight i (slice_get p.outs)) name in
       e ∙ ap (λ ns. ns ++ why_names ws) so_far.tally ∙ append_assoc before (why_names (whys_below g i)) (why_names ws)
@@ -86,7 +86,7 @@ module _ (g : Given) (differ : (i j : ℕ) → i < length g.names → slice_get 
   unfolding entries_below
   entries-next e h = ap (λ o. with_some o (entries_below g i)) (sym h)
 
-  fold-here : (o : Outcome) → interpret (g.sight i (slice_get p.outs)) (g.item name) ≡ met_of o → fold_of g fixed ≡ after_count (counted o name p.bytes) o p.outs (fold_from g (drop (suc i) g.names))
+  pub fold-here : (o : Outcome) → interpret (g.sight i (slice_get p.outs)) (g.item name) ≡ met_of o → fold_of g fixed ≡ after_count (counted o name p.bytes) o p.outs (fold_from g (drop (suc i) g.names))
   fold-here o met =
       so_far.fold ∙ ap (λ ns. fold_from g ns p.outs p.bytes) (drop-next g.names i name there)
       ∙ fold-next g name (drop (suc i) g.names) p.outs p.bytes o (ap (λ n. interpret (g.sight n (slice_get p.outs)) (g.item name)) so_far.count ∙ met)
@@ -112,7 +112,7 @@ module _ (g : Given) (differ : (i j : ℕ) → i < length g.names → slice_get 
   goes q kept' after' t = subst (λ n. SoFar g fixed n q kept' before after') (sym (add-one i)) (goes-suc q kept' after' t)
 
   -- the round ends with a fault
-  pub stops : (fault : SiteFault) (kept' : Entries) (after' : List ItemName) → Ends (g.sight i (slice_get p.outs)) name (g.item name) fault p kept kept' after after' → IsStopped in_order g fixed fault kept' before after'
+  unfoldable pub stops : (fault : SiteFault) (kept' : Entries) (after' : List ItemName) → Ends (g.sight i (slice_get p.outs)) name (g.item name) fault p kept kept' after after' → IsStopped g fixed fault kept' before after'
   stops fault kept' after' e = record {
     place = i;
     fold = fold-here e.outcome e.met ∙ ap (λ r. after_count r e.outcome p.outs (fold_from g (drop (suc i) g.names))) e.counts ∙ ap (λ n. Failed (n, fault)) so_far.count;
@@ -122,7 +122,7 @@ module _ (g : Given) (differ : (i j : ℕ) → i < length g.names → slice_get 
 
 -- all items are done
 pub whole : (g : Given) (fixed n : ℕ) (p : Progress) (kept kept' : Entries) (before after : List ItemName) (round : Round) → n ≡ length g.names → SoFar g fixed n p kept before after
-    → round.outs ≡ p.outs → round.why ≡ p.why → round.reused + length p.why ≡ length g.names → kept' ≡ of_names g.names kept → IsWhole in_order g fixed round kept' before after
+    → round.outs ≡ p.outs → round.why ≡ p.why → round.reused + length p.why ≡ length g.names → kept' ≡ of_names g.names kept → IsWhole g fixed round kept' before after
 whole g fixed n p kept kept' before after round all s outs why reused left =
     let end : length g.names ≤ length g.names = omega arith in
     let fold : fold_of g fixed ≡ Gave p.outs = s.fold ∙ ap (λ ns. fold_from g ns p.outs p.bytes) (ap (λ (k : ℕ). drop k g.names) all ∙ drop_all (length g.names) g.names end) ∙ fold-end g p.outs p.bytes in
@@ -140,7 +140,7 @@ whole g fixed n p kept kept' before after round all s outs why reused left =
 -- an item behind which the round does not go on
 pub ended : (g : Given) (differ : (i j : ℕ) → i < length g.names → slice_get g.names i ≡ slice_get g.names j → i ≡ j) (fixed i : ℕ) (name : ItemName) → slice_get g.names i ≡ Some name
     → (p q : Progress) (kept kept' : Entries) (before after after' : List ItemName) (error : RoundError) → SoFar g fixed i p kept before after
-    → IsTurn (g.sight i (slice_get p.outs)) name (g.item name) (Err error) p q kept kept' after after' → IsRound in_order g fixed (Err error) kept' before after'
+    → IsTurn (g.sight i (slice_get p.outs)) name (g.item name) (Err error) p q kept kept' after after' → IsRound g fixed (Err error) kept' before after'
 ended g differ fixed i name there p q kept kept' before after after' (error.Fault f) so_far e = stops g differ fixed i name there p kept before after so_far f kept' after' e
 ended g differ fixed i name there p q kept kept' before after after' error.Memory so_far e = tt
 
@@ -154,7 +154,7 @@ module _ (g : Given) (differ : (i j : ℕ) → i < length g.names → slice_get 
       goes g differ fixed i (get_or g.names i nameless) there p kept before after so_far q kept' after'
       (of-some (λ name. IsTurn (g.sight i (slice_get p.outs)) name (g.item name) (Ok u) p q kept kept' after after') (slice_get g.names i) (get_or g.names i nameless) there h)
 
-  pub ended_at : (error : RoundError) → IfSome (slice_get g.names i) (λ name. IsTurn (g.sight i (slice_get p.outs)) name (g.item name) (Err error) p q kept kept' after after') → IsRound in_order g fixed (Err error) kept' before after'
+  pub ended_at : (error : RoundError) → IfSome (slice_get g.names i) (λ name. IsTurn (g.sight i (slice_get p.outs)) name (g.item name) (Err error) p q kept kept' after after') → IsRound g fixed (Err error) kept' before after'
   ended_at error h =
       ended g differ fixed i (get_or g.names i nameless) there p q kept kept' before after after' error so_far
       (of-some (λ name. IsTurn (g.sight i (slice_get p.outs)) name (g.item name) (Err error) p q kept kept' after after') (slice_get g.names i) (get_or g.names i nameless) there h)

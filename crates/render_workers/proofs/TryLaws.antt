@@ -1,5 +1,5 @@
 -- One try at an item, whatever it comes to.
-use Rattle.std.proofs.Common.{◌≡◌, ℕ, ◌<◌, true, List, [], ◌∷◌, ◌++◌, length, get_or, append-nil, Option, Some, None, Result, Ok, Err, refl, ap, sym, ◌∙◌, subst}
+use Rattle.std.proofs.Common.{◌≡◌, ℕ, ◌<◌, List, [], ◌∷◌, ◌++◌, length, get_or, append-nil, Option, Some, None, Result, Ok, Err, refl, ap, sym, ◌∙◌, subst}
 use Rattle.std.specs.Prelude.{IfSome, slice_get}
 use Rattle.std.proofs.lemmas.Option.{slice_get-get_or}
 use Rattle.std.specs.FinMap.{get}
@@ -14,6 +14,7 @@ use Rattle.read_record.specs.Outcomes.{Page}
 use Rattle.read_record.specs.Entries.{Kept, Tells}
 use Rattle.memo_table.specs.Entries.{Entries}
 use Rattle.round_core.specs.Meant.{nameless, is_other, is_stale}
+use Rattle.round_core.specs.Steps.{Differs}
 use Rattle.render_workers.specs.declared.answers.Why.{Why}
 use Rattle.render_workers.specs.declared.answers.RoundError.{RoundError}
 use Rattle.render_workers.specs.declared.answers.RoundError.TheVariants as error
@@ -24,7 +25,7 @@ use Rattle.render_workers.specs.Folds.{counted, tree_too_long}
 use Rattle.render_workers.specs.Whys.{first_other_key, reason_of, why_for, why_of, why_names}
 use Rattle.render_workers.specs.Turns.{waits_at, waits_for, IsRendered, IsSettled, IsFault, IsAdded, IsAddedNew, IsTurn}
 use Rattle.render_workers.proofs.FoldLaws.{MissesNothing, waits-none}
-use Rattle.render_workers.proofs.WhyLaws.{why-stale, why-fresh}
+use Rattle.render_workers.proofs.WhyLaws.{why-differs, why-fresh}
 use Rattle.render_workers.proofs.KeepLaws.{kept-same}
 
 module _ {A : Type 0} (P : A → Type 0) (o : Option A) (x : A) (is : o ≡ Some x) where
@@ -37,23 +38,23 @@ module _ {A : Type 0} (P : A → Type 0) (o : Option A) (x : A) (is : o ≡ Some
 
 module _ {M : Type 0} (view : View) (name : ItemName) (query : Query SiteFault Page) (before after : List ItemName) where
   -- a stale item was rendered for its reason
-  rendered : (kept : Option Kept) (key : Option Key) (r : Settled M) → is_stale kept view ≡ true → key ≡ reason_of kept view → waits_for kept view query ≡ needed_item (interpret view query)
+  rendered : (kept : Option Kept) (key : Option Key) (r : Settled M) → Differs kept view → key ≡ reason_of kept view → waits_for kept view query ≡ needed_item (interpret view query)
       → IsRendered view name query key r before after → IsSettled kept view name query r before after
-  rendered kept key (settled.Kept e) stale is waits h = absurd h
-  rendered kept key (settled.New e why) stale is waits h = (stale, h.0, h.1 ∙ ap (why_for name) is, h.2)
-  rendered kept key (settled.Needs j) stale is waits h = (waits ∙ h.0, h.1)
-  rendered kept key settled.Memory stale is waits h = tt
+  rendered kept key (settled.Kept e) differs is waits h = absurd h
+  rendered kept key (settled.New e why) differs is waits h = (differs, h.0, h.1 ∙ ap (why_for name) is, h.2)
+  rendered kept key (settled.Needs j) differs is waits h = (waits ∙ h.0, h.1)
+  rendered kept key settled.Memory differs is waits h = tt
 
   -- nothing is kept
   pub rendered-first : (kept : Option Kept) (r : Settled M) → kept ≡ None → IsRendered view name query None r before after → IsSettled kept view name query r before after
-  rendered-first kept r none h = subst (λ k. IsSettled k view name query r before after) (sym none) (rendered None None r refl refl refl h)
+  rendered-first kept r none h = subst (λ k. IsSettled k view name query r before after) (sym none) (rendered None None r tt refl refl h)
 
   -- what is kept differs
   pub rendered-anew : (kept : Option Kept) (e : Kept) (place : ℕ) (key : Option Key) (r : Settled M) → kept ≡ Some e → first_other e.reads view ≡ checked.Differs place → key ≡ reason_of (Some e) view
       → IsRendered view name query key r before after → IsSettled kept view name query r before after
   rendered-anew kept e place key r is differs reason h =
       subst (λ k. IsSettled k view name query r before after) (sym is)
-      (rendered (Some e) key r (ap is_other differs) reason (ap (λ c. waits_at c (needed_item (interpret view query))) differs) h)
+      (rendered (Some e) key r (place, differs) reason (ap (λ c. waits_at c (needed_item (interpret view query))) differs) h)
 
 -- what is kept of an item differs, and it was rendered for that reason
 pub settled_anew : {M : Type 0} (o : Option ItemName) (n : ItemName) → o ≡ Some n → (view : View) (item : ItemName → Query SiteFault Page) (m : Entries) (e : Kept) (place : ℕ) (key : Key) (r : Settled M) (before after : List ItemName)
@@ -103,13 +104,10 @@ module _ (view : View) (name : ItemName) (query : Query SiteFault Page) (e : Kep
       go (Err error.Memory) h = tt
 
   -- an item that was rendered
-  pub turn-new : (why : Why) (kept' : Entries) (r : Result (Unit {0}) RoundError) → is_stale (get kept name) view ≡ true → why ≡ why_for name (reason_of (get kept name) view) → after ≡ before ++ name ∷ []
+  pub turn-new : (why : Why) (kept' : Entries) (r : Result (Unit {0}) RoundError) → why_of (get kept name) view name ≡ why ∷ [] → after ≡ before ++ why.name ∷ []
       → IsAddedNew e why r old new kept kept' → IsTurn view name query r old new kept kept' before after
-  turn-new why kept' r stale is tallied added = go r added
+  turn-new why kept' r told tallied added = go r added
     where
-      told : why_of (get kept name) view name ≡ why_for name (reason_of (get kept name) view) ∷ []
-      told = why-stale (get kept name) view name stale
-
       named : after ≡ before ++ why_names (why_of (get kept name) view name)
       named = tallied ∙ ap (λ ws. before ++ why_names ws) (sym told)
 
@@ -122,7 +120,7 @@ module _ (view : View) (name : ItemName) (query : Query SiteFault Page) (e : Kep
         tells = tells;
         bytes = counts ∙ h.bytes;
         outs = h.outs;
-        why = h.why ∙ ap (λ w. old.why ++ w ∷ []) is ∙ ap (λ ws. old.why ++ ws) (sym told);
+        why = h.why ∙ ap (λ ws. old.why ++ ws) (sym told);
         kept = h.kept;
         tally = named;
       }
@@ -139,13 +137,13 @@ module _ (o : Option ItemName) (view : View) (item : ItemName → Query SiteFaul
       go None h = h
 
   pub new_turn : (why : Why) (m' : Entries) (r : Result (Unit {0}) RoundError)
-      → IfSome o (λ name. (is_stale (get m name) view ≡ true) × Tells view name (item name) e × (why ≡ why_for name (reason_of (get m name) view)) × (after ≡ before ++ name ∷ []))
+      → IfSome o (λ name. Differs (get m name) view × Tells view name (item name) e × (why ≡ why_for name (reason_of (get m name) view)) × (after ≡ before ++ name ∷ []))
       → IsAddedNew e why r p q m m' → IfSome o (λ name. IsTurn view name (item name) r p q m m' before after)
   new_turn why m' r h added = go o h
     where
-      go : (o : Option ItemName) → IfSome o (λ name. (is_stale (get m name) view ≡ true) × Tells view name (item name) e × (why ≡ why_for name (reason_of (get m name) view)) × (after ≡ before ++ name ∷ []))
+      go : (o : Option ItemName) → IfSome o (λ name. Differs (get m name) view × Tells view name (item name) e × (why ≡ why_for name (reason_of (get m name) view)) × (after ≡ before ++ name ∷ []))
           → IfSome o (λ name. IsTurn view name (item name) r p q m m' before after)
-      go (Some n) h = turn-new view n (item n) e h.1 p q m before after why m' r h.0 h.2 h.3 added
+      go (Some n) h = turn-new view n (item n) e h.1 p q m before after why m' r (why-differs (get m n) view n why h.0 h.2) (h.3 ∙ ap (λ (w : Why). before ++ w.name ∷ []) (sym h.2)) added
       go None h = h
 
 -- where the view misses nothing, no item has to be done first

@@ -1,5 +1,5 @@
 -- Why items are rendered anew.
-use Rattle.std.proofs.Common.{◌≡◌, ℕ, zero, suc, ◌+◌, ◌<◌, ◌≤◌, Bool, true, false, List, [], ◌∷◌, ◌++◌, length, length-append, Option, Some, refl, ap, sym, ◌∙◌, arith}
+use Rattle.std.proofs.Common.{◌≡◌, ℕ, zero, suc, ◌+◌, ◌<◌, ◌≤◌, Bool, true, false, List, [], ◌∷◌, ◌++◌, length, length-append, Option, Some, None, refl, ap, sym, ◌∙◌, arith}
 use Rattle.std.specs.Prelude.{slice_get, if◌then◌else◌}
 use Rattle.std.specs.Map.{keys_of}
 use Rattle.site_base.specs.declared.item_name.ItemName.{ItemName}
@@ -10,7 +10,8 @@ use Rattle.read_record.specs.declared.outcome.Checked.TheVariants as checked
 use Rattle.read_record.specs.Queries.{View, Reads}
 use Rattle.read_record.specs.Records.{agreement_of, checked_at, first_other_from, first_other}
 use Rattle.read_record.specs.Entries.{Kept}
-use Rattle.round_core.specs.Meant.{Given, is_stale}
+use Rattle.round_core.specs.Meant.{Given, is_other, is_stale}
+use Rattle.round_core.specs.Steps.{Differs}
 use Rattle.render_workers.specs.declared.answers.Why.{Why}
 use Rattle.render_workers.specs.Whys.{other_at, first_other_key, reason_of, why_for, why_of, why_at, whys_below, why_names}
 
@@ -55,6 +56,11 @@ module _ (kept : Option Kept) (view : View) (name : ItemName) where
 
   pub why-fresh : is_stale kept view ≡ false → why_of kept view name ≡ []
   why-fresh h = let why : Why = why_for name (reason_of kept view) in ap (λ b. if b then why ∷ [] else []) h
+
+-- what is kept differs, and the item is told for that reason
+pub why-differs : (kept : Option Kept) (view : View) (name : ItemName) (why : Why) → Differs kept view → why ≡ why_for name (reason_of kept view) → why_of kept view name ≡ why ∷ []
+why-differs None view name why d is = why-stale None view name refl ∙ ap (λ w. w ∷ []) (sym is)
+why-differs (Some e) view name why d is = why-stale (Some e) view name (ap is_other d.1) ∙ ap (λ w. w ∷ []) (sym is)
 
 one-at-most : (b : Bool) (w : Why) → length (if b then w ∷ [] else []) ≤ 1
 one-at-most true w = omega arith

@@ -1,5 +1,5 @@
 -- What a round leaves.
-use Rattle.std.specs.Prelude.{◌≡◌, ℕ, zero, suc, ◌+◌, List, [], ◌++◌, length, drop, slice_get, Option, Some, None, Result, Ok, Err}
+use Rattle.std.specs.Prelude.{◌≡◌, ℕ, zero, suc, ◌+◌, List, [], ◌++◌, length, slice_get, Option, Some, None, Result, Ok, Err}
 use Rattle.site_base.specs.declared.faults.SiteFault.{SiteFault}
 use Rattle.site_base.specs.declared.item_name.ItemName.{ItemName}
 use Rattle.read_record.specs.declared.outcome.Outcome.{Outcome}
@@ -37,38 +37,28 @@ unfoldable pub entries_below : Given → ℕ → Entries
 entries_below g zero = g.entries
 entries_below g (suc n) = with_some (entry_at g n) (entries_below g n)
 
--- ---- what joins a tally
-
--- what a round adds to a tally: the names that are due, and perhaps some of those behind the first fault; then the tally before and after
-abbrev pub Adds : Type 1
-Adds = List ItemName → List ItemName → List ItemName → List ItemName → Type 0
-
--- one after another: the names that are due, in render order
-abbrev pub in_order : Adds
-in_order due later before after = after ≡ before ++ due
-
 -- ---- answers
 
 -- the fold gives these outcomes; the stale items are told with their reasons, and the others counted; each item has its certified
 -- entry, and no other name is kept; the names of the stale items joined the tally
-pub record IsWhole (adds : Adds) (g : Given) (fixed : ℕ) (round : Round) (memo : Entries) (before after : List ItemName) : Type 0 where
+pub record IsWhole (g : Given) (fixed : ℕ) (round : Round) (memo : Entries) (before after : List ItemName) : Type 0 where
   pub fold : fold_of g fixed ≡ Gave round.outs
   pub each : length round.outs ≡ length g.names
   pub done : AreDone (length g.names) (slice_get round.outs)
   pub why : round.why ≡ whys_below g (length g.names)
   pub reused : round.reused + length round.why ≡ length g.names
   pub kept : memo ≡ of_names g.names (entries_below g (length g.names))
-  pub tally : adds (why_names round.why) [] before after
+  pub tally : after ≡ before ++ why_names round.why
 
 -- the fold's first fault is this; the items before its place have their certified entries, and all other entries are as before; the
 -- names of the stale items up to that place joined the tally
-pub record IsStopped (adds : Adds) (g : Given) (fixed : ℕ) (fault : SiteFault) (memo : Entries) (before after : List ItemName) : Type 0 where
+pub record IsStopped (g : Given) (fixed : ℕ) (fault : SiteFault) (memo : Entries) (before after : List ItemName) : Type 0 where
   pub place : ℕ
   pub fold : fold_of g fixed ≡ Failed (place, fault)
   pub kept : memo ≡ entries_below g place
-  pub tally : adds (why_names (whys_below g (suc place))) (drop (suc place) g.names) before after
+  pub tally : after ≡ before ++ why_names (whys_below g (suc place))
 
-abbrev pub IsRound : Adds → Given → ℕ → Result Round RoundError → Entries → List ItemName → List ItemName → Type 0
-IsRound adds g fixed (Ok round) kept before after = IsWhole adds g fixed round kept before after
-IsRound adds g fixed (Err (error.Fault f)) kept before after = IsStopped adds g fixed f kept before after
-IsRound adds g fixed (Err error.Memory) kept before after = Unit {0}
+abbrev pub IsRound : Given → ℕ → Result Round RoundError → Entries → List ItemName → List ItemName → Type 0
+IsRound g fixed (Ok round) kept before after = IsWhole g fixed round kept before after
+IsRound g fixed (Err (error.Fault f)) kept before after = IsStopped g fixed f kept before after
+IsRound g fixed (Err error.Memory) kept before after = Unit {0}

@@ -1,5 +1,5 @@
 -- What one try at an item leaves.
-use Rattle.std.specs.Prelude.{◌≡◌, ℕ, true, List, [], ◌∷◌, ◌++◌, Option, Some, None, Result, Ok, Err}
+use Rattle.std.specs.Prelude.{◌≡◌, ℕ, List, [], ◌∷◌, ◌++◌, Option, Some, None, Result, Ok, Err}
 use Rattle.std.specs.FinMap.{get}
 use Rattle.site_base.specs.declared.faults.SiteFault.{SiteFault}
 use Rattle.site_base.specs.declared.item_name.ItemName.{ItemName}
@@ -12,7 +12,7 @@ use Rattle.read_record.specs.Records.{first_other}
 use Rattle.read_record.specs.Outcomes.{Page, met_of}
 use Rattle.read_record.specs.Entries.{Kept, Tells}
 use Rattle.memo_table.specs.Entries.{Entries, with_entry}
-use Rattle.round_core.specs.Meant.{is_stale}
+use Rattle.round_core.specs.Steps.{Differs}
 use Rattle.render_workers.specs.declared.answers.Why.{Why}
 use Rattle.render_workers.specs.declared.answers.RoundError.{RoundError}
 use Rattle.render_workers.specs.declared.answers.RoundError.TheVariants as error
@@ -44,7 +44,7 @@ IsRendered view name query key settled.Memory before after = Unit {0}
 -- an item was kept where that agrees with the view, and else rendered
 abbrev pub IsSettled : {M : Type 0} → Option Kept → View → ItemName → Query SiteFault Page → Settled M → List ItemName → List ItemName → Type 0
 IsSettled kept view name query (settled.Kept e) before after = (kept ≡ Some e.now) × Tells view name query e.now × (after ≡ before)
-IsSettled kept view name query (settled.New e why) before after = (is_stale kept view ≡ true) × Tells view name query e × (why ≡ why_for name (reason_of kept view)) × (after ≡ before ++ name ∷ [])
+IsSettled kept view name query (settled.New e why) before after = Differs kept view × Tells view name query e × (why ≡ why_for name (reason_of kept view)) × (after ≡ before ++ name ∷ [])
 IsSettled kept view name query (settled.Needs j) before after = (waits_for kept view query ≡ Some j) × (after ≡ before)
 IsSettled kept view name query settled.Memory before after = Unit {0}
 

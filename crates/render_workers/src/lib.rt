@@ -2,9 +2,18 @@
 #![tactic(auto)]
 
 mod answers;
+mod cells;
+mod collecting;
+mod learning;
+mod part;
+mod placing;
 mod progress;
 mod serial;
 mod settling;
+mod spreading;
+mod worker;
+mod workers;
 
 pub use answers::{Outcomes, Round, RoundError, Why, Whys};
 pub use serial::regenerate_serial;
+pub use workers::regenerate;

@@ -1,9 +1,10 @@
 // A round of one item after another.
-ghost use Rattle.std.specs.Prelude.{◌≡◌, ◌<◌, IfSome, length, slice_get};
+ghost use Rattle.std.specs.Prelude.{◌≡◌, ◌+◌, ◌<◌, ◌≤◌, IfSome, length, slice_get};
 ghost use Rattle.std.specs.FinMap.{get};
+ghost use Rattle.memo_table.specs.Entries.{of_names};
 ghost use Rattle.round_core.specs.Meant.{given_by};
 ghost use Rattle.render_workers.specs.Folds.{AreDone, IsTold, fold_of};
-ghost use Rattle.render_workers.specs.Rounds.{IsRound, in_order};
+ghost use Rattle.render_workers.specs.Rounds.{IsRound};
 ghost use Rattle.render_workers.specs.Turns.{IsAddedNew, IsTurn};
 
 use crate::progress::Progress;
@@ -24,7 +25,7 @@ pub fn regenerate_serial<R: Renderer, W: World>(
     memo: &mut Memo<R::Meaning>,
     tally: &mut Tally,
 ) -> Result<Round, RoundError>
-    ensures round { IsRound in_order (given_by (W.names world.now) (W.sight world.now) R.Meaning.item memo.old) (W.fixed world.now) result memo.new tally.old tally.new }
+    ensures round { IsRound (given_by (W.names world.now) (W.sight world.now) R.Meaning.item memo.old) (W.fixed world.now) result memo.new tally.old tally.new }
 
     // Rendering them one after another never waits for an item.
     ensures told { IsTold (fold_of (given_by (W.names world.now) (W.sight world.now) R.Meaning.item memo.old) (W.fixed world.now)) }
@@ -36,6 +37,21 @@ pub fn regenerate_serial<R: Renderer, W: World>(
             Err(error) => return Err(error),
         }
     }
+    Ok(closed(world, memo, progress))
+}
+
+/// The round once all items are done. The names that no item has are forgotten.
+pub(crate) fn closed<M: ItemMeaning, W: World>(
+    world: &W,
+    memo: &mut Memo<M>,
+    progress: Progress,
+) -> Round
+    requires { length progress.why ≤ length (W.names world.now) }
+    ensures outs { result.outs ≡ progress.outs }
+    ensures why { result.why ≡ progress.why }
+    ensures reused { result.reused + length progress.why ≡ length (W.names world.now) }
+    ensures kept { memo.new ≡ of_names (W.names world.now) memo.old }
+{
     memo.forget_missing(world);
     let Progress {
         outs,
@@ -43,11 +59,11 @@ pub fn regenerate_serial<R: Renderer, W: World>(
         bytes: _,
     } = progress;
     let reused = world.items() - why.len() as u32;
-    Ok(Round { outs, reused, why })
+    Round { outs, reused, why }
 }
 
 /// Keeps or renders the next item, behind those that are done.
-fn next_item<R: Renderer, W: World>(
+pub(crate) fn next_item<R: Renderer, W: World>(
     alloc: Global,
     renderer: &R,
     world: &W,
@@ -75,7 +91,7 @@ fn next_item<R: Renderer, W: World>(
 
 #[tactic(auto, using(crate::proofs::TryLaws::joins))]
 /// Adds an item that was rendered anew. Its entry is kept, unless the round ends with its fault.
-fn add_new<M: ItemMeaning>(
+pub(crate) fn add_new<M: ItemMeaning>(
     alloc: Global,
     memo: &mut Memo<M>,
     progress: &mut Progress,

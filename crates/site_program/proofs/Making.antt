@@ -8,7 +8,7 @@ use Rattle.out_tree.proofs.Paths.{path_order, same_if_tied}
 use Rattle.out_tree.proofs.ValuesLemmas.{get-map_values}
 use Rattle.out_tree.specs.Memory.{plain_files}
 use Rattle.out_tree.specs.declared.step.Call.{Call}
-use Rattle.render_workers.specs.Rounds.{Adds}
+use Rattle.site_session.specs.Rounds.{Adds}
 use Rattle.site_base.specs.Places.{Files, path_cmp}
 use Rattle.site_base.specs.declared.errors.Memory.{Memory}
 use Rattle.site_base.specs.declared.faults.SiteFault.{SiteFault}

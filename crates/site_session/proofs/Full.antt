@@ -8,7 +8,6 @@ use Rattle.read_record.specs.Queries.{Query, Gave, Failed, interpret}
 use Rattle.read_record.specs.Worlds.{Sight}
 use Rattle.read_record.specs.declared.outcome.Outcome.{Outcome}
 use Rattle.render_workers.specs.Folds.{Folded, after_item, fold_from, fold_of}
-use Rattle.render_workers.specs.Rounds.{Adds, IsStopped, IsWhole}
 use Rattle.render_workers.specs.Whys.{why_names}
 use Rattle.render_workers.specs.declared.answers.Round.{Round}
 use Rattle.round_core.specs.Meant.{given_by}
@@ -22,6 +21,7 @@ use Rattle.site_reader.specs.declared.site_error.SiteError.TheVariants as error
 use Rattle.site_reader.specs.declared.site.Site.{Site}
 use Rattle.site_session.specs.Full.{Whole, fault_of, given_of, kept_after, kept_by, names_by, names_behind, names_past, names_rendered, output_in, output_of, rendered, whole, whole_by, written_by, written_in}
 use Rattle.site_session.specs.Outputs.{IsOutput, Settled}
+use Rattle.site_session.specs.Rounds.{Adds, Stopped, Whole as WholeRound}
 use Rattle.site_session.specs.Session.{first_fault, full_now, site_now}
 use Rattle.site_session.specs.Standing.{Standing}
 use Rattle.site_session.specs.declared.output.Output.{Output}
@@ -60,7 +60,7 @@ fault-of-output files kept (Err f) fault e = let same : f ≡ fault = cc in ap E
 
 module _ (adds : Adds) (files : Files) (kept : Entries) (site : Site) (new : Entries) (before after : List ItemName) where
   -- a round without a fault
-  module _ (round : Round) (w : IsWhole adds (given_of files site kept) (fixed_bytes files site) round new before after) where
+  module _ (round : Round) (w : WholeRound adds (given_of files site kept) (fixed_bytes files site) round new before after) where
     told : rendered files site ≡ Gave round.outs
     told = sym (rendered-same files site kept) ∙ w.fold
 
@@ -82,7 +82,7 @@ module _ (adds : Adds) (files : Files) (kept : Entries) (site : Site) (new : Ent
     }
 
   -- a round that a fault ended
-  module _ (fault : SiteFault) (s : IsStopped adds (given_of files site kept) (fixed_bytes files site) fault new before after) where
+  module _ (fault : SiteFault) (s : Stopped adds (given_of files site kept) (fixed_bytes files site) fault new before after) where
     stopped : rendered files site ≡ Failed (s.place, fault)
     stopped = sym (rendered-same files site kept) ∙ s.fold
 
@@ -98,13 +98,13 @@ module _ (adds : Adds) (files : Files) (kept : Entries) (site : Site) (new : Ent
 -- ---- what a build answers before its output is touched
 
 pub from_whole : (adds : Adds) (files : Files) (kept : Entries) (site : Site) (new : Entries) (before after : List ItemName) (round : Round) (output : Output)
-    → IsWhole adds (given_of files site kept) (fixed_bytes files site) round new before after
+    → WholeRound adds (given_of files site kept) (fixed_bytes files site) round new before after
     → output ≡ record { written = written_by files (record { site = site; outs = round.outs }); rendered = length round.why; reused = round.reused; why = round.why }
     → IsOutput adds files kept (Ok site) (Ok output) new before after
 from_whole adds files kept site new before after round output w is = (whole-output adds files kept site new before after round w output is, whole-settled adds files kept site new before after round w)
 
 pub from_stopped : (adds : Adds) (files : Files) (kept : Entries) (site : Site) (new : Entries) (before after : List ItemName) (fault : SiteFault)
-    → IsStopped adds (given_of files site kept) (fixed_bytes files site) fault new before after → IsOutput adds files kept (Ok site) (Err (error.Fault fault)) new before after
+    → Stopped adds (given_of files site kept) (fixed_bytes files site) fault new before after → IsOutput adds files kept (Ok site) (Err (error.Fault fault)) new before after
 from_stopped adds files kept site new before after fault s = (stopped-output adds files kept site new before after fault s, stopped-settled adds files kept site new before after fault s)
 
 -- a site that is not read renders nothing

@@ -4,3 +4,4 @@ pub mod Builds
 pub mod Steps
 mod ShownLaws
 mod MadeLaws
+pub mod RoundLaws

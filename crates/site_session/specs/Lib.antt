@@ -7,3 +7,4 @@ pub mod Seen
 pub mod Session
 pub mod Standing
 pub mod Rebuilds
+pub mod Rounds

@@ -1,13 +1,13 @@
 -- What the reading and rendering of a build answer, before its output is touched.
 use Rattle.std.specs.Prelude.{◌≡◌, List, Result, Ok, Err}
 use Rattle.memo_table.specs.Entries.{Entries}
-use Rattle.render_workers.specs.Rounds.{Adds}
 use Rattle.site_base.specs.Places.{Files}
 use Rattle.site_base.specs.declared.item_name.ItemName.{ItemName}
 use Rattle.site_reader.specs.Found.{Found}
 use Rattle.site_reader.specs.declared.site.Site.{Site}
 use Rattle.site_reader.specs.declared.site_error.SiteError.{SiteError}
 use Rattle.site_reader.specs.declared.site_error.SiteError.TheVariants as error
+use Rattle.site_session.specs.Rounds.{Adds}
 use Rattle.site_session.specs.Full.{kept_after, names_behind, names_rendered, output_in}
 use Rattle.site_session.specs.declared.output.Output.{Output}
 

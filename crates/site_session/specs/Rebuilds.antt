@@ -1,13 +1,13 @@
 -- What a rebuild does to a session, its output and a tally.
 use Rattle.std.specs.Prelude.{◌≡◌, ◌+◌, ◌-◌, ◌^◌, ◌≤◌, ℕ, min, List, Option, Some, Result, Ok, Err, OnErr}
 use Rattle.out_tree.specs.declared.step.Call.{Call}
-use Rattle.render_workers.specs.Rounds.{Adds}
 use Rattle.site_base.specs.Places.{Files}
 use Rattle.site_base.specs.declared.errors.Memory.{Memory}
 use Rattle.site_base.specs.declared.faults.SiteFault.{SiteFault}
 use Rattle.site_base.specs.declared.item_name.ItemName.{ItemName}
 use Rattle.site_script.specs.declared.line.Line.{Line}
 use Rattle.site_script.specs.declared.line.Line.TheVariants as line
+use Rattle.site_session.specs.Rounds.{Adds}
 use Rattle.site_session.specs.Full.{full}
 use Rattle.site_session.specs.Replies.{built_reply, Called, FailedAt, Leaves}
 use Rattle.site_session.specs.Session.{Given, Reply, Answers, names_now, names_past_now, output_failures, rendered_now}

@@ -1,11 +1,11 @@
 // What the held files stand for.
 ghost use Rattle.std.specs.Prelude.{◌≡◌, ◌≤ℤ◌, ◌≤◌, ◌+◌, ◌*◌, IfOk, Ok, length, pos, true};
-ghost use Rattle.render_workers.specs.Rounds.{IsRound};
 ghost use Rattle.site_reader.specs.Lawful.{IsLawful};
 ghost use Rattle.site_reader.specs.Sites as sites;
 ghost use Rattle.site_script.specs.Line.{is_moment};
 ghost use Rattle.site_session.specs.Full.{fault_of, full, given_of, whole, written_by};
 ghost use Rattle.site_session.specs.Outputs.{IsOutput};
+ghost use Rattle.site_session.specs.Rounds.{IsGone};
 ghost use Rattle.site_world.specs.Sights.{fixed_bytes, item_names};
 ghost use Rattle.source_tree.specs.Limits.{most_files};
 
@@ -135,7 +135,7 @@ fn round<B: Rounds>(
 ) -> Result<Round, RoundError>
     requires lawful { IsLawful held.now site.now }
     requires moment { pos 0 ≤ℤ site.now.moment }
-    ensures { IsRound B.adds (given_of held.now site.now memo.old) (fixed_bytes held.now site.now) result memo.new tally.old tally.new }
+    ensures { IsGone B.adds (given_of held.now site.now memo.old) (fixed_bytes held.now site.now) result memo.new tally.old tally.new }
 {
     let world = SiteWorld::new(alloc, site, held)?;
     rounds.go(alloc, &world, memo, tally)

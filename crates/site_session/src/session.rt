@@ -13,7 +13,7 @@ ghost use Rattle.site_session.specs.declared.build.Report.{Report};
 ghost use Rattle.site_session.specs.declared.output.Written.{Written};
 ghost use Rattle.site_session.specs.Rebuilds.{LineTallied, Rebuilds, Tallied};
 ghost use Rattle.site_session.specs.Replies.{scan_reply, built_reply, Called, FailedAt, Leaves, LeavesBy, IsQuiet, has_called_output};
-ghost use Rattle.render_workers.specs.Rounds.{in_order};
+ghost use Rattle.site_session.specs.Rounds.{in_order};
 ghost use Rattle.site_script.specs.declared.line.Line.TheVariants as line;
 
 use crate::build::{Rebuilt, make};

@@ -1,4 +1,4 @@
-use Rattle.std.proofs.Common.{◌≡◌, ◌<◌, ◌≤◌, ◌+◌, ◌-◌, ◌∙◌, length, refl, sym, subst, arith}
+use Rattle.std.proofs.Common.{◌≡◌, ◌<◌, ◌≤◌, ◌∙◌, length, sym, subst, arith}
 use Rattle.round_core.specs.Meant.{given_by}
 use Rattle.render_workers.proofs.FoldLaws.{told}
 use Rattle.render_workers.proofs.WhyLaws.{whys-few}
@@ -31,28 +31,20 @@ loop-item-preserved g c =
     went_on given (g.met.W.World.names_differ w) (g.W.World.fixed w) c.loop-item.item within c.loop-item.progress c.next_item.new.progress c.loop-item.memo c.next_item.new.memo c.args.tally.now c.loop-item.tally c.next_item.new.tally
     c.loop-item.invariant c.in-Ok.field-0 c.in-Ok.ensures
 
-pub overflow_cast-reused : goal.overflow_cast-reused
-overflow_cast-reused g c =
+pub closed-requires : goal.closed-requires
+closed-requires g c =
     let w = c.args.world.now in
     let given = given_by (g.W.World.names w) (g.W.World.sight w) g.R.Meaning.ItemMeaning.item c.args.memo.now in
     let few : length c.loop-item.progress.why ≤ c.loop-item.item = subst (λ ws. length ws ≤ c.loop-item.item) (sym c.loop-item.invariant.why) (whys-few given c.loop-item.item) in
-    omega (arith, c.len.ensures)
-
-pub overflow_sub-reused : goal.overflow_sub-reused
-overflow_sub-reused g c =
-    let w = c.args.world.now in
-    let given = given_by (g.W.World.names w) (g.W.World.sight w) g.R.Meaning.ItemMeaning.item c.args.memo.now in
-    let few : length c.loop-item.progress.why ≤ c.loop-item.item = subst (λ ws. length ws ≤ c.loop-item.item) (sym c.loop-item.invariant.why) (whys-few given c.loop-item.item) in
-    omega (arith, c.len.ensures, c.items.ensures, c.items-item-end.ensures)
+    omega (arith, c.items-item-end.ensures)
 
 pub returns-clause-round : goal.returns-clause-round
 returns-clause-round g c =
     let w = c.args.world.now in
     let given = given_by (g.W.World.names w) (g.W.World.sight w) g.R.Meaning.ItemMeaning.item c.args.memo.now in
-    let few : length c.loop-item.progress.why ≤ c.loop-item.item = subst (λ ws. length ws ≤ c.loop-item.item) (sym c.loop-item.invariant.why) (whys-few given c.loop-item.item) in
     let all : c.loop-item.item ≡ length (g.W.World.names w) = omega (arith, c.items-item-end.ensures) in
-    let reused : (c.items.result - c.len.result) + length c.loop-item.progress.why ≡ length (g.W.World.names w) = omega (arith, c.len.ensures, c.items.ensures, c.items-item-end.ensures) in
-    whole given (g.W.World.fixed w) c.loop-item.item c.loop-item.progress c.loop-item.memo c.forget_missing.new.self c.args.tally.now c.loop-item.tally _ all c.loop-item.invariant refl refl reused c.forget_missing.ensures
+    let e = c.closed.ensures in
+    whole given (g.W.World.fixed w) c.loop-item.item c.loop-item.progress c.loop-item.memo c.closed.new.memo c.args.tally.now c.loop-item.tally _ all c.loop-item.invariant e.outs e.why e.reused e.kept
 
 pub returns-clause-told : goal.returns-clause-told
 returns-clause-told g c = let w = c.args.world.now in told (given_by (g.W.World.names w) (g.W.World.sight w) g.R.Meaning.ItemMeaning.item c.args.memo.now) (g.met.W.World.lawful w) (g.W.World.fixed w)

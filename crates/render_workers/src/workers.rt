@@ -1,0 +1,44 @@
+// A round of many workers.
+ghost use Rattle.std.specs.Prelude.{◌≡◌, ◌≤◌};
+ghost use Rattle.round_core.specs.Meant.{given_by};
+ghost use Rattle.render_workers.specs.Folds.{IsTold, fold_of};
+ghost use Rattle.render_workers.specs.Worked.{IsWorked};
+
+use crate::collecting::collect;
+use crate::spreading::work_all;
+use crate::{Round, RoundError};
+use memo_table::Memo;
+use read_record::{ItemMeaning, Renderer, Tally, World};
+use std::alloc::Global;
+use std::sync::Wait;
+use std::thread::Threads;
+
+/// Keeps or renders the items by this number of workers, with the answers of `regenerate_serial`. The names of the items that were
+/// rendered join the tally in any order, each once. At a fault they are those of the stale items up to the one with the fault, and
+/// besides at most names of later items, each once at most.
+pub fn regenerate<H: Threads + Wait + Sync, R: Renderer + Sync, W: World + Sync>(
+    rt: &H,
+    alloc: Global,
+    renderer: &R,
+    world: &W,
+    memo: &mut Memo<R::Meaning>,
+    jobs: u32,
+    tally: &mut Tally,
+) -> Result<Round, RoundError>
+where
+    R::Meaning: Send + Sync,
+    requires { (1 ≤ jobs) × (jobs ≤ 64) }
+    ensures round { IsWorked (given_by (W.names world.now) (W.sight world.now) R.Meaning.item memo.old) (W.fixed world.now) result memo.new tally.old tally.new }
+
+    // Rendering them one after another never waits for an item.
+    ensures told { IsTold (fold_of (given_by (W.names world.now) (W.sight world.now) R.Meaning.item memo.old) (W.fixed world.now)) }
+{
+    never_waits(world, memo);
+    let all = work_all(rt, alloc, renderer, world, memo, jobs)?;
+    collect(alloc, renderer, world, memo, all, tally)
+}
+
+// A law of worlds, which takes no time: rendering one item after another never waits for an item.
+fn never_waits<M: ItemMeaning, W: World>(world: &W, memo: &Memo<M>)
+    ensures { IsTold (fold_of (given_by (W.names world.now) (W.sight world.now) M.item memo.now) (W.fixed world.now)) }
+{}
