@@ -2,5 +2,6 @@ pub mod Cases
 pub mod Checking
 pub mod Making
 pub mod Onces
+pub mod OneBuilds
 pub mod Orders
 pub mod Turns

@@ -7,6 +7,7 @@ use Rattle.site_script.specs.declared.line.Line.TheVariants as line
 use Rattle.site_session.specs.Standing.{Standing, Holds}
 use Rattle.site_session.specs.Session.{Given, Answers, Run, event_of, step}
 use Rattle.site_session.specs.Replies.{AllLeave, LineLeaves}
+use Rattle.site_session.specs.Tallied.{Effects, effects}
 use Rattle.site_session.specs.Bytes.{reply_bytes}
 use Rattle.site_session.specs.declared.reply.Reply.{Reply}
 use Rattle.site_session.specs.declared.reply.Reply.TheVariants.{Scanned, ScanFailed, Faulty, Fine, Absent, Built, Marked, Unlisted, BadLine, Silent}
@@ -22,9 +23,9 @@ holds_first first told output none is = subst (λ b. Holds told b output) (sym n
 standing_is : (given : Given) (old new : Standing) (number : ℕ) (at : Line) (reply : Reply) → Answers given old number at reply new → new ≡ (step given old number at (event_of reply)).0
 standing_is given old new number at reply answers = ap (λ (p : Standing × Reply). p.0) (sym answers)
 
-leaves_by : {D : Type 0} (contents : D → Option Files) (given : Given) (old new : Standing) (number : ℕ) (at : Line) (reply : Reply) (was now : D) → Answers given old number at reply new → LineLeaves contents old reply new.belief was now
-    → LineLeaves contents old reply (step given old number at (event_of reply)).0.belief was now
-leaves_by contents given old new number at reply was now answers leaves = subst (λ (s : Standing). LineLeaves contents old reply s.belief was now) (standing_is given old new number at reply answers) leaves
+leaves_by : {D : Type 0} (contents : D → Option Files) (given : Given) (old new : Standing) (number : ℕ) (at : Line) (reply : Reply) (was now : Effects D) → Answers given old number at reply new → LineLeaves contents old at reply new.belief was now
+    → LineLeaves contents old at reply (step given old number at (event_of reply)).0.belief was now
+leaves_by contents given old new number at reply was now answers leaves = subst (λ (s : Standing). LineLeaves contents old at reply s.belief was now) (standing_is given old new number at reply answers) leaves
 
 alone : (reply : Reply) → ((count : ℕ) → reply ≡ Scanned count → ⊥) → once_lines (reply ∷ []) ≡ line.Scan ∷ []
 alone (Scanned count) other = absurd (other count refl)
@@ -38,8 +39,8 @@ alone Unlisted other = refl
 alone (BadLine number kind) other = refl
 alone Silent other = refl
 
-pub whole_one : {D : Type 0} (contents : D → Option Files) (given : Given) (first last : Standing) (before : List ℕ) (after : Option (List ℕ)) (was now : D) (status : Status) (reply : Reply)
-    → ((count : ℕ) → reply ≡ Scanned count → ⊥) → Answers given first 1 line.Scan reply last → LineLeaves contents first reply last.belief was now → after ≡ Some (before ++ reply_bytes given.why reply) → Holds (contents now) last.belief given.output
+pub whole_one : {D : Type 0} (contents : D → Option Files) (given : Given) (first last : Standing) (before : List ℕ) (after : Option (List ℕ)) (was now : Effects D) (status : Status) (reply : Reply)
+    → ((count : ℕ) → reply ≡ Scanned count → ⊥) → Answers given first 1 line.Scan reply last → LineLeaves contents first line.Scan reply last.belief was now → after ≡ Some (before ++ reply_bytes given.why reply) → Holds (contents now.output) last.belief given.output
     → status ≡ reply_status reply → OnceRun contents given first before after was now status
 whole_one contents given first last before after was now status reply other answers leaves bytes holds is = Whole (record {
   replies = reply ∷ [];
@@ -51,9 +52,9 @@ whole_one contents given first last before after was now status reply other answ
   status_is = is;
 })
 
-pub whole_two : {D : Type 0} (contents : D → Option Files) (given : Given) (first mid last : Standing) (before : List ℕ) (after : Option (List ℕ)) (was there now : D) (status : Status) (scanned reply : Reply) (count : ℕ)
-    → scanned ≡ Scanned count → Answers given first 1 line.Scan scanned mid → LineLeaves contents first scanned mid.belief was there → Answers given mid 2 line.Build reply last → LineLeaves contents mid reply last.belief there now
-    → after ≡ Some ((before ++ reply_bytes given.why scanned) ++ reply_bytes given.why reply) → Holds (contents now) last.belief given.output → status ≡ reply_status reply
+pub whole_two : {D : Type 0} (contents : D → Option Files) (given : Given) (first mid last : Standing) (before : List ℕ) (after : Option (List ℕ)) (was there now : Effects D) (status : Status) (scanned reply : Reply) (count : ℕ)
+    → scanned ≡ Scanned count → Answers given first 1 line.Scan scanned mid → LineLeaves contents first line.Scan scanned mid.belief was there → Answers given mid 2 line.Build reply last → LineLeaves contents mid line.Build reply last.belief there now
+    → after ≡ Some ((before ++ reply_bytes given.why scanned) ++ reply_bytes given.why reply) → Holds (contents now.output) last.belief given.output → status ≡ reply_status reply
     → OnceRun contents given first before after was now status
 whole_two contents given first mid last before after was there now status scanned reply count is_scanned scans scan_leaves answers leaves bytes holds is = Whole (record {
   replies = Scanned count ∷ reply ∷ [];
@@ -69,8 +70,8 @@ whole_two contents given first mid last before after was there now status scanne
   status_is = is;
 })
 
-pub cut_one : {D : Type 0} (contents : D → Option Files) (given : Given) (first mid : Standing) (before part : List ℕ) (after : Option (List ℕ)) (was now : D) (status : Status)
-    → mid ≡ first → Stopped contents given mid 1 line.Scan was now part → after ≡ Some (before ++ part) → IsCut status part
+pub cut_one : {D : Type 0} (contents : D → Option Files) (given : Given) (first mid : Standing) (before part : List ℕ) (after : Option (List ℕ)) (was now : Effects D) (status : Status)
+    → mid ≡ first → Stopped (status ≡ Memory) contents given mid 1 line.Scan was now part → after ≡ Some (before ++ part) → IsCut status part
     → OnceRun contents given first before after was now status
 cut_one contents given first mid before part after was now status same stopped bytes is = CutShort (record {
   done = [];
@@ -86,8 +87,8 @@ cut_one contents given first mid before part after was now status same stopped b
   bytes = bytes;
 }) is
 
-pub cut_two : {D : Type 0} (contents : D → Option Files) (given : Given) (first mid : Standing) (before part : List ℕ) (after : Option (List ℕ)) (was there now : D) (status : Status) (scanned : Reply) (count : ℕ)
-    → scanned ≡ Scanned count → Answers given first 1 line.Scan scanned mid → LineLeaves contents first scanned mid.belief was there → Stopped contents given mid 2 line.Build there now part
+pub cut_two : {D : Type 0} (contents : D → Option Files) (given : Given) (first mid : Standing) (before part : List ℕ) (after : Option (List ℕ)) (was there now : Effects D) (status : Status) (scanned : Reply) (count : ℕ)
+    → scanned ≡ Scanned count → Answers given first 1 line.Scan scanned mid → LineLeaves contents first line.Scan scanned mid.belief was there → Stopped (status ≡ Memory) contents given mid 2 line.Build there now part
     → after ≡ Some ((before ++ reply_bytes given.why scanned) ++ part) → IsCut status part
     → OnceRun contents given first before after was now status
 cut_two contents given first mid before part after was there now status scanned count is_scanned answers leaves stopped bytes is = CutShort (record {
@@ -105,8 +106,8 @@ cut_two contents given first mid before part after was there now status scanned 
 }) is
 
 -- a run that came to nothing, for want of memory
-pub cut_none : {D : Type 0} (contents : D → Option Files) (given : Given) (first : Standing) (before : List ℕ) (after : Option (List ℕ)) (out : D) (status : Status)
-    → first.belief ≡ None → contents out ≡ Some given.output → after ≡ Some before → status ≡ Memory → OnceRun contents given first before after out out status
+pub cut_none : {D : Type 0} (contents : D → Option Files) (given : Given) (first : Standing) (before : List ℕ) (after : Option (List ℕ)) (out : Effects D) (status : Status)
+    → first.belief ≡ None → contents out.output ≡ Some given.output → after ≡ Some before → status ≡ Memory → OnceRun contents given first before after out out status
 cut_none contents given first before after out status none is bytes ends =
-    cut_one contents given first first before [] after out out status refl (inl (record { kept = refl; output = holds_first first (contents out) given.output none is; nothing = refl })) (bytes ∙ ap Some (sym (append-nil before)))
+    cut_one contents given first first before [] after out out status refl (inl (record { memory = ends; kept = refl; output = holds_first first (contents out.output) given.output none is; nothing = refl })) (bytes ∙ ap Some (sym (append-nil before)))
     (record { cases = inr ends; memory = λ _. refl })

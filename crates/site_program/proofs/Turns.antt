@@ -8,6 +8,7 @@ use Rattle.std.proofs.lemmas.List.Elements.{All-nil, All-push}
 use Rattle.std.proofs.lemmas.List.Sums.{sum_by-append}
 use Rattle.site_base.specs.Places.{Files}
 use Rattle.site_base.specs.declared.faults.SiteFault.{SiteFault}
+use Rattle.site_base.specs.declared.item_name.ItemName.{ItemName}
 use Rattle.source_tree.specs.Put.{put_refusal}
 use Rattle.source_tree.specs.Scan.{scan_fault}
 use Rattle.source_tree.specs.declared.put_error.PutError.{PutError}
@@ -22,6 +23,8 @@ use Rattle.site_script.specs.declared.line.ScriptKind.{ScriptKind}
 use Rattle.site_session.specs.Standing.{Standing, Holds}
 use Rattle.site_session.specs.declared.output.Output.{Output}
 use Rattle.site_session.specs.Replies.{AllLeave, LineLeaves, has_called_output}
+use Rattle.site_session.specs.Rounds.{in_any_order}
+use Rattle.site_session.specs.Tallied.{Effects, LineTallied, effects}
 use Rattle.site_session.specs.Session.{Given, Answers, Run, Nothing, event_of, step, put, scan, build, build_reply, build_tree, failed_in, full_now, plan, rendered_now, source_failures, output_failures}
 use Rattle.site_session.specs.Bytes.{reply_bytes, written}
 use Rattle.site_session.specs.declared.reply.Reply.{Reply}
@@ -103,13 +106,26 @@ bad_same given old new number line.Eof bad kind e = let r = reply_is e in absurd
 bad_same given old new number line.Failed bad kind e = let r = reply_is e in absurd (cc (r))
 bad_same given old new number line.Memory bad kind e = let r = reply_is e in absurd (cc (r))
 
-pub record Turned {D : Type 0} (contents : D → Option Files) (given : Given) (old : Standing) (number : ℕ) (at : Line) (before : List ℕ) (new : Standing) (after : Option (List ℕ)) (was now : D) (counts : Counts) (result : Option Status) : Type 0 where
+-- and renders nothing
+bad_tally : (given : Given) (old new : Standing) (number : ℕ) (at : Line) (bad : ℕ) (kind : ScriptKind) → Answers given old number at (BadLine bad kind) new → (before after : List ItemName) → LineTallied in_any_order old at before after → after ≡ before
+bad_tally given old new number line.Build bad kind e before after t = absurd (bad_build given (rendered_now old) new bad kind (full_now old) e)
+bad_tally given old new number line.Scan bad kind e before after t = t
+bad_tally given old new number (line.Put path bytes) bad kind e before after t = t
+bad_tally given old new number (line.Delete path) bad kind e before after t = t
+bad_tally given old new number (line.Time seconds) bad kind e before after t = t
+bad_tally given old new number (line.Bad at' kind') bad kind e before after t = t
+bad_tally given old new number line.End bad kind e before after t = t
+bad_tally given old new number line.Eof bad kind e before after t = t
+bad_tally given old new number line.Failed bad kind e before after t = t
+bad_tally given old new number line.Memory bad kind e before after t = t
+
+pub record Turned {D : Type 0} (contents : D → Option Files) (given : Given) (old : Standing) (number : ℕ) (at : Line) (before : List ℕ) (new : Standing) (after : Option (List ℕ)) (was now : Effects D) (counts : Counts) (result : Option Status) : Type 0 where
   pub next : IfNone result (GoesOn contents given old number at before new after was now counts)
   pub ends_at : IfSome result (λ s. EndsAt contents given old number at before new after was now s)
 
-pub turned : {D : Type 0} (contents : D → Option Files) (given : Given) (old : Standing) (number : ℕ) (at : Line) (before : List ℕ) (new : Standing) (after : Option (List ℕ)) (was now : D) (counts : Counts) (reply : Reply)
+pub turned : {D : Type 0} (contents : D → Option Files) (given : Given) (old : Standing) (number : ℕ) (at : Line) (before : List ℕ) (new : Standing) (after : Option (List ℕ)) (was now : Effects D) (counts : Counts) (reply : Reply)
     → (at ≡ line.End → ⊥) → (at ≡ line.Eof → ⊥) → IsRead at
-    → Answers given old number at reply new → after ≡ Some (before ++ reply_bytes given.why reply) → Holds (contents now) new.belief given.output → LineLeaves contents old reply new.belief was now → Counted counts (reply ∷ [])
+    → Answers given old number at reply new → after ≡ Some (before ++ reply_bytes given.why reply) → Holds (contents now.output) new.belief given.output → LineLeaves contents old at reply new.belief was now → Counted counts (reply ∷ [])
     → Turned contents given old number at before new after was now counts (bad_status reply)
 turned contents given old number at before new after was now counts reply end eof read answers bytes holds leaves counted = by (outcome reply)
   where
@@ -125,16 +141,22 @@ turned contents given old number at before new after was now counts reply end eo
         answers = subst (λ (r : Reply). Answers given old number at r new) is answers;
         bytes = bytes ∙ ap (λ (r : Reply). Some (before ++ reply_bytes given.why r)) is;
         output = holds;
-        same = leaves.untouched (ap has_called_output is);
+        same = λ i. record { output = leaves.untouched (ap has_called_output is) i; tally = bad_tally given old new number at bad kind (subst (λ (r : Reply). Answers given old number at r new) is answers) was.tally now.tally leaves.tallied i };
       };
     })
 
-pub halts : {D : Type 0} (contents : D → Option Files) (given : Given) (old : Standing) (number : ℕ) (at : Line) (before part : List ℕ) (new : Standing) (after : Option (List ℕ)) (was now : D) (s : Status)
-    → IsRead at → Stopped contents given old number at was now part → after ≡ Some (before ++ part) → IsCut s part → EndsAt contents given old number at before new after was now s
+-- what tells want of memory of a line tells it of the run
+pub stopped_as : {short long : Type 0} {D : Type 0} {contents : D → Option Files} {given : Given} {old : Standing} {number : ℕ} {at : Line} {before after : Effects D} {part : List ℕ}
+    → (short → long) → Stopped short contents given old number at before after part → Stopped long contents given old number at before after part
+stopped_as f (inl none) = inl (record { memory = f none.memory; kept = none.kept; output = none.output; nothing = none.nothing })
+stopped_as f (inr half) = inr half
+
+pub halts : {D : Type 0} (contents : D → Option Files) (given : Given) (old : Standing) (number : ℕ) (at : Line) (before part : List ℕ) (new : Standing) (after : Option (List ℕ)) (was now : Effects D) (s : Status)
+    → IsRead at → Stopped (s ≡ status.Memory) contents given old number at was now part → after ≡ Some (before ++ part) → IsCut s part → EndsAt contents given old number at before new after was now s
 halts contents given old number at before part new after was now s read stopped bytes cut =
     elim cut.cases [
-      | inl e ↦ subst (λ (x : Status). EndsAt contents given old number at before new after was now x) (sym e) (inr (read, (part, stopped, bytes, subst (λ (x : Status). IsCut x part) e cut)))
-      | inr e ↦ subst (λ (x : Status). EndsAt contents given old number at before new after was now x) (sym e) (inr (read, (part, stopped, bytes, subst (λ (x : Status). IsCut x part) e cut)))
+      | inl e ↦ subst (λ (x : Status). EndsAt contents given old number at before new after was now x) (sym e) (inr (read, (part, subst (λ (x : Status). Stopped (x ≡ status.Memory) contents given old number at was now part) e stopped, bytes, subst (λ (x : Status). IsCut x part) e cut)))
+      | inr e ↦ subst (λ (x : Status). EndsAt contents given old number at before new after was now x) (sym e) (inr (read, (part, subst (λ (x : Status). Stopped (x ≡ status.Memory) contents given old number at was now part) e stopped, bytes, subst (λ (x : Status). IsCut x part) e cut)))
     ]
 
 -- one line more
@@ -159,14 +181,14 @@ run_more given old mid new n k (l ∷ lines) (r ∷ replies) at reply is run ans
 run_more given old mid new n k [] (r ∷ replies) at reply is run answers = absurd run
 run_more given old mid new n k (l ∷ lines) [] at reply is run answers = absurd run
 
-leave_more : {D : Type 0} (contents : D → Option Files) (given : Given) (old mid new : Standing) (n k : ℕ) (lines : List Line) (replies : List Reply) (at : Line) (reply : Reply) (first there last : D) → k ≡ n + length lines
-    → Run given old n lines replies mid → AllLeave contents given old n lines replies first there → Answers given mid (line_number k) at reply new → LineLeaves contents mid reply new.belief there last
+leave_more : {D : Type 0} (contents : D → Option Files) (given : Given) (old mid new : Standing) (n k : ℕ) (lines : List Line) (replies : List Reply) (at : Line) (reply : Reply) (first there last : Effects D) → k ≡ n + length lines
+    → Run given old n lines replies mid → AllLeave contents given old n lines replies first there → Answers given mid (line_number k) at reply new → LineLeaves contents mid at reply new.belief there last
     → AllLeave contents given old n (lines ++ at ∷ []) (replies ++ reply ∷ []) first last
 leave_more contents given old mid new n k [] [] at reply first there last is run leave answers leaves =
     let same : k ≡ n = omega arith in
     let here : Answers given old (line_number n) at reply new = subst (λ (s : Standing). Answers given s (line_number n) at reply new) run (subst (λ (m : ℕ). Answers given mid (line_number m) at reply new) same answers) in
     let belief : new.belief ≡ (step given old (line_number n) at (event_of reply)).0.belief = ap (λ (p : Standing × Reply). p.0.belief) (sym here) in
-    (last, subst (λ (b : Option Belief). LineLeaves contents old reply b first last) belief (subst (λ (s : Standing). LineLeaves contents s reply new.belief first last) run (subst (λ x. LineLeaves contents mid reply new.belief x last) leave leaves)), refl)
+    (last, subst (λ (b : Option Belief). LineLeaves contents old at reply b first last) belief (subst (λ (s : Standing). LineLeaves contents s at reply new.belief first last) run (subst (λ x. LineLeaves contents mid at reply new.belief x last) leave leaves)), refl)
 leave_more contents given old mid new n k (l ∷ lines) (r ∷ replies) at reply first there last is run leave answers leaves =
     let same : k ≡ (n + 1) + length lines = omega arith in
     let next : run.0 ≡ (step given old (line_number n) l (event_of r)).0 = ap (λ (p : Standing × Reply). p.0) (sym run.1) in (
@@ -242,7 +264,7 @@ bad_ends reply = by (outcome reply)
 abbrev Reads : ℕ → Option (List ℕ) → Option (List ℕ) → Line → Type 0
 Reads number unread rest at = (left : List ℕ) → unread ≡ Some left → ReadsFirst (line_number number) left at rest
 
-module _ {D : Type 0} (contents : D → Option Files) (given : Given) (first : Standing) (text before : List ℕ) (now : Standing) (count number : ℕ) (unread rest after : Option (List ℕ)) (start there : D) (counts : Counts) (source output : ℕ) (at : Line)
+module _ {D : Type 0} (contents : D → Option Files) (given : Given) (first : Standing) (text before : List ℕ) (now : Standing) (count number : ℕ) (unread rest after : Option (List ℕ)) (start there : Effects D) (counts : Counts) (source output : ℕ) (at : Line)
     (so : SoFar contents given first text before now count unread after start there counts) (source_later : counts.source_now ≤ source) (output_later : counts.output_now ≤ output) (reads : Reads count unread rest at) (number_is : number ≡ line_number count) where
   same_number : line_number count ≡ line_number (length so.lines)
   same_number = omega (arith, so.number_is)
@@ -289,7 +311,7 @@ module _ {D : Type 0} (contents : D → Option Files) (given : Given) (first : S
   answers_here : {new : Standing} {reply : Reply} → Answers given now number at reply new → Answers given now (line_number (length so.lines)) at reply new
   answers_here {new} {reply} answers = subst (λ (n : ℕ). Answers given now n at reply new) numbered answers
 
-  longer : (new : Standing) (after' : Option (List ℕ)) (last : D) (g : GoesOn contents given now number at (before ++ written given.why so.replies) new after' there last (following counts source output)) → IsRead at → Holds (contents last) new.belief given.output
+  longer : (new : Standing) (after' : Option (List ℕ)) (last : Effects D) (g : GoesOn contents given now number at (before ++ written given.why so.replies) new after' there last (following counts source output)) → IsRead at → Holds (contents last.output) new.belief given.output
       → Going contents given first text before (so.lines ++ at ∷ []) (so.replies ++ g.reply ∷ []) new (next_of so.lines so.left).1 after' start last (moved counts source output)
   longer new after' last g read holds = record {
     gone = record {
@@ -304,7 +326,7 @@ module _ {D : Type 0} (contents : D → Option Files) (given : Given) (first : S
     counted = counted_more counts source output so.replies g.reply so.going.counted g.counted;
   }
 
-  pub session_more : (new : Standing) (after' : Option (List ℕ)) (last : D) → ((w : List ℕ) → after ≡ Some w → GoesOn contents given now number at w new after' there last (following counts source output)) → Holds (contents last) new.belief given.output
+  pub session_more : (new : Standing) (after' : Option (List ℕ)) (last : Effects D) → ((w : List ℕ) → after ≡ Some w → GoesOn contents given now number at w new after' there last (following counts source output)) → Holds (contents last.output) new.belief given.output
       → SoFar contents given first text before new number rest after' start last (moved counts source output)
   session_more new after' last goes holds =
       let g = goes (before ++ written given.why so.replies) so.going.bytes in
@@ -322,25 +344,25 @@ module _ {D : Type 0} (contents : D → Option Files) (given : Given) (first : S
   still = counted_later counts source output so.replies so.going.counted source_later output_later
 
   -- the lines so far, where the output is the same value
-  same_gone : (last : D) → last ≡ there → Gone contents given first text so.lines so.replies now so.left start last
-  same_gone last same = subst (λ (x : D). Gone contents given first text so.lines so.replies now so.left start x) (sym same) so.going.gone
+  same_gone : (last : Effects D) → last ≡ there → Gone contents given first text so.lines so.replies now so.left start last
+  same_gone last same = subst (λ (x : Effects D). Gone contents given first text so.lines so.replies now so.left start x) (sym same) so.going.gone
 
-  same_going : (after' : Option (List ℕ)) (last : D) → Undone contents given now (before ++ written given.why so.replies) after' there last → Going contents given first text before so.lines so.replies now so.left after' start last (moved counts source output)
+  same_going : (after' : Option (List ℕ)) (last : Effects D) → Undone contents given now (before ++ written given.why so.replies) after' there last → Going contents given first text before so.lines so.replies now so.left after' start last (moved counts source output)
   same_going after' last u = record { gone = same_gone last u.same; bytes = u.bytes; output = u.output; counted = still }
 
-  cut_at : (part : List ℕ) (after' : Option (List ℕ)) (last : D) (read : Line) (s : Status) → IsFirstOr (next_of so.lines so.left) so.left read rest → Stopped contents given now (line_number (length so.lines)) (next_of so.lines so.left).0 there last part
+  cut_at : (part : List ℕ) (after' : Option (List ℕ)) (last : Effects D) (read : Line) (s : Status) → IsFirstOr (next_of so.lines so.left) so.left read rest → Stopped (s ≡ status.Memory) contents given now (line_number (length so.lines)) (next_of so.lines so.left).0 there last part
       → after' ≡ Some ((before ++ written given.why so.replies) ++ part) → IsCut s part
       → SessionRun contents given first text before rest after' start last (moved counts source output) s
   cut_at part after' last read s is stopped bytes cut =
       AtLine so.lines so.replies now so.left part there read so.going.gone is stopped (bytes ∙ ap Some (append_assoc before (written given.why so.replies) part)) still cut
 
-  halted : (after' : Option (List ℕ)) (last : D) (s : Status) → Halted contents given now number at (before ++ written given.why so.replies) after' there last s → SessionRun contents given first text before rest after' start last (moved counts source output) s
+  halted : (after' : Option (List ℕ)) (last : Effects D) (s : Status) → Halted contents given now number at (before ++ written given.why so.replies) after' there last s → SessionRun contents given first text before rest after' start last (moved counts source output) s
   halted after' last s (inl h) =
-      cut_at [] after' last at s (no_memory h.0) (inl (record { kept = ap contents h.2.same; output = h.2.output; nothing = refl })) (h.2.bytes ∙ ap Some (sym (append-nil (before ++ written given.why so.replies)))) (record { cases = inr h.1; memory = λ _. refl })
+      cut_at [] after' last at s (no_memory h.0) (inl (record { memory = h.1; kept = ap (λ (x : Effects D). contents x.output) h.2.same; output = h.2.output; nothing = refl })) (h.2.bytes ∙ ap Some (sym (append-nil (before ++ written given.why so.replies)))) (record { cases = inr h.1; memory = λ _. refl })
   halted after' last s (inr h) =
-      cut_at h.1.0 after' last at s (inr (is_next h.0)) (subst (λ (l : Line). Stopped contents given now (line_number (length so.lines)) l there last h.1.0) (sym (is_next h.0).is) (subst (λ (n : ℕ). Stopped contents given now n at there last h.1.0) numbered h.1.1)) h.1.2 h.1.3
+      cut_at h.1.0 after' last at s (inr (is_next h.0)) (subst (λ (l : Line). Stopped (s ≡ status.Memory) contents given now (line_number (length so.lines)) l there last h.1.0) (sym (is_next h.0).is) (subst (λ (n : ℕ). Stopped (s ≡ status.Memory) contents given now n at there last h.1.0) numbered h.1.1)) h.1.2 h.1.3
 
-  bad_at : (after' : Option (List ℕ)) (last : D) (bad : ℕ) (kind : ScriptKind) (new : Standing) → TellsBad contents given now number at (before ++ written given.why so.replies) new after' there last bad kind
+  bad_at : (after' : Option (List ℕ)) (last : Effects D) (bad : ℕ) (kind : ScriptKind) (new : Standing) → TellsBad contents given now number at (before ++ written given.why so.replies) new after' there last bad kind
       → SessionRun contents given first text before rest after' start last (moved counts source output) (status.Script bad kind)
   bad_at after' last bad kind new t =
       let same = bad_same given now new number at bad kind t.answers in
@@ -348,9 +370,9 @@ module _ {D : Type 0} (contents : D → Option Files) (given : Given) (first : S
       let here = answers_here (subst (λ (s : Standing). Answers given now number at (BadLine bad kind) s) same t.answers) in
       AtBad so.lines so.replies now so.left bad kind (same_gone last t.same) (subst (λ (l : Line). IsFirst (next_of so.lines so.left) so.left l rest) (sym is.is) is)
       (subst (λ (l : Line). Answers given now (line_number (length so.lines)) l (BadLine bad kind) now) (sym is.is) here)
-      (t.bytes ∙ ap Some (append_assoc before (written given.why so.replies) (reply_bytes given.why (BadLine bad kind)))) (subst (λ (s : Standing). Holds (contents last) s.belief given.output) same t.output) still refl
+      (t.bytes ∙ ap Some (append_assoc before (written given.why so.replies) (reply_bytes given.why (BadLine bad kind)))) (subst (λ (s : Standing). Holds (contents last.output) s.belief given.output) same t.output) still refl
 
-  pub session_ends : (new : Standing) (after' : Option (List ℕ)) (last : D) (s : Status) → ((w : List ℕ) → after ≡ Some w → EndsAt contents given now number at w new after' there last s)
+  pub session_ends : (new : Standing) (after' : Option (List ℕ)) (last : Effects D) (s : Status) → ((w : List ℕ) → after ≡ Some w → EndsAt contents given now number at w new after' there last s)
       → SessionRun contents given first text before rest after' start last (moved counts source output) s
   session_ends new after' last s at_end = by s (at_end (before ++ written given.why so.replies) so.going.bytes)
     where
@@ -378,13 +400,13 @@ module _ {D : Type 0} (contents : D → Option Files) (given : Given) (first : S
       by (status.OutFault count) e = absurd e
 
 -- before the first line
-pub gone_none : {D : Type 0} (contents : D → Option Files) (given : Given) (first : Standing) (text : List ℕ) (start : D) → Gone contents given first text [] [] first text start start
+pub gone_none : {D : Type 0} (contents : D → Option Files) (given : Given) (first : Standing) (text : List ℕ) (start : Effects D) → Gone contents given first text [] [] first text start start
 gone_none contents given first text start = record { taken = refl; run = refl; leave = refl; none_ends = All-nil (λ (l : Line). ends l ≡ false); none_bad = All-nil (λ (r : Reply). bad_status r ≡ None) }
 
 -- a session that came to nothing, for want of memory
-pub session_none : {D : Type 0} (contents : D → Option Files) (given : Given) (first : Standing) (text before : List ℕ) (unread after : Option (List ℕ)) (out : D) (source output : ℕ) (s : Status)
-    → Holds (contents out) first.belief given.output → unread ≡ Some text → after ≡ Some before → s ≡ status.Memory
+pub session_none : {D : Type 0} (contents : D → Option Files) (given : Given) (first : Standing) (text before : List ℕ) (unread after : Option (List ℕ)) (out : Effects D) (source output : ℕ) (s : Status)
+    → Holds (contents out.output) first.belief given.output → unread ≡ Some text → after ≡ Some before → s ≡ status.Memory
     → SessionRun contents given first text before unread after out out (record { source_first = source; source_now = source; output_first = output; output_now = output }) s
 session_none contents given first text before unread after out source output s holds left bytes ends =
-    AtLine [] [] first text [] out line.Memory (gone_none contents given first text out) (inl (refl, none_spares (line_number 0) text unread left)) (inl (record { kept = refl; output = holds; nothing = refl }))
+    AtLine [] [] first text [] out line.Memory (gone_none contents given first text out) (inl (refl, none_spares (line_number 0) text unread left)) (inl (record { memory = ends; kept = refl; output = holds; nothing = refl }))
     (bytes ∙ ap Some (sym (append-nil before))) (counted_none source output) (record { cases = inr ends; memory = λ _. refl })

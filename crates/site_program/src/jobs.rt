@@ -5,6 +5,7 @@ ghost use Rattle.site_base.specs.Places.{Files};
 ghost use Rattle.site_script.specs.Line.{IsInTime, is_moment};
 ghost use Rattle.site_session.specs.Standing.{Holds};
 ghost use Rattle.site_session.specs.Session.{Given, start};
+ghost use Rattle.site_session.specs.Tallied.{effects};
 ghost use Rattle.site_words.specs.declared.faults.UsageKind.{UsageKind};
 ghost use Rattle.site_words.specs.declared.orders.Options.{Options};
 ghost use Rattle.site_words.specs.declared.orders.Order.TheVariants as order;
@@ -14,7 +15,7 @@ ghost use Rattle.site_program.specs.Sessions.{SessionRun, EndsAt, GoesOn, EndsSe
 ghost use Rattle.site_program.specs.Usage.{usage_line};
 
 use crate::line::do_line;
-use crate::once::scan_and_build;
+use crate::one_build::build_by_crew;
 use crate::status::Status;
 use crate::usage::{TopCall, read_order, tell_usage};
 use out_tree::OutTree;
@@ -22,23 +23,25 @@ use page_render::PageMeaning;
 use read_record::{Renderer, Tally};
 use site_base::{ByteSink, ByteSource, Words};
 use site_script::{Line, ScriptReader, next_line};
-use site_session::{InOrder, Reply, Rounds, Session};
+use site_session::{Crew, Reply, Session};
 use site_words::{Options, Order, WordsError};
 use source_tree::SourceTree;
 use std::alloc::Global;
 use std::sync::Wait;
+use std::thread::Threads;
 
 /// The commands `session`, which does the lines of the script on the input, and `build`, which is the script `scan`,
-/// `build` and leaves the build out where the scan answers no number.
+/// `build` and leaves the build out where the scan answers no number. Each build renders by as many threads as the words order,
+/// and answers what one thread would.
 ///
-/// It waits for its input, which may have no end.
+/// It waits for its input, which may have no end, and for the threads that it started.
 pub fn run_jobs<
-    H: Wait,
+    H: Threads + Wait + Sync,
     S: SourceTree,
     O: OutTree,
     I: ByteSource,
     K: ByteSink,
-    R: Renderer<Meaning = PageMeaning>,
+    R: Renderer<Meaning = PageMeaning> + Sync,
 >(
     rt: &H,
     alloc: Global,
@@ -52,10 +55,11 @@ pub fn run_jobs<
     tally: &mut Tally,
 ) -> Status
     // A session does the lines of its script one after another, and takes no byte behind a line before it is done. It tells what it
-    // did; each build leaves the output as its reply says, and no other line calls it.
+    // did; each build leaves the output as its reply says, and no other line calls it. The tally gets the names of the items that builds render, each
+    // once a build.
     ensures session { (given : Given) (options : Options) (text before : List ℕ) → jobs_order words.now moment ≡ Ok (order.Session options) → given.why ≡ options.why →
         S.files source.old ≡ Some given.source → O.contents out.old ≡ Some given.output → I.left input.old ≡ Some text → K.taken sink.old ≡ Some before →
-        SessionRun O.contents given (start options.settings moment) text before (I.left input.new) (K.taken sink.new) out.old out.new
+        SessionRun O.contents given (start options.settings moment) text before (I.left input.new) (K.taken sink.new) (effects out.old tally.old) (effects out.new tally.new)
         (record { source_first = S.failures source.old; source_now = S.failures source.new; output_first = O.failures out.old; output_now = O.failures out.new }) result }
     ensures session_status { (options : Options) → jobs_order words.now moment ≡ Ok (order.Session options) → EndsSession result }
 
@@ -70,7 +74,7 @@ pub fn run_jobs<
     // and how the run is one of a session.
     ensures build_run { (given : Given) (options : Options) (before : List ℕ) → jobs_order words.now moment ≡ Ok (order.Build options) → given.why ≡ options.why →
         S.files source.old ≡ Some given.source → O.contents out.old ≡ Some given.output → K.taken sink.old ≡ Some before →
-        OnceRun O.contents given (start options.settings moment) before (K.taken sink.new) out.old out.new result }
+        OnceRun O.contents given (start options.settings moment) before (K.taken sink.new) (effects out.old tally.old) (effects out.new tally.new) result }
 
     // Whatever the ends tell: a build leaves the input alone, and the output too where it did not come to build,
     ensures build_input { (options : Options) → jobs_order words.now moment ≡ Ok (order.Build options) → input.new ≡ input.old }
@@ -89,15 +93,24 @@ pub fn run_jobs<
     ensures input_fault { result ≡ Status.InputFault → Rose (I.failures input.old) (I.failures input.new) }
     ensures sink_fault { result ≡ Status.SinkFault → Rose (K.failures sink.old) (K.failures sink.new) }
 {
-    let rounds = InOrder::new(renderer);
     match read_order(alloc, words, TopCall::Jobs, moment) {
         Ok(order) => match order {
             Order::Build(options) => {
-                scan_and_build(alloc, options, moment, source, out, sink, &rounds, tally)
+                let crew = Crew {
+                    rt,
+                    jobs: options.jobs,
+                    renderer,
+                };
+                build_by_crew(alloc, options, moment, source, out, sink, &crew, tally)
             }
             Order::Session(options) => {
+                let crew = Crew {
+                    rt,
+                    jobs: options.jobs,
+                    renderer,
+                };
                 run_session(
-                    rt, alloc, options, moment, source, out, input, sink, &rounds, tally,
+                    alloc, options, moment, source, out, input, sink, &crew, tally,
                 )
             }
             _ => unreachable!(),
@@ -108,8 +121,14 @@ pub fn run_jobs<
 }
 
 // The script on the input.
-fn run_session<H: Wait, S: SourceTree, O: OutTree, I: ByteSource, K: ByteSink, B: Rounds>(
-    rt: &H,
+fn run_session<
+    H: Threads + Wait + Sync,
+    S: SourceTree,
+    O: OutTree,
+    I: ByteSource,
+    K: ByteSink,
+    R: Renderer<Meaning = PageMeaning> + Sync,
+>(
     alloc: Global,
     options: Options,
     moment: i64,
@@ -117,13 +136,14 @@ fn run_session<H: Wait, S: SourceTree, O: OutTree, I: ByteSource, K: ByteSink, B
     out: &mut O,
     input: &mut I,
     sink: &mut K,
-    rounds: &B,
+    crew: &Crew<'_, H, R>,
     tally: &mut Tally,
 ) -> Status
-    requires { is_moment moment ≡ true }
+    requires moment { is_moment moment ≡ true }
+    requires jobs { (1 ≤ crew.now.jobs) × (crew.now.jobs ≤ 64) }
     ensures run { (given : Given) (text before : List ℕ) → given.why ≡ options.why → S.files source.old ≡ Some given.source → O.contents out.old ≡ Some given.output →
         I.left input.old ≡ Some text → K.taken sink.old ≡ Some before →
-        SessionRun O.contents given (start options.settings moment) text before (I.left input.new) (K.taken sink.new) out.old out.new
+        SessionRun O.contents given (start options.settings moment) text before (I.left input.new) (K.taken sink.new) (effects out.old tally.old) (effects out.new tally.new)
         (record { source_first = S.failures source.old; source_now = S.failures source.new; output_first = O.failures out.old; output_now = O.failures out.new }) result }
     ensures status { EndsSession result }
     ensures input_fault { result ≡ Status.InputFault → Rose (I.failures input.old) (I.failures input.new) }
@@ -131,7 +151,6 @@ fn run_session<H: Wait, S: SourceTree, O: OutTree, I: ByteSource, K: ByteSink, B
 {
     let mut session = Session::open(alloc, options.settings, moment);
     do_lines(
-        rt,
         alloc,
         options.why,
         &mut session,
@@ -139,14 +158,20 @@ fn run_session<H: Wait, S: SourceTree, O: OutTree, I: ByteSource, K: ByteSink, B
         out,
         input,
         sink,
-        rounds,
+        crew,
         tally,
     )
 }
 
 // The lines on the input, one after another.
-fn do_lines<H: Wait, S: SourceTree, O: OutTree, I: ByteSource, K: ByteSink, B: Rounds>(
-    rt: &H,
+fn do_lines<
+    H: Threads + Wait + Sync,
+    S: SourceTree,
+    O: OutTree,
+    I: ByteSource,
+    K: ByteSink,
+    R: Renderer<Meaning = PageMeaning> + Sync,
+>(
     alloc: Global,
     why: bool,
     session: &mut Session,
@@ -154,19 +179,20 @@ fn do_lines<H: Wait, S: SourceTree, O: OutTree, I: ByteSource, K: ByteSink, B: R
     out: &mut O,
     input: &mut I,
     sink: &mut K,
-    rounds: &B,
+    crew: &Crew<'_, H, R>,
     tally: &mut Tally,
 ) -> Status
+    requires { (1 ≤ crew.now.jobs) × (crew.now.jobs ≤ 64) }
     ensures run { (given : Given) (text before : List ℕ) → given.why ≡ why → S.files source.old ≡ Some given.source → Holds (O.contents out.old) session.old.belief given.output →
         I.left input.old ≡ Some text → K.taken sink.old ≡ Some before →
-        SessionRun O.contents given session.old text before (I.left input.new) (K.taken sink.new) out.old out.new
+        SessionRun O.contents given session.old text before (I.left input.new) (K.taken sink.new) (effects out.old tally.old) (effects out.new tally.new)
         (record { source_first = S.failures source.old; source_now = S.failures source.new; output_first = O.failures out.old; output_now = O.failures out.new }) result }
     ensures status { EndsSession result }
     ensures input_fault { result ≡ Status.InputFault → Rose (I.failures input.old) (I.failures input.new) }
     ensures sink_fault { result ≡ Status.SinkFault → Rose (K.failures sink.old) (K.failures sink.new) }
 {
     let mut reader = ScriptReader::new();
-    'lines: for _ in rt.forever() {
+    'lines: for _ in crew.rt.forever() {
         let line = next_line(alloc, &mut reader, input);
         match turn(
             alloc,
@@ -177,7 +203,7 @@ fn do_lines<H: Wait, S: SourceTree, O: OutTree, I: ByteSource, K: ByteSink, B: R
             source,
             out,
             sink,
-            rounds,
+            crew,
             tally,
         ) {
             Some(status) => return status,
@@ -188,7 +214,13 @@ fn do_lines<H: Wait, S: SourceTree, O: OutTree, I: ByteSource, K: ByteSink, B: R
 }
 
 // Does what a line says; `None` where the session goes on.
-fn turn<S: SourceTree, O: OutTree, K: ByteSink, B: Rounds>(
+fn turn<
+    H: Threads + Wait + Sync,
+    S: SourceTree,
+    O: OutTree,
+    K: ByteSink,
+    R: Renderer<Meaning = PageMeaning> + Sync,
+>(
     alloc: Global,
     why: bool,
     session: &mut Session,
@@ -197,15 +229,16 @@ fn turn<S: SourceTree, O: OutTree, K: ByteSink, B: Rounds>(
     source: &mut S,
     out: &mut O,
     sink: &mut K,
-    rounds: &B,
+    crew: &Crew<'_, H, R>,
     tally: &mut Tally,
 ) -> Option<Status>
-    requires { IsInTime line }
+    requires line { IsInTime line }
+    requires jobs { (1 ≤ crew.now.jobs) × (crew.now.jobs ≤ 64) }
     ensures next { (given : Given) (before : List ℕ) → given.why ≡ why → S.files source.old ≡ Some given.source → Holds (O.contents out.old) session.old.belief given.output →
-        K.taken sink.old ≡ Some before → IfNone result (GoesOn O.contents given session.old number line before session.new (K.taken sink.new) out.old out.new
+        K.taken sink.old ≡ Some before → IfNone result (GoesOn O.contents given session.old number line before session.new (K.taken sink.new) (effects out.old tally.old) (effects out.new tally.new)
         (record { source_first = S.failures source.old; source_now = S.failures source.new; output_first = O.failures out.old; output_now = O.failures out.new })) }
     ensures ends { (given : Given) (before : List ℕ) → given.why ≡ why → S.files source.old ≡ Some given.source → Holds (O.contents out.old) session.old.belief given.output →
-        K.taken sink.old ≡ Some before → IfSome result (λ status. EndsAt O.contents given session.old number line before session.new (K.taken sink.new) out.old out.new status) }
+        K.taken sink.old ≡ Some before → IfSome result (λ status. EndsAt O.contents given session.old number line before session.new (K.taken sink.new) (effects out.old tally.old) (effects out.new tally.new) status) }
     ensures belief { (first : Files) → Holds (O.contents out.old) session.old.belief first → Holds (O.contents out.new) session.new.belief first }
     ensures status { IfSome result (λ status. EndsSession status) }
     ensures input { result ≡ Some Status.InputFault → line ≡ Line.Failed }
@@ -221,7 +254,7 @@ fn turn<S: SourceTree, O: OutTree, K: ByteSink, B: Rounds>(
         Line::Failed => Some(Status::InputFault),
         Line::Memory => Some(Status::Memory),
         line => match do_line(
-            alloc, why, session, number, line, source, out, sink, rounds, tally,
+            alloc, why, session, number, line, source, out, sink, crew, tally,
         ) {
             Ok(reply) => bad_status(reply),
             Err(stop) => Some(stop.status()),

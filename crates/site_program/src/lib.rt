@@ -6,6 +6,7 @@ mod jobs;
 mod line;
 mod make;
 mod once;
+mod one_build;
 mod status;
 mod std_sink;
 mod usage;

@@ -1,5 +1,5 @@
 // One line of a session, with its reply.
-ghost use Rattle.std.specs.Prelude.{◌≡◌, ◌+◌, ◌-◌, ◌^◌, ◌≤◌, ◌++◌, [], min, take, ℕ, List, Some, Err, IfOk, IfErr, false};
+ghost use Rattle.std.specs.Prelude.{◌≡◌, ◌+◌, ◌-◌, ◌^◌, ◌≤◌, ◌++◌, [], min, take, ℕ, List, Some, Err, IfOk, IfErr, OnOk, false};
 ghost use Rattle.site_base.specs.Places.{Files};
 ghost use Rattle.site_base.specs.Ends.{Rose};
 ghost use Rattle.site_script.specs.Line.{IsInTime};
@@ -7,19 +7,30 @@ ghost use Rattle.site_session.specs.Standing.{Holds};
 ghost use Rattle.site_session.specs.Session.{Given, Answers, output_failures, source_failures};
 ghost use Rattle.site_session.specs.Replies.{LeavesBy, has_called_output};
 ghost use Rattle.site_session.specs.Bytes.{reply_bytes};
+ghost use Rattle.site_session.specs.Rounds.{in_any_order};
+ghost use Rattle.site_session.specs.Tallied.{LineTallied, effects};
 ghost use Rattle.site_program.specs.Runs.{Stopped};
 
 use crate::status::Stop;
 use out_tree::OutTree;
-use read_record::Tally;
+use page_render::PageMeaning;
+use read_record::{Renderer, Tally};
 use site_base::{ByteSink, Memory};
 use site_script::Line;
-use site_session::{Reply, Rounds, Session};
+use site_session::{Crew, Reply, Session};
 use source_tree::SourceTree;
 use std::alloc::Global;
+use std::sync::Wait;
+use std::thread::Threads;
 
 // Does a line, and writes what is replied, with the reasons of a build where `why` asks for them.
-pub(crate) fn do_line<S: SourceTree, O: OutTree, K: ByteSink, B: Rounds>(
+pub(crate) fn do_line<
+    H: Threads + Wait + Sync,
+    S: SourceTree,
+    O: OutTree,
+    K: ByteSink,
+    R: Renderer<Meaning = PageMeaning> + Sync,
+>(
     alloc: Global,
     why: bool,
     session: &mut Session,
@@ -28,10 +39,11 @@ pub(crate) fn do_line<S: SourceTree, O: OutTree, K: ByteSink, B: Rounds>(
     source: &mut S,
     out: &mut O,
     sink: &mut K,
-    rounds: &B,
+    crew: &Crew<'_, H, R>,
     tally: &mut Tally,
 ) -> Result<Reply, Stop>
-    requires { IsInTime line }
+    requires line { IsInTime line }
+    requires jobs { (1 ≤ crew.now.jobs) × (crew.now.jobs ≤ 64) }
     ensures answers { (given : Given) → S.files source.old ≡ Some given.source → Holds (O.contents out.old) session.old.belief given.output →
         IfOk result (λ reply. Answers given session.old number line reply session.new) }
     ensures bytes { (before : List ℕ) → K.taken sink.old ≡ Some before → IfOk result (λ reply. K.taken sink.new ≡ Some (before ++ reply_bytes why reply)) }
@@ -39,11 +51,12 @@ pub(crate) fn do_line<S: SourceTree, O: OutTree, K: ByteSink, B: Rounds>(
     ensures leaves { (first : Files) → Holds (O.contents out.old) session.old.belief first →
         IfOk result (λ reply. LeavesBy session.old reply (O.contents out.old) (O.contents out.new) session.new.belief) }
     ensures untouched { IfOk result (λ reply. has_called_output reply ≡ false → out.new ≡ out.old) }
+    ensures tallied { OnOk result (LineTallied in_any_order session.old line tally.old tally.new) }
 
     // Where the run is cut short, the line was not done, or done without its whole reply.
     ensures stopped { (given : Given) (before : List ℕ) → given.why ≡ why → S.files source.old ≡ Some given.source →
         Holds (O.contents out.old) session.old.belief given.output → K.taken sink.old ≡ Some before →
-        IfErr result (λ stop. (part : List ℕ) × Stopped O.contents given session.old number line out.old out.new part
+        IfErr result (λ stop. (part : List ℕ) × Stopped (stop ≡ Stop.Memory) O.contents given session.old number line (effects out.old tally.old) (effects out.new tally.new) part
         × (K.taken sink.new ≡ Some (before ++ part)) × (stop ≡ Stop.Memory → part ≡ [])) }
 
     ensures source_same { S.files source.new ≡ S.files source.old }
@@ -54,7 +67,7 @@ pub(crate) fn do_line<S: SourceTree, O: OutTree, K: ByteSink, B: Rounds>(
     ensures sink_later { K.failures sink.old ≤ K.failures sink.new }
     ensures sink_cause { result ≡ Err Stop.Sink → Rose (K.failures sink.old) (K.failures sink.new) }
 {
-    let reply = match session.answer(alloc, number, line, source, out, rounds, tally) {
+    let reply = match session.answer(alloc, number, line, source, out, crew, tally) {
         Ok(reply) => reply,
         Err(Memory) => return Err(Stop::Memory),
     };

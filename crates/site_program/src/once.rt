@@ -1,9 +1,10 @@
 // One build from nothing.
-ghost use Rattle.std.specs.Prelude.{◌≡◌, ◌⊎◌, ◌++◌, ◌≤◌, ◌+◌, ◌-◌, ◌^◌, min, max, ℕ, List, Some, Ok, Err, true, false};
+ghost use Rattle.std.specs.Prelude.{◌≡◌, ◌⊎◌, ◌++◌, ◌≤◌, ◌+◌, ◌-◌, ◌^◌, min, max, ℕ, List, [], Some, Ok, Err, true, false};
 ghost use Rattle.site_base.specs.Ends.{Rose};
+ghost use Rattle.site_base.specs.declared.item_name.ItemName.{ItemName};
 ghost use Rattle.site_base.specs.declared.settings.Settings.{Settings};
-ghost use Rattle.site_script.specs.Line.{is_moment};
 ghost use Rattle.site_session.specs.Session.{Given, start};
+ghost use Rattle.site_session.specs.Tallied.{effects};
 ghost use Rattle.site_words.specs.declared.faults.UsageKind.{UsageKind};
 ghost use Rattle.site_words.specs.declared.orders.Order.TheVariants as order;
 ghost use Rattle.site_program.specs.Checks.{Checked, CheckTook, EndsAs, SaidBoth};
@@ -13,16 +14,14 @@ ghost use Rattle.site_program.specs.Once.{after_scan, once_order, Took, Untouche
 ghost use Rattle.site_program.specs.Usage.{usage_line};
 
 use crate::check::scan_and_check;
-use crate::line::do_line;
 use crate::make::make;
-use crate::status::{Status, status_of};
+use crate::one_build::build_one_by_one;
+use crate::status::Status;
 use crate::usage::{TopCall, read_order, tell_usage};
 use out_tree::OutTree;
 use page_render::PageRenderer;
 use read_record::Tally;
 use site_base::{ByteSink, Settings, Words};
-use site_script::Line;
-use site_session::{InOrder, Reply, Rounds, Session};
 use site_words::{Options, Order, WordsError};
 use source_tree::SourceTree;
 use std::alloc::Global;
@@ -47,10 +46,10 @@ pub fn run_once<S: SourceTree, O: OutTree, K: ByteSink>(
     ensures once_took { (given : Given) (settings : Settings) (before : List ℕ) → once_order words.now moment ≡ Ok (order.Once settings) → given.why ≡ false →
         S.files source.old ≡ Some given.source → O.contents out.old ≡ Some given.output → K.taken sink.old ≡ Some before →
         Took given (after_scan given (start settings moment)) before (K.taken sink.new) result }
-    // and that the run is one of a session over the script `scan`, `build`.
+    // and that the run is one of a session over the script `scan`, `build`, with a tally of its own.
     ensures once_run { (given : Given) (settings : Settings) (before : List ℕ) → once_order words.now moment ≡ Ok (order.Once settings) → given.why ≡ false →
         S.files source.old ≡ Some given.source → O.contents out.old ≡ Some given.output → K.taken sink.old ≡ Some before →
-        OnceRun O.contents given (start settings moment) before (K.taken sink.new) out.old out.new result }
+        (names : List ItemName) × OnceRun O.contents given (start settings moment) before (K.taken sink.new) (effects out.old []) (effects out.new names) result }
 
     // Of `check`: when each status comes,
     ensures check { (given : Given) (settings : Settings) → once_order words.now moment ≡ Ok (order.Check settings) →
@@ -93,9 +92,8 @@ pub fn run_once<S: SourceTree, O: OutTree, K: ByteSink>(
                     why: false,
                 };
                 let mut tally = Tally::new(alloc);
-                let rounds = InOrder::new(&renderer);
-                scan_and_build(
-                    alloc, options, moment, source, out, sink, &rounds, &mut tally,
+                build_one_by_one(
+                    alloc, options, moment, source, out, sink, &renderer, &mut tally,
                 )
             }
             Order::Check(settings) => {
@@ -106,68 +104,5 @@ pub fn run_once<S: SourceTree, O: OutTree, K: ByteSink>(
         },
         Err(WordsError::Usage(kind)) => tell_usage(alloc, kind, sink),
         Err(WordsError::Memory) => Status::Memory,
-    }
-}
-
-// The session over the script `scan`, `build`, where the build is left out if the scan answers no number.
-pub(crate) fn scan_and_build<S: SourceTree, O: OutTree, K: ByteSink, B: Rounds>(
-    alloc: Global,
-    options: Options,
-    moment: i64,
-    source: &mut S,
-    out: &mut O,
-    sink: &mut K,
-    rounds: &B,
-    tally: &mut Tally,
-) -> Status
-    requires { is_moment moment ≡ true }
-    ensures told { (given : Given) → S.files source.old ≡ Some given.source → O.contents out.old ≡ Some given.output →
-        Ended (after_scan given (start options.settings moment)) (O.contents out.old) (O.contents out.new) result }
-    ensures took { (given : Given) (before : List ℕ) → given.why ≡ options.why → S.files source.old ≡ Some given.source → O.contents out.old ≡ Some given.output →
-        K.taken sink.old ≡ Some before → Took given (after_scan given (start options.settings moment)) before (K.taken sink.new) result }
-    ensures run { (given : Given) (before : List ℕ) → given.why ≡ options.why →
-        S.files source.old ≡ Some given.source → O.contents out.old ≡ Some given.output → K.taken sink.old ≡ Some before →
-        OnceRun O.contents given (start options.settings moment) before (K.taken sink.new) out.old out.new result }
-    ensures no_usage { (kind : UsageKind) → result ≡ Status.Usage kind → ⊥ }
-    ensures no_input { result ≡ Status.InputFault → ⊥ }
-    ensures untouched { Untouched result → out.new ≡ out.old }
-    ensures source_fault { result ≡ Status.SourceFault → Rose (S.failures source.old) (S.failures source.new) }
-    ensures out_fault { (count : ℕ) → result ≡ Status.OutFault count → min (O.failures out.old + max count 1) (2 ^ 64 - 1) ≤ O.failures out.new }
-    ensures sink_fault { result ≡ Status.SinkFault → Rose (K.failures sink.old) (K.failures sink.new) }
-{
-    let mut session = Session::open(alloc, options.settings, moment);
-    let scanned = match do_line(
-        alloc,
-        options.why,
-        &mut session,
-        1,
-        Line::Scan,
-        source,
-        out,
-        sink,
-        rounds,
-        tally,
-    ) {
-        Ok(scanned) => scanned,
-        Err(stop) => return stop.status(),
-    };
-    match scanned {
-        Reply::Scanned(_) => {}
-        other => return status_of(other),
-    }
-    match do_line(
-        alloc,
-        options.why,
-        &mut session,
-        2,
-        Line::Build,
-        source,
-        out,
-        sink,
-        rounds,
-        tally,
-    ) {
-        Ok(built) => status_of(built),
-        Err(stop) => stop.status(),
     }
 }

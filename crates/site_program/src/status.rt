@@ -60,6 +60,7 @@ impl Stop {
     pub(crate) fn status(self) -> Status
         ensures cases { (result ≡ Status.SinkFault) ⊎ (result ≡ Status.Memory) }
         ensures memory { result ≡ Status.Memory → self ≡ Stop.Memory }
+        ensures short { self ≡ Stop.Memory → result ≡ Status.Memory }
         ensures sink { result ≡ Status.SinkFault → self ≡ Stop.Sink }
     {
         match self {

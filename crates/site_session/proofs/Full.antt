@@ -1,5 +1,7 @@
 -- What a round over a site makes of a build.
-use Rattle.std.proofs.Common.{◌≡◌, ◌∙◌, ℕ, ◌-◌, List, [], ◌∷◌, length, Some, None, Ok, Err, refl, sym, ap, subst, arith}
+use Rattle.std.proofs.Common.{◌≡◌, ◌∙◌, ℕ, ◌+◌, ◌-◌, List, [], ◌∷◌, ◌++◌, length, Some, None, Result, Ok, Err, refl, sym, ap, subst, arith}
+use Rattle.std.proofs.lemmas.List.{append-nil}
+use Rattle.std.specs.Result.{IfOk}
 use Rattle.std.specs.FinMap.{empty}
 use Rattle.std.specs.List.{slice_get}
 use Rattle.memo_table.specs.Entries.{Entries}
@@ -9,7 +11,10 @@ use Rattle.read_record.specs.Worlds.{Sight}
 use Rattle.read_record.specs.declared.outcome.Outcome.{Outcome}
 use Rattle.render_workers.specs.Folds.{Folded, after_item, fold_from, fold_of}
 use Rattle.render_workers.specs.Whys.{why_names}
+use Rattle.render_workers.specs.Tallies.{times}
 use Rattle.render_workers.specs.declared.answers.Round.{Round}
+use Rattle.render_workers.specs.declared.answers.RoundError.{RoundError}
+use Rattle.render_workers.specs.declared.answers.RoundError.TheVariants as round_error
 use Rattle.round_core.specs.Meant.{given_by}
 use Rattle.site_base.specs.Chains.{◌>>=◌}
 use Rattle.site_base.specs.Places.{Files}
@@ -20,8 +25,8 @@ use Rattle.site_reader.specs.declared.site_error.SiteError.{SiteError}
 use Rattle.site_reader.specs.declared.site_error.SiteError.TheVariants as error
 use Rattle.site_reader.specs.declared.site.Site.{Site}
 use Rattle.site_session.specs.Full.{Whole, fault_of, given_of, kept_after, kept_by, names_by, names_behind, names_past, names_rendered, output_in, output_of, rendered, whole, whole_by, written_by, written_in}
-use Rattle.site_session.specs.Outputs.{IsOutput, Settled}
-use Rattle.site_session.specs.Rounds.{Adds, Stopped, Whole as WholeRound}
+use Rattle.site_session.specs.Outputs.{Comes, IsOutput, Settled, output_by}
+use Rattle.site_session.specs.Rounds.{Adds, IsGone, Stopped, Whole as WholeRound, in_any_order, in_order}
 use Rattle.site_session.specs.Session.{first_fault, full_now, site_now}
 use Rattle.site_session.specs.Standing.{Standing}
 use Rattle.site_session.specs.declared.output.Output.{Output}
@@ -67,7 +72,7 @@ module _ (adds : Adds) (files : Files) (kept : Entries) (site : Site) (new : Ent
     number : round.reused ≡ length (item_names site) - length round.why
     number = omega (arith, w.reused)
 
-    pub whole-output : (output : Output) → output ≡ record { written = written_by files (record { site = site; outs = round.outs }); rendered = length round.why; reused = round.reused; why = round.why }
+    pub whole-output : (output : Output) → output ≡ output_by files site round
         → output_in files kept (Ok site) ≡ Ok output
     whole-output output is =
         ap (λ (f : Folded). whole_by site f >>= λ w. Ok (output_of files kept w)) told
@@ -97,18 +102,25 @@ module _ (adds : Adds) (files : Files) (kept : Entries) (site : Site) (new : Ent
 
 -- ---- what a build answers before its output is touched
 
-pub from_whole : (adds : Adds) (files : Files) (kept : Entries) (site : Site) (new : Entries) (before after : List ItemName) (round : Round) (output : Output)
-    → WholeRound adds (given_of files site kept) (fixed_bytes files site) round new before after
-    → output ≡ record { written = written_by files (record { site = site; outs = round.outs }); rendered = length round.why; reused = round.reused; why = round.why }
-    → IsOutput adds files kept (Ok site) (Ok output) new before after
-from_whole adds files kept site new before after round output w is = (whole-output adds files kept site new before after round w output is, whole-settled adds files kept site new before after round w)
+-- the round's own count leaves room for the number of those that it rendered
+pub counted : (adds : Adds) (g : Given) (fixed : ℕ) (round : Result Round RoundError) (new : Entries) (before after : List ItemName)
+    → IsGone adds g fixed round new before after → IfOk round (λ r. r.reused + length r.why ≡ length g.names)
+counted adds g fixed (Ok round) new before after w = w.reused
+counted adds g fixed (Err e) new before after w = tt
 
-pub from_stopped : (adds : Adds) (files : Files) (kept : Entries) (site : Site) (new : Entries) (before after : List ItemName) (fault : SiteFault)
-    → Stopped adds (given_of files site kept) (fixed_bytes files site) fault new before after → IsOutput adds files kept (Ok site) (Err (error.Fault fault)) new before after
-from_stopped adds files kept site new before after fault s = (stopped-output adds files kept site new before after fault s, stopped-settled adds files kept site new before after fault s)
+pub came : (adds : Adds) (files : Files) (kept : Entries) (site : Site) (new : Entries) (before after : List ItemName) (round : Result Round RoundError) (result : Result Output SiteError)
+    → IsGone adds (given_of files site kept) (fixed_bytes files site) round new before after → Comes files site round result → IsOutput adds files kept (Ok site) result new before after
+came adds files kept site new before after (Ok round) (Ok output) w is = (whole-output adds files kept site new before after round w output is, whole-settled adds files kept site new before after round w)
+came adds files kept site new before after (Ok round) (Err e) w is = subst (λ e. IsOutput adds files kept (Ok site) (Err e) new before after) (sym is) tt
+came adds files kept site new before after (Err (round_error.Fault fault)) (Err e) s is =
+    subst (λ e. IsOutput adds files kept (Ok site) (Err e) new before after) (sym is)
+    (stopped-output adds files kept site new before after fault s, stopped-settled adds files kept site new before after fault s)
+came adds files kept site new before after (Err round_error.Memory) (Err e) s is = subst (λ e. IsOutput adds files kept (Ok site) (Err e) new before after) (sym is) tt
+came adds files kept site new before after (Err (round_error.Fault fault)) (Ok output) s is = absurd is
+came adds files kept site new before after (Err round_error.Memory) (Ok output) s is = absurd is
 
 -- a site that is not read renders nothing
-pub from_unread : (adds : Adds) → ((names : List ItemName) → adds [] [] names names) → (files : Files) (kept : Entries) (found : Found Site) (e : SiteError) (before : List ItemName) → IsFirst found e → IsOutput adds files kept found (Err e) kept before before
+from_unread : (adds : Adds) → ((names : List ItemName) → adds [] [] names names) → (files : Files) (kept : Entries) (found : Found Site) (e : SiteError) (before : List ItemName) → IsFirst found e → IsOutput adds files kept found (Err e) kept before before
 from_unread adds nothing files kept found (error.Fault fault) before first = (
   ap (output_in files kept) first,
   record {
@@ -117,6 +129,17 @@ from_unread adds nothing files kept found (error.Fault fault) before first = (
   },
 )
 from_unread adds nothing files kept found error.Memory before first = tt
+
+pub unread_in_order : (files : Files) (kept : Entries) (found : Found Site) (e : SiteError) (before : List ItemName) → IsFirst found e → IsOutput in_order files kept found (Err e) kept before before
+unread_in_order files kept found e before first = from_unread in_order (λ names. sym (append-nil names)) files kept found e before first
+
+none-between : (names : List ItemName) → in_any_order [] [] names names
+none-between names = λ name.
+    let e = ap (times name) (append-nil names) in
+    (omega (arith, e), omega (arith, e))
+
+pub unread_in_any_order : (files : Files) (kept : Entries) (found : Found Site) (e : SiteError) (before : List ItemName) → IsFirst found e → IsOutput in_any_order files kept found (Err e) kept before before
+unread_in_any_order files kept found e before first = from_unread in_any_order none-between files kept found e before first
 
 -- ---- first faults
 

@@ -5,3 +5,4 @@ pub mod Steps
 mod ShownLaws
 mod MadeLaws
 pub mod RoundLaws
+pub mod Rebuilding

@@ -1,10 +1,12 @@
 pub mod Bytes
 pub mod Full
 pub mod KeyTexts
+pub mod Makes
 pub mod Outputs
 pub mod Replies
 pub mod Seen
 pub mod Session
 pub mod Standing
+pub mod Tallied
 pub mod Rebuilds
 pub mod Rounds

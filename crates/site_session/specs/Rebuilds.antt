@@ -5,35 +5,17 @@ use Rattle.site_base.specs.Places.{Files}
 use Rattle.site_base.specs.declared.errors.Memory.{Memory}
 use Rattle.site_base.specs.declared.faults.SiteFault.{SiteFault}
 use Rattle.site_base.specs.declared.item_name.ItemName.{ItemName}
-use Rattle.site_script.specs.declared.line.Line.{Line}
 use Rattle.site_script.specs.declared.line.Line.TheVariants as line
 use Rattle.site_session.specs.Rounds.{Adds}
 use Rattle.site_session.specs.Full.{full}
 use Rattle.site_session.specs.Replies.{built_reply, Called, FailedAt, Leaves}
-use Rattle.site_session.specs.Session.{Given, Reply, Answers, names_now, names_past_now, output_failures, rendered_now}
+use Rattle.site_session.specs.Session.{Given, Reply, Answers, output_failures, rendered_now}
 use Rattle.site_session.specs.Standing.{Standing, Holds}
+use Rattle.site_session.specs.Tallied.{Tallied}
 use Rattle.site_session.specs.declared.build.Rebuilt.{Rebuilt}
 use Rattle.site_session.specs.declared.build.Rebuilt.TheVariants as rebuilt
 use Rattle.site_session.specs.declared.build.Report.{Report}
 use Rattle.site_session.specs.declared.output.Written.{Written}
-
--- what a build adds to the tally; where memory is wanting nothing is told of it
-abbrev pub Tallied : Adds → Standing → Result Rebuilt Memory → List ItemName → List ItemName → Type 0
-Tallied adds now (Ok rebuilt) before after = adds (names_now now) (names_past_now now) before after
-Tallied adds now (Err error) before after = Unit {0}
-
--- and what a line adds
-abbrev pub LineTallied : Adds → Standing → Line → List ItemName → List ItemName → Type 0
-LineTallied adds now line.Build before after = adds (names_now now) (names_past_now now) before after
-LineTallied adds now line.Scan before after = after ≡ before
-LineTallied adds now (line.Put path bytes) before after = after ≡ before
-LineTallied adds now (line.Delete path) before after = after ≡ before
-LineTallied adds now (line.Time seconds) before after = after ≡ before
-LineTallied adds now (line.Bad at bad) before after = after ≡ before
-LineTallied adds now line.End before after = after ≡ before
-LineTallied adds now line.Eof before after = after ≡ before
-LineTallied adds now line.Failed before after = after ≡ before
-LineTallied adds now line.Memory before after = after ≡ before
 
 -- what a rebuild answers and leaves
 pub record Rebuilds {D : Type 0} (adds : Adds) (contents : D → Option Files) (calls : D → Option (List Call)) (failures : D → ℕ) (old new : Standing) (result : Result Rebuilt Memory) (before after : D) (tally tally' : List ItemName) : Type 0 where

@@ -13,6 +13,8 @@ use Rattle.out_tree.specs.declared.step.Call.{Call}
 use Rattle.out_tree.specs.declared.step.Call.TheVariants as call
 use Rattle.site_session.specs.Standing.{Standing, MakesBut, MarksExactly}
 use Rattle.site_session.specs.Full.{full}
+use Rattle.site_session.specs.Rounds.{in_any_order}
+use Rattle.site_session.specs.Tallied.{Effects, LineTallied}
 use Rattle.site_session.specs.declared.output.Written.{Written}
 use Rattle.site_session.specs.declared.build.Rebuilt.{Rebuilt}
 use Rattle.site_session.specs.declared.build.Rebuilt.TheVariants as rebuilt
@@ -93,15 +95,16 @@ Called belief first written (Ok rebuilt.Unlisted) old new = Calls old new (call.
 Called belief first written (Ok (rebuilt.Fault fault)) old new = Calls old new []
 Called belief first written (Err error) old new = ListsAtMost belief old new
 
--- what a line has left of the output that is replied so: one that was not called is the same value, and a build leaves what `LeavesBy` says
-pub record LineLeaves {D : Type 0} (contents : D → Option Files) (now : Standing) (reply : Reply) (belief : Option Belief) (before after : D) : Type 0 where
-  pub built : LeavesBy now reply (contents before) (contents after) belief
-  pub untouched : has_called_output reply ≡ false → after ≡ before
+-- what a line has left that is replied so: an output that was not called is the same value, and a build leaves what `LeavesBy` says; what it rendered has joined the tally
+pub record LineLeaves {D : Type 0} (contents : D → Option Files) (now : Standing) (line : Line) (reply : Reply) (belief : Option Belief) (before after : Effects D) : Type 0 where
+  pub built : LeavesBy now reply (contents before.output) (contents after.output) belief
+  pub untouched : has_called_output reply ≡ false → after.output ≡ before.output
+  pub tallied : LineTallied in_any_order now line before.tally after.tally
 
--- after so many lines, the session gives these replies to these lines, and each has left of the output what it may
-abbrev pub AllLeave : {D : Type 0} → (D → Option Files) → Given → Standing → ℕ → List Line → List Reply → D → D → Type 0
+-- after so many lines, the session gives these replies to these lines, and each has left what it may
+abbrev pub AllLeave : {D : Type 0} → (D → Option Files) → Given → Standing → ℕ → List Line → List Reply → Effects D → Effects D → Type 0
 AllLeave contents given old before [] replies first last = last ≡ first
 AllLeave contents given old before (line ∷ lines) [] first last = ⊥
 AllLeave {D} contents given old before (line ∷ lines) (reply ∷ replies) first last =
     let new = (step given old (line_number before) line (event_of reply)).0 in
-    (there : D) × LineLeaves contents old reply new.belief first there × AllLeave contents given new (before + 1) lines replies there last
+    (there : Effects D) × LineLeaves contents old line reply new.belief first there × AllLeave contents given new (before + 1) lines replies there last

@@ -4,6 +4,7 @@ use Rattle.memo_table.specs.Entries.{Entries, of_names}
 use Rattle.read_record.specs.Queries.{Gave, Failed}
 use Rattle.render_workers.specs.Folds.{fold_of}
 use Rattle.render_workers.specs.Rounds.{entries_below}
+use Rattle.render_workers.specs.Tallies.{HasBetween}
 use Rattle.render_workers.specs.Whys.{whys_below, why_names}
 use Rattle.render_workers.specs.declared.answers.Round.{Round}
 use Rattle.render_workers.specs.declared.answers.RoundError.{RoundError}
@@ -19,6 +20,10 @@ Adds = List ItemName → List ItemName → List ItemName → List ItemName → T
 -- one after another: the names that are due, in render order
 abbrev pub in_order : Adds
 in_order due later before after = after ≡ before ++ due
+
+-- by many workers: the names that are due, each once, in any order, and besides at most later ones
+abbrev pub in_any_order : Adds
+in_any_order due later before after = HasBetween (before ++ due) later after
 
 -- the fold gives these outcomes; the stale items are told with their reasons, and the others counted; each item has its certified
 -- entry, and no other name is kept

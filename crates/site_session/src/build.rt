@@ -6,6 +6,7 @@ ghost use Rattle.out_tree.specs.Belief.{Belief, believed, IsTrueOf};
 ghost use Rattle.site_session.specs.Standing.{Standing, Holds, MakesBut, MarksExactly};
 ghost use Rattle.site_session.specs.Session.{Given, Reply, event_of, failed_of, build_tree, build_listed, output_failures, plan, TheList};
 ghost use Rattle.out_tree.specs.Tries.{CallsFor};
+ghost use Rattle.site_session.specs.Makes.{Finishes};
 ghost use Rattle.site_session.specs.Replies.{built_reply, Called, FailedAt};
 ghost use Rattle.site_session.specs.declared.build.Report.{Report};
 
@@ -13,6 +14,7 @@ use crate::output::Output;
 use out_tree::{OutKeeper, OutTree};
 use render_workers::Whys;
 use site_base::{ListError, Memory, PathList, SiteFault};
+use site_reader::SiteError;
 use std::alloc::Global;
 
 /// What a build did.
@@ -43,8 +45,24 @@ pub enum Rebuilt {
     Unlisted,
 }
 
+// Makes the output what a build found that the held files stand for; files with a fault leave it alone.
+pub(crate) fn finish<O: OutTree>(
+    keeper: &mut OutKeeper,
+    alloc: Global,
+    output: Result<Output, SiteError>,
+    out: &mut O,
+) -> Result<Rebuilt, Memory>
+    ensures { Finishes O.contents O.calls O.failures output result keeper.old keeper.new out.old out.new }
+{
+    match output {
+        Ok(output) => make(keeper, alloc, output, out),
+        Err(SiteError::Fault(fault)) => Ok(Rebuilt::Fault(fault)),
+        Err(SiteError::Memory) => Err(Memory),
+    }
+}
+
 // Lists the output where it has not been listed, and makes it equal to the tree.
-pub(crate) fn make<O: OutTree>(
+fn make<O: OutTree>(
     keeper: &mut OutKeeper,
     alloc: Global,
     output: Output,

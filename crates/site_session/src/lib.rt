@@ -15,5 +15,5 @@ pub use build::{Rebuilt, Report};
 pub use output::{Output, Written};
 pub use render_workers::{Why, Whys};
 pub use reply::Reply;
-pub use rounds::{InOrder, Rounds};
+pub use rounds::Crew;
 pub use session::Session;

@@ -3,14 +3,14 @@ ghost use Rattle.std.specs.Prelude.{◌≡◌, ◌≤ℤ◌, ◌≤◌, ◌+◌,
 ghost use Rattle.site_reader.specs.Lawful.{IsLawful};
 ghost use Rattle.site_reader.specs.Sites as sites;
 ghost use Rattle.site_script.specs.Line.{is_moment};
-ghost use Rattle.site_session.specs.Full.{fault_of, full, given_of, whole, written_by};
-ghost use Rattle.site_session.specs.Outputs.{IsOutput};
-ghost use Rattle.site_session.specs.Rounds.{IsGone};
-ghost use Rattle.site_world.specs.Sights.{fixed_bytes, item_names};
+ghost use Rattle.site_session.specs.Full.{fault_of, full, whole, written_by};
+ghost use Rattle.site_session.specs.Outputs.{Comes, IsOutput, output_by};
+ghost use Rattle.site_session.specs.Rounds.{in_any_order, in_order};
+ghost use Rattle.site_world.specs.Sights.{item_names};
 ghost use Rattle.source_tree.specs.Limits.{most_files};
 
 use crate::made::made_of;
-use crate::rounds::{InOrder, Rounds};
+use crate::rounds::{Crew, by_crew, one_by_one};
 use crate::tree::tree_of;
 use memo_table::Memo;
 use out_tree::{KeepList, Tree};
@@ -19,9 +19,10 @@ use read_record::{Renderer, Tally};
 use render_workers::{Outcomes, Round, RoundError, Whys};
 use site_base::{Memory, Settings, SiteFault, Text, TextList};
 use site_reader::{Site, SiteError, read_site};
-use site_world::SiteWorld;
 use source_tree::Held;
 use std::alloc::Global;
+use std::sync::Wait;
+use std::thread::Threads;
 
 /// What a site writes.
 #[derive(Drop)]
@@ -44,25 +45,81 @@ pub struct Output {
     pub why: Whys,
 }
 
-/// What the held files stand for, or their first fault. Items are rendered whose kept render no longer tells what rendering
-/// anew would give; what is rendered is kept.
-#[tactic(auto, using(crate::proofs::Full::from_unread))]
-pub(crate) fn built_output<B: Rounds>(
+/// What the held files stand for, or their first fault. Items are rendered, one after another, whose kept render no longer tells
+/// what rendering anew would give; what is rendered is kept.
+#[tactic(auto, using(crate::proofs::Full::unread_in_order))]
+pub(crate) fn output_one_by_one<R: Renderer<Meaning = PageMeaning>>(
     alloc: Global,
     held: &Held,
     moment: i64,
     settings: &Settings,
-    rounds: &B,
+    renderer: &R,
     memo: &mut Memo<PageMeaning>,
     tally: &mut Tally,
 ) -> Result<Output, SiteError>
     requires { is_moment moment ≡ true }
-    ensures { IsOutput B.adds held.now memo.old (sites.site held.now moment settings.now) result memo.new tally.old tally.new }
+    ensures { IsOutput in_order held.now memo.old (sites.site held.now moment settings.now) result memo.new tally.old tally.new }
 {
     match read_site(alloc, held, moment, settings) {
-        Ok(site) => site_output(alloc, held, &site, rounds, memo, tally),
+        Ok(site) => site_one_by_one(alloc, held, &site, renderer, memo, tally),
         Err(error) => Err(error),
     }
+}
+
+fn site_one_by_one<R: Renderer<Meaning = PageMeaning>>(
+    alloc: Global,
+    held: &Held,
+    site: &Site,
+    renderer: &R,
+    memo: &mut Memo<PageMeaning>,
+    tally: &mut Tally,
+) -> Result<Output, SiteError>
+    requires lawful { IsLawful held.now site.now }
+    requires few { length site.now.items ≤ 2 * most_files }
+    requires moment { pos 0 ≤ℤ site.now.moment }
+    ensures { IsOutput in_order held.now memo.old (Ok site.now) result memo.new tally.old tally.new }
+{
+    let round = one_by_one(alloc, held, site, renderer, memo, tally);
+    output_of(alloc, held, site, round)
+}
+
+/// The same, rendered by the threads of a crew.
+#[tactic(auto, using(crate::proofs::Full::unread_in_any_order))]
+pub(crate) fn output_by_crew<H: Threads + Wait + Sync, R: Renderer<Meaning = PageMeaning> + Sync>(
+    alloc: Global,
+    held: &Held,
+    moment: i64,
+    settings: &Settings,
+    crew: &Crew<'_, H, R>,
+    memo: &mut Memo<PageMeaning>,
+    tally: &mut Tally,
+) -> Result<Output, SiteError>
+    requires moment { is_moment moment ≡ true }
+    requires jobs { (1 ≤ crew.now.jobs) × (crew.now.jobs ≤ 64) }
+    ensures { IsOutput in_any_order held.now memo.old (sites.site held.now moment settings.now) result memo.new tally.old tally.new }
+{
+    match read_site(alloc, held, moment, settings) {
+        Ok(site) => site_by_crew(alloc, held, &site, crew, memo, tally),
+        Err(error) => Err(error),
+    }
+}
+
+fn site_by_crew<H: Threads + Wait + Sync, R: Renderer<Meaning = PageMeaning> + Sync>(
+    alloc: Global,
+    held: &Held,
+    site: &Site,
+    crew: &Crew<'_, H, R>,
+    memo: &mut Memo<PageMeaning>,
+    tally: &mut Tally,
+) -> Result<Output, SiteError>
+    requires lawful { IsLawful held.now site.now }
+    requires few { length site.now.items ≤ 2 * most_files }
+    requires moment { pos 0 ≤ℤ site.now.moment }
+    requires jobs { (1 ≤ crew.now.jobs) × (crew.now.jobs ≤ 64) }
+    ensures { IsOutput in_any_order held.now memo.old (Ok site.now) result memo.new tally.old tally.new }
+{
+    let round = by_crew(alloc, held, site, crew, memo, tally);
+    output_of(alloc, held, site, round)
 }
 
 /// The first fault of what the held files stand for.
@@ -95,56 +152,35 @@ fn first_item_fault<R: Renderer<Meaning = PageMeaning>>(
 {
     let mut memo = Memo::new(alloc);
     let mut tally = Tally::new(alloc);
-    let rounds = InOrder::new(renderer);
-    match round(alloc, held, site, &rounds, &mut memo, &mut tally) {
+    match one_by_one(alloc, held, site, renderer, &mut memo, &mut tally) {
         Ok(_) => Ok(None),
         Err(RoundError::Fault(fault)) => Ok(Some(fault)),
         Err(RoundError::Memory) => Err(Memory),
     }
 }
 
-#[tactic(auto, using(crate::proofs::Full::from_whole, crate::proofs::Full::from_stopped))]
-fn site_output<B: Rounds>(
+// What a round over the items of a site makes of a build.
+fn output_of(
     alloc: Global,
     held: &Held,
     site: &Site,
-    rounds: &B,
-    memo: &mut Memo<PageMeaning>,
-    tally: &mut Tally,
+    round: Result<Round, RoundError>,
 ) -> Result<Output, SiteError>
-    requires lawful { IsLawful held.now site.now }
+    requires counted { IfOk round (λ round. round.reused + length round.why ≡ length (item_names site.now)) }
     requires few { length site.now.items ≤ 2 * most_files }
-    requires moment { pos 0 ≤ℤ site.now.moment }
-    ensures { IsOutput B.adds held.now memo.old (Ok site.now) result memo.new tally.old tally.new }
+    ensures { Comes held.now site.now round result }
 {
-    match round(alloc, held, site, rounds, memo, tally) {
-        Ok(round) => Ok(output_of(alloc, held, site, round)?),
+    match round {
+        Ok(round) => Ok(output_by(alloc, held, site, round)?),
         Err(RoundError::Fault(fault)) => Err(SiteError::Fault(fault)),
         Err(RoundError::Memory) => Err(SiteError::Memory),
     }
 }
 
-// The items of a site, rendered where nothing that is kept serves.
-fn round<B: Rounds>(
-    alloc: Global,
-    held: &Held,
-    site: &Site,
-    rounds: &B,
-    memo: &mut Memo<PageMeaning>,
-    tally: &mut Tally,
-) -> Result<Round, RoundError>
-    requires lawful { IsLawful held.now site.now }
-    requires moment { pos 0 ≤ℤ site.now.moment }
-    ensures { IsGone B.adds (given_of held.now site.now memo.old) (fixed_bytes held.now site.now) result memo.new tally.old tally.new }
-{
-    let world = SiteWorld::new(alloc, site, held)?;
-    rounds.go(alloc, &world, memo, tally)
-}
-
-fn output_of(alloc: Global, held: &Held, site: &Site, round: Round) -> Result<Output, Memory>
+fn output_by(alloc: Global, held: &Held, site: &Site, round: Round) -> Result<Output, Memory>
     requires counted { round.reused + length round.why ≡ length (item_names site.now) }
     requires few { length site.now.items ≤ 2 * most_files }
-    ensures { IfOk result (λ made. made ≡ record { written = written_by held.now (record { site = site.now; outs = round.outs }); rendered = length round.why; reused = round.reused; why = round.why }) }
+    ensures { IfOk result (λ made. made ≡ output_by held.now site.now round) }
 {
     let rendered = round.why.len() as u32;
     Ok(Output {

@@ -1,12 +1,12 @@
 // What a session replies to a line.
-ghost use Rattle.std.specs.Prelude.{◌≡◌, ◌++◌, ◌∷◌, [], IfOk, OnOk, codes, length, flat_map};
+ghost use Rattle.std.specs.Prelude.{◌≡◌, ◌++◌, ◌∷◌, [], IfOk, OnOk, Ok, Some, codes, length, flat_map};
 ghost use Rattle.std.specs.Fmt.{decimal};
 ghost use Rattle.std.specs.String.{string_bytes};
 ghost use Rattle.site_script.specs.Line.{script_number};
 ghost use Rattle.site_session.specs.Bytes.{fault_line, built_line, marked_line, reason_text, why_line, why_lines};
 
 use crate::key_text::{item_text, key_text};
-use crate::{Report, Why};
+use crate::{Rebuilt, Report, Why};
 use read_record::Key;
 use site_base::{PathList, SiteFault};
 use site_script::ScriptKind;
@@ -38,6 +38,19 @@ pub enum Reply {
 
 impl Reply {
     ghost use Rattle.site_session.specs.Bytes.{reply_bytes};
+    ghost use Rattle.site_session.specs.Replies.{built_reply};
+
+    /// The reply to a build that ended so.
+    pub fn of_build(rebuilt: Rebuilt) -> Reply
+        ensures { built_reply (Ok rebuilt) ≡ Some result }
+    {
+        match rebuilt {
+            Rebuilt::Built(report) => Reply::Built(report),
+            Rebuilt::Fault(fault) => Reply::Faulty(fault),
+            Rebuilt::Marked(paths) => Reply::Marked(paths),
+            Rebuilt::Unlisted => Reply::Unlisted,
+        }
+    }
 
     /// The bytes of the reply, each line with its end. Where reasons are told, those of a build stand before it.
     pub fn text(&self, alloc: Global, tells_why: bool) -> Result<String, AllocError>

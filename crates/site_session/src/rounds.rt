@@ -1,67 +1,71 @@
-// How a build goes over the items of its site.
-ghost use Rattle.std.specs.Prelude.{◌≡◌, List, []};
-ghost use Rattle.site_base.specs.declared.item_name.ItemName.{ItemName};
+// How a build goes over the items of its site: one after another, or by many workers.
+ghost use Rattle.std.specs.Prelude.{◌≡◌, ◌≤ℤ◌, ◌≤◌, pos};
+ghost use Rattle.site_reader.specs.Lawful.{IsLawful};
 ghost use Rattle.site_session.specs.Full.{given_of};
-ghost use Rattle.site_session.specs.Rounds.{Adds, IsGone};
+ghost use Rattle.site_session.specs.Rounds.{IsGone, in_any_order, in_order};
 ghost use Rattle.site_world.specs.Sights.{fixed_bytes};
 
 use memo_table::Memo;
 use page_render::PageMeaning;
 use read_record::{Renderer, Tally};
-use render_workers::{Round, RoundError, regenerate_serial};
+use render_workers::{Round, RoundError, regenerate, regenerate_serial};
+use site_reader::Site;
 use site_world::SiteWorld;
+use source_tree::Held;
 use std::alloc::Global;
+use std::sync::Wait;
+use std::thread::Threads;
 
-/// How a build goes over the items of its site. What comes of it is the same however it goes; only what joins the tally may
-/// differ: the order of names, and which items behind the first fault were rendered.
-pub trait Rounds {
-    // What a round adds to a tally.
-    ghost adds: { Adds };
-
-    /// Keeps or renders the items of a world, and keeps what it rendered.
-    fn go(
-        &self,
-        alloc: Global,
-        world: &SiteWorld<'_>,
-        memo: &mut Memo<PageMeaning>,
-        tally: &mut Tally,
-    ) -> Result<Round, RoundError>
-        ensures { IsGone adds (given_of world.now.held.now world.now.site.now memo.old) (fixed_bytes world.now.held.now world.now.site.now) result memo.new tally.old tally.new };
-
-    // Where nothing is due, nothing joins.
-    ghost nothing: { (names : List ItemName) → adds [] [] names names };
+/// Who renders the items of a build: so many threads, by this renderer.
+#[derive(Clone, Copy)]
+pub struct Crew<'a, H, R> {
+    /// What starts the threads, and waits for them.
+    pub rt: &'a H,
+    /// How many threads, 1 to 64.
+    pub jobs: u32,
+    /// What renders an item.
+    pub renderer: &'a R,
 }
 
-/// One item after another, on this thread.
-#[derive(Drop)]
-pub struct InOrder<'a, R> {
-    renderer: &'a R,
+/// Keeps or renders the items of a site one after another, and keeps what it rendered.
+pub(crate) fn one_by_one<R: Renderer<Meaning = PageMeaning>>(
+    alloc: Global,
+    held: &Held,
+    site: &Site,
+    renderer: &R,
+    memo: &mut Memo<PageMeaning>,
+    tally: &mut Tally,
+) -> Result<Round, RoundError>
+    requires lawful { IsLawful held.now site.now }
+    requires moment { pos 0 ≤ℤ site.now.moment }
+    ensures { IsGone in_order (given_of held.now site.now memo.old) (fixed_bytes held.now site.now) result memo.new tally.old tally.new }
+{
+    let world = SiteWorld::new(alloc, site, held)?;
+    regenerate_serial(alloc, renderer, &world, memo, tally)
 }
 
-impl<'a, R> InOrder<'a, R> {
-    /// By this renderer.
-    pub fn new(renderer: &'a R) -> InOrder<'a, R> {
-        InOrder { renderer }
-    }
-}
-
-impl<'a, R: Renderer<Meaning = PageMeaning>> Rounds for InOrder<'a, R> {
-    ghost use Rattle.std.proofs.Common.{sym};
-    ghost use Rattle.std.proofs.lemmas.List.{append-nil};
-    ghost use Rattle.site_session.specs.Rounds.{in_order};
-
-    ghost adds = { in_order };
-
-    ghost nothing = { λ names. sym (append-nil names) };
-
-    #[tactic(auto, using(crate::proofs::RoundLaws::serial_gone))]
-    fn go(
-        &self,
-        alloc: Global,
-        world: &SiteWorld<'_>,
-        memo: &mut Memo<PageMeaning>,
-        tally: &mut Tally,
-    ) -> Result<Round, RoundError> {
-        regenerate_serial(alloc, self.renderer, world, memo, tally)
-    }
+/// The same by the threads of a crew, which render any item as soon as they come to it.
+pub(crate) fn by_crew<H: Threads + Wait + Sync, R: Renderer<Meaning = PageMeaning> + Sync>(
+    alloc: Global,
+    held: &Held,
+    site: &Site,
+    crew: &Crew<'_, H, R>,
+    memo: &mut Memo<PageMeaning>,
+    tally: &mut Tally,
+) -> Result<Round, RoundError>
+    requires lawful { IsLawful held.now site.now }
+    requires moment { pos 0 ≤ℤ site.now.moment }
+    requires jobs { (1 ≤ crew.now.jobs) × (crew.now.jobs ≤ 64) }
+    ensures { IsGone in_any_order (given_of held.now site.now memo.old) (fixed_bytes held.now site.now) result memo.new tally.old tally.new }
+{
+    let world = SiteWorld::new(alloc, site, held)?;
+    regenerate(
+        crew.rt,
+        alloc,
+        crew.renderer,
+        &world,
+        memo,
+        crew.jobs,
+        tally,
+    )
 }

@@ -11,15 +11,16 @@ ghost use Rattle.site_session.specs.Standing.{Holds};
 ghost use Rattle.site_session.specs.Session.{Given, Reply, Fine, Absent, Answers, first_fault, names_now, names_past_now, rendered_now, start, output_failures, source_failures};
 ghost use Rattle.site_session.specs.declared.build.Report.{Report};
 ghost use Rattle.site_session.specs.declared.output.Written.{Written};
-ghost use Rattle.site_session.specs.Rebuilds.{LineTallied, Rebuilds, Tallied};
+ghost use Rattle.site_session.specs.Rebuilds.{Rebuilds};
 ghost use Rattle.site_session.specs.Replies.{scan_reply, built_reply, Called, FailedAt, Leaves, LeavesBy, IsQuiet, has_called_output};
-ghost use Rattle.site_session.specs.Rounds.{in_order};
+ghost use Rattle.site_session.specs.Rounds.{in_any_order, in_order};
+ghost use Rattle.site_session.specs.Tallied.{LineTallied};
 ghost use Rattle.site_script.specs.declared.line.Line.TheVariants as line;
 
-use crate::build::{Rebuilt, make};
-use crate::output::{built_output, first_fault};
+use crate::build::{Rebuilt, finish};
+use crate::output::{first_fault, output_by_crew, output_one_by_one};
 use crate::reply::Reply;
-use crate::rounds::{InOrder, Rounds};
+use crate::rounds::Crew;
 use memo_table::Memo;
 use out_tree::{OutKeeper, OutTree};
 use page_render::PageMeaning;
@@ -30,6 +31,8 @@ use site_script::{Line, ScriptKind};
 use source_tree::{Held, PutError, ScanError, SourceTree};
 use std::alloc::Global;
 use std::marker::Model;
+use std::sync::Wait;
+use std::thread::Threads;
 
 /// The files that are held, the moment, the renders that are kept, and what is believed of the output.
 #[derive(Drop)]
@@ -144,67 +147,79 @@ impl Session {
     ) -> Result<Rebuilt, Memory>
         ensures { Rebuilds in_order O.contents O.calls O.failures self.old self.new result out.old out.new tally.old tally.new }
     {
-        self.rebuild_by(alloc, out, &InOrder::new(renderer), tally)
-    }
-
-    // The same, however the items are gone over.
-    fn rebuild_by<O: OutTree, B: Rounds>(
-        &mut self,
-        alloc: Global,
-        out: &mut O,
-        rounds: &B,
-        tally: &mut Tally,
-    ) -> Result<Rebuilt, Memory>
-        ensures answers { (given : Given) (number : ℕ) (reply : Reply) → Holds (O.contents out.old) self.old.belief given.output →
-            built_reply result ≡ Some reply → Answers given self.old number line.Build reply self.new }
-        // What is believed stays true,
-        ensures belief { (first : Files) → Holds (O.contents out.old) self.old.belief first → Holds (O.contents out.new) self.new.belief first }
-        // and the output is exactly what the held files stand for, but for the paths that failed, and these are marked.
-        ensures leaves { (first : Files) (failed : List (List ℕ)) → Holds (O.contents out.old) self.old.belief first → FailedAt result failed →
-            Leaves self.old failed (O.contents out.old) (O.contents out.new) self.new.belief }
-        ensures unlisted { result ≡ Ok Rebuilt.Unlisted → O.contents out.new ≡ O.contents out.old }
-        ensures fault { (fault : SiteFault) → result ≡ Ok (Rebuilt.Fault fault) → (full self.old.files self.old.moment self.old.settings ≡ Err fault) × (self.new ≡ rendered_now self.old) × (out.new ≡ out.old) }
-        // Files with a fault make no call on the output; others list it where it was not listed, and then try each step of the plan once.
-        ensures quiet { (fault : SiteFault) → full self.old.files self.old.moment self.old.settings ≡ Err fault → out.new ≡ out.old }
-        ensures called { (first : Files) (written : Written) → Holds (O.contents out.old) self.old.belief first → full self.old.files self.old.moment self.old.settings ≡ Ok written →
-            Called self.old.belief first written result (O.calls out.old) (O.calls out.new) }
-        // What is rendered is what is stale.
-        ensures tallied { Tallied B.adds self.old result tally.old tally.new }
-        // The output's count of failures rises by at least what the answer shows, and stays where all went well.
-        ensures later { O.failures out.old ≤ O.failures out.new }
-        ensures cause { (reply : Reply) → built_reply result ≡ Some reply → min (O.failures out.old + output_failures reply) (2 ^ 64 - 1) ≤ O.failures out.new }
-        ensures steady { (report : Report) → result ≡ Ok (Rebuilt.Built report) → O.failures out.new ≡ O.failures out.old }
-        ensures same { (self.new.files ≡ self.old.files) × (self.new.moment ≡ self.old.moment) × (self.new.settings ≡ self.old.settings) }
-        ensures err { OnErr result (O.contents out.new ≡ O.contents out.old) }
-    {
-        let output = built_output(
+        let output = output_one_by_one(
             alloc,
             &self.held,
             self.moment,
             &self.settings,
-            rounds,
+            renderer,
             &mut self.memo,
             tally,
         );
-        match output {
-            Ok(output) => make(&mut self.keeper, alloc, output, out),
-            Err(SiteError::Fault(fault)) => Ok(Rebuilt::Fault(fault)),
-            Err(SiteError::Memory) => Err(Memory),
-        }
+        finish(&mut self.keeper, alloc, output, out)
     }
 
-    /// Does a line of a script, and says what is replied.
-    pub fn answer<S: SourceTree, O: OutTree, B: Rounds>(
+    /// The same by so many threads, 1 to 64: whatever the order in which they come to the items, the answer, the output and what is
+    /// kept are those of `rebuild_serial`. Names join the tally in any order. Behind a fault, items may have been rendered too;
+    /// their names join the tally, each once at most.
+    ///
+    /// It waits for the threads that it started, and for nothing else.
+    pub fn rebuild<H: Threads + Wait + Sync, O: OutTree, R: Renderer<Meaning = PageMeaning> + Sync>(
+        &mut self,
+        alloc: Global,
+        rt: &H,
+        jobs: u32,
+        out: &mut O,
+        renderer: &R,
+        tally: &mut Tally,
+    ) -> Result<Rebuilt, Memory>
+        requires { (1 ≤ jobs) × (jobs ≤ 64) }
+        ensures { Rebuilds in_any_order O.contents O.calls O.failures self.old self.new result out.old out.new tally.old tally.new }
+    {
+        self.rebuild_by(alloc, out, &Crew { rt, jobs, renderer }, tally)
+    }
+
+    // The same by a crew.
+    fn rebuild_by<H: Threads + Wait + Sync, O: OutTree, R: Renderer<Meaning = PageMeaning> + Sync>(
+        &mut self,
+        alloc: Global,
+        out: &mut O,
+        crew: &Crew<'_, H, R>,
+        tally: &mut Tally,
+    ) -> Result<Rebuilt, Memory>
+        requires { (1 ≤ crew.now.jobs) × (crew.now.jobs ≤ 64) }
+        ensures { Rebuilds in_any_order O.contents O.calls O.failures self.old self.new result out.old out.new tally.old tally.new }
+    {
+        let output = output_by_crew(
+            alloc,
+            &self.held,
+            self.moment,
+            &self.settings,
+            crew,
+            &mut self.memo,
+            tally,
+        );
+        finish(&mut self.keeper, alloc, output, out)
+    }
+
+    /// Does a line of a script, and says what is replied. A build is done by the crew, which has 1 to 64 threads.
+    pub fn answer<
+        H: Threads + Wait + Sync,
+        S: SourceTree,
+        O: OutTree,
+        R: Renderer<Meaning = PageMeaning> + Sync,
+    >(
         &mut self,
         alloc: Global,
         number: u64,
         line: Line,
         source: &mut S,
         out: &mut O,
-        rounds: &B,
+        crew: &Crew<'_, H, R>,
         tally: &mut Tally,
     ) -> Result<Reply, Memory>
-        requires { IsInTime line }
+        requires line { IsInTime line }
+        requires jobs { (1 ≤ crew.now.jobs) × (crew.now.jobs ≤ 64) }
         ensures answers { (given : Given) → S.files source.old ≡ Some given.source → Holds (O.contents out.old) self.old.belief given.output →
             IfOk result (λ reply. Answers given self.old number line reply self.new) }
         ensures belief { (first : Files) → Holds (O.contents out.old) self.old.belief first → Holds (O.contents out.new) self.new.belief first }
@@ -221,23 +236,24 @@ impl Session {
         ensures output_later { O.failures out.old ≤ O.failures out.new }
         ensures output_cause { IfOk result (λ reply. min (O.failures out.old + output_failures reply) (2 ^ 64 - 1) ≤ O.failures out.new) }
         // What a build renders is what is stale; other lines render nothing.
-        ensures tallied { OnOk result (LineTallied B.adds self.old line tally.old tally.new) }
+        ensures tallied { OnOk result (LineTallied in_any_order self.old line tally.old tally.new) }
     {
         match line {
-            Line::Scan => self.scan_line(alloc, number, source),
+            Line::Scan => self.answer_scan(alloc, number, source),
             Line::Put(path, bytes) => self.put_line(number, path, bytes),
             Line::Delete(path) => Ok(self.delete_line(number, &path)),
             Line::Time(moment) => {
                 self.set_moment(moment);
                 Ok(Reply::Fine)
             }
-            Line::Build => self.build_line(alloc, number, out, rounds, tally),
+            Line::Build => self.build_line(alloc, number, out, crew, tally),
             Line::Bad(at, kind) => Ok(Reply::BadLine(at, kind)),
             Line::End | Line::Eof | Line::Failed | Line::Memory => Ok(Reply::Silent),
         }
     }
 
-    fn scan_line<S: SourceTree>(
+    /// Does a line `scan`, and says what is replied.
+    pub fn answer_scan<S: SourceTree>(
         &mut self,
         alloc: Global,
         number: u64,
@@ -286,14 +302,15 @@ impl Session {
         }
     }
 
-    fn build_line<O: OutTree, B: Rounds>(
+    fn build_line<H: Threads + Wait + Sync, O: OutTree, R: Renderer<Meaning = PageMeaning> + Sync>(
         &mut self,
         alloc: Global,
         number: u64,
         out: &mut O,
-        rounds: &B,
+        crew: &Crew<'_, H, R>,
         tally: &mut Tally,
     ) -> Result<Reply, Memory>
+        requires { (1 ≤ crew.now.jobs) × (crew.now.jobs ≤ 64) }
         ensures answers { (given : Given) → Holds (O.contents out.old) self.old.belief given.output →
             IfOk result (λ reply. Answers given self.old number line.Build reply self.new) }
         ensures belief { (first : Files) → Holds (O.contents out.old) self.old.belief first → Holds (O.contents out.new) self.new.belief first }
@@ -305,13 +322,10 @@ impl Session {
         ensures later { O.failures out.old ≤ O.failures out.new }
         ensures cause { IfOk result (λ reply. min (O.failures out.old + output_failures reply) (2 ^ 64 - 1) ≤ O.failures out.new) }
         ensures quiet { IfOk result (λ reply. source_failures reply ≡ 0) }
-        ensures tallied { OnOk result (B.adds (names_now self.old) (names_past_now self.old) tally.old tally.new) }
+        ensures tallied { OnOk result (in_any_order (names_now self.old) (names_past_now self.old) tally.old tally.new) }
     {
-        match self.rebuild_by(alloc, out, rounds, tally) {
-            Ok(Rebuilt::Built(report)) => Ok(Reply::Built(report)),
-            Ok(Rebuilt::Fault(fault)) => Ok(Reply::Faulty(fault)),
-            Ok(Rebuilt::Marked(paths)) => Ok(Reply::Marked(paths)),
-            Ok(Rebuilt::Unlisted) => Ok(Reply::Unlisted),
+        match self.rebuild_by(alloc, out, crew, tally) {
+            Ok(rebuilt) => Ok(Reply::of_build(rebuilt)),
             Err(Memory) => Err(Memory),
         }
     }

@@ -1,6 +1,8 @@
 // A run over ends in memory, and what came of it.
-ghost use Rattle.std.specs.Prelude.{◌≡◌, [], ◌∷◌, codes, Ok, Some, true, IfErr, IfOk, IsErrOf};
+ghost use Rattle.std.specs.Prelude.{◌≡◌, List, [], ◌∷◌, codes, Ok, Some, true, IfErr, IfOk, IsErrOf};
 ghost use Rattle.site_session.specs.Session.{start};
+ghost use Rattle.site_session.specs.Tallied.{effects};
+ghost use Rattle.site_base.specs.declared.item_name.ItemName.{ItemName};
 ghost use Rattle.site_base.specs.declared.settings.Settings.{Settings};
 ghost use Rattle.site_words.specs.declared.orders.Options.{Options};
 ghost use Rattle.site_words.specs.declared.orders.Order.TheVariants as order;
@@ -20,6 +22,7 @@ use site_program::{Status, run_jobs, run_once};
 use source_tree::{MemorySource, paths_stand_apart};
 use std::alloc::Global;
 use std::sync::Wait;
+use std::thread::Threads;
 
 /// What a run is given: the words of its command line, and ends in memory with their failing calls,
 /// counted from 1. Files are paths with texts.
@@ -108,7 +111,7 @@ impl<'a> Scenario<'a> {
     /// A run of `build` or `session` at a moment, in seconds from the beginning of 1970.
     pub fn run_jobs(
         &self,
-        rt: &impl Wait,
+        rt: &(impl Threads + Wait + Sync),
         alloc: Global,
         moment: i64,
     ) -> Result<RunEnd, ScenarioError>
@@ -119,10 +122,10 @@ impl<'a> Scenario<'a> {
             Took (told_of self.now options) (after_scan (told_of self.now options) (start options.settings moment)) [] (Some outcome.ends.sink.taken) outcome.status) }
         ensures build_input { (options : Options) → jobs_order (word_list self.now.words.now) moment ≡ Ok (order.Build options) → IfOk result (λ outcome.
             outcome.ends.input.left ≡ self.now.script.now) }
-        // Of `session`: that it does the lines of the script, and tells what it did.
+        // Of `session`: that it does the lines of the script, tells what it did, and notes what it renders in a tally.
         ensures session { (options : Options) → jobs_order (word_list self.now.words.now) moment ≡ Ok (order.Session options) → IfOk result (λ outcome.
-            SessionRun contents (told_of self.now options) (start options.settings moment) self.now.script.now [] (Some outcome.ends.input.left) (Some outcome.ends.sink.taken)
-            (output_of self.now) outcome.ends.out (record { source_first = 0; source_now = outcome.ends.source.failures; output_first = 0; output_now = outcome.ends.out.failures }) outcome.status) }
+            (names : List ItemName) × SessionRun contents (told_of self.now options) (start options.settings moment) self.now.script.now [] (Some outcome.ends.input.left) (Some outcome.ends.sink.taken)
+            (effects (output_of self.now) []) (effects outcome.ends.out names) (record { source_first = 0; source_now = outcome.ends.source.failures; output_first = 0; output_now = outcome.ends.out.failures }) outcome.status) }
         ensures fault { IfErr result (IsFault self.now) }
     {
         let words = words(alloc, self.words)?;

@@ -4,6 +4,7 @@ use crate::scenario_error::ScenarioError;
 use std::alloc::Global;
 use std::process::Abort;
 use std::sync::Wait;
+use std::thread::Threads;
 
 // 2024-01-01T00:00:00Z, in seconds from the beginning of 1970.
 pub(crate) const NEW_YEAR: i64 = 1_704_067_200;
@@ -40,7 +41,11 @@ fn is_for_jobs(words: &[&str]) -> bool {
 }
 
 // Runs what is given with the top call that knows its command.
-fn run(rt: &impl Wait, alloc: Global, given: &Scenario<'_>) -> Result<RunEnd, ScenarioError> {
+fn run(
+    rt: &(impl Threads + Wait + Sync),
+    alloc: Global,
+    given: &Scenario<'_>,
+) -> Result<RunEnd, ScenarioError> {
     if is_for_jobs(given.words) {
         given.run_jobs(rt, alloc, NEW_YEAR)
     } else {
@@ -67,7 +72,7 @@ fn is_seen(alloc: Global, outcome: &RunEnd, row: &Row) -> bool {
         && has_outputs(alloc, outcome, row.outputs)
 }
 
-fn comes_out(rt: &impl Wait, alloc: Global, row: &Row) -> bool {
+fn comes_out(rt: &(impl Threads + Wait + Sync), alloc: Global, row: &Row) -> bool {
     match run(rt, alloc, &row.given) {
         Ok(outcome) => is_seen(alloc, &outcome, row),
         Err(_) => false,
@@ -75,7 +80,7 @@ fn comes_out(rt: &impl Wait, alloc: Global, row: &Row) -> bool {
 }
 
 // Runs what is given, and looks at what comes of it.
-pub(crate) fn check(rt: &(impl Abort + Wait), alloc: Global, rows: &[Row]) {
+pub(crate) fn check(rt: &(impl Abort + Threads + Wait + Sync), alloc: Global, rows: &[Row]) {
     for row in rows {
         assert!(rt; comes_out(rt, alloc, row), "not with {}", row.replies);
     }

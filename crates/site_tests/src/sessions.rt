@@ -3,6 +3,7 @@ use crate::scenario::{RunEnd, Scenario};
 use crate::seen::{NEW_YEAR, PLAIN, Row, check, replies_are};
 use std::alloc::Global;
 use std::sync::Wait;
+use std::thread::Threads;
 
 const PAGE: &str = "---\ntitle: Hi\n---\n<h1>{{ page.title }}</h1>\n";
 
@@ -345,7 +346,7 @@ fn ends_with(outcome: &RunEnd, status: u8, replies: &str) -> bool {
 }
 
 fn run_ends_with(
-    rt: &impl Wait,
+    rt: &(impl Threads + Wait + Sync),
     alloc: Global,
     given: &Scenario<'_>,
     status: u8,
@@ -371,7 +372,7 @@ fn is_called_once(outcome: &RunEnd) -> bool {
     outcome.ends.out.calls() == 2 && outcome.ends.input.len() == 6
 }
 
-fn second_build_calls_nobody(rt: &impl Wait, alloc: Global) -> bool {
+fn second_build_calls_nobody(rt: &(impl Threads + Wait + Sync), alloc: Global) -> bool {
     match Scenario::session(TWO_BUILDS).run_jobs(rt, alloc, NEW_YEAR) {
         Ok(outcome) => {
             replies_are(
@@ -398,7 +399,11 @@ fn long_text(alloc: Global) -> Option<String> {
     Some(long)
 }
 
-fn builds_refuse(rt: &impl Wait, alloc: Global, sources: &[(&str, &str)]) -> bool {
+fn builds_refuse(
+    rt: &(impl Threads + Wait + Sync),
+    alloc: Global,
+    sources: &[(&str, &str)],
+) -> bool {
     let build = Scenario {
         words: &["build"],
         ..Scenario::once(sources)

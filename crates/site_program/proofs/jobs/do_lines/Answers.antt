@@ -1,6 +1,7 @@
 use Rattle.std.proofs.Common.{◌∙◌, ap, sym, subst, refl, Some, ℕ, [], arith}
 use Rattle.std.proofs.lemmas.List.{append-nil}
 use Rattle.site_script.specs.Reader.{ReaderState}
+use Rattle.site_session.specs.Tallied.{effects}
 use Rattle.site_program.specs.Sessions.{Counts, SoFar}
 use Rattle.site_program.proofs.Turns.{moved, session_more, session_ends, gone_none, counted_none}
 use Rattle.site_program.proofs.jobs.do_lines.Goals as goal
@@ -18,7 +19,7 @@ lines-init g c = record {
       replies = [];
       left = text;
       going = record {
-        gone = gone_none g.O.OutTree.contents given c.args.session.now text c.args.out.now;
+        gone = gone_none g.O.OutTree.contents given c.args.session.now text (effects c.args.out.now c.args.tally.now);
         bytes = w ∙ ap Some (sym (append-nil before));
         output = out;
         counted = counted_none _ _;
@@ -34,7 +35,7 @@ returns-in-Some-turn-clause-run g c = λ given text before why told out bytes w.
     let so = c.lines.invariant.so_far given text before why told out bytes w in
     let told1 = c.lines.invariant.same ∙ told in
     session_ends g.O.OutTree.contents given c.args.session.now text before c.lines.session c.lines.reader.lines c.number.result
-    (g.I.ByteSource.left c.lines.input) (g.I.ByteSource.left c.next_line-line.new.input) (g.K.ByteSink.taken c.lines.sink) c.args.out.now c.lines.out _ _ _ c.next_line-line.result
+    (g.I.ByteSource.left c.lines.input) (g.I.ByteSource.left c.next_line-line.new.input) (g.K.ByteSink.taken c.lines.sink) (effects c.args.out.now c.args.tally.now) (effects c.lines.out c.lines.tally) _ _ _ c.next_line-line.result
     so.1 c.turn.ensures.source_later c.turn.ensures.output_later (λ left is. c.next_line-line.ensures.line left so.0 is) (c.number.ensures ∙ c.next_line-line.ensures.number so.0)
     c.turn.new.session _ _ c.in-Some-turn.status (λ b is. c.in-Some-turn.ensures.ends given b why told1 so.1.going.output is)
 
@@ -56,9 +57,9 @@ lines-preserved g c = record {
       let source_now = g.S.SourceTree.failures c.turn.new.source in
       let output_now = g.O.OutTree.failures c.turn.new.out in (
         c.next_line-line.ensures.over ∙ (c.in-None-turn.ensures.next given _ why told1 so.1.going.output so.1.going.bytes).goes,
-        subst (λ (n : ℕ). SoFar g.O.OutTree.contents given c.args.session.now text before c.turn.new.session n (g.I.ByteSource.left c.next_line-line.new.input) (g.K.ByteSink.taken c.turn.new.sink) c.args.out.now c.turn.new.out (moved counts source_now output_now)) c.number.ensures
+        subst (λ (n : ℕ). SoFar g.O.OutTree.contents given c.args.session.now text before c.turn.new.session n (g.I.ByteSource.left c.next_line-line.new.input) (g.K.ByteSink.taken c.turn.new.sink) (effects c.args.out.now c.args.tally.now) (effects c.turn.new.out c.turn.new.tally) (moved counts source_now output_now)) c.number.ensures
             (session_more g.O.OutTree.contents given c.args.session.now text before c.lines.session c.lines.reader.lines c.number.result
-            (g.I.ByteSource.left c.lines.input) (g.I.ByteSource.left c.next_line-line.new.input) (g.K.ByteSink.taken c.lines.sink) c.args.out.now c.lines.out counts source_now output_now c.next_line-line.result
+            (g.I.ByteSource.left c.lines.input) (g.I.ByteSource.left c.next_line-line.new.input) (g.K.ByteSink.taken c.lines.sink) (effects c.args.out.now c.args.tally.now) (effects c.lines.out c.lines.tally) counts source_now output_now c.next_line-line.result
             so.1 c.turn.ensures.source_later c.turn.ensures.output_later (λ left is. c.next_line-line.ensures.line left so.0 is) (c.number.ensures ∙ c.next_line-line.ensures.number so.0)
             c.turn.new.session _ _ (λ b is. c.in-None-turn.ensures.next given b why told1 so.1.going.output is) (c.turn.ensures.belief given.output so.1.going.output)),
       );

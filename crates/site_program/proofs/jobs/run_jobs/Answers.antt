@@ -1,6 +1,7 @@
 use Rattle.std.proofs.Common.{ap, refl, subst, sym, ◌∙◌}
 use Rattle.std.proofs.Math.Facts.{to_z-of_z}
 use Rattle.site_session.specs.Session.{start}
+use Rattle.site_session.specs.Tallied.{effects}
 use Rattle.site_session.specs.Standing.{Standing}
 use Rattle.site_words.specs.declared.orders.Options.{Options}
 use Rattle.site_program.specs.Once.{after_scan, Ended, Took}
@@ -8,15 +9,21 @@ use Rattle.site_program.specs.Runs.{OnceRun}
 use Rattle.site_program.specs.Sessions.{Counts, SessionRun}
 use Rattle.site_program.specs.declared.usage.TopCall.TheVariants as call
 use Rattle.site_program.proofs.Onces.{cut_none, holds_first}
-use Rattle.site_program.proofs.Orders.{in_time, known, none_for_jobs, ordered, same_build, same_session, same_start}
+use Rattle.site_program.proofs.Orders.{build_jobs_in_range, in_time, known, none_for_jobs, ordered, same_build, same_session, same_start, session_jobs_in_range}
 use Rattle.site_program.proofs.Turns.{session_none}
 use Rattle.site_program.proofs.jobs.run_jobs.Goals as goal
 
-pub scan_and_build-requires : goal.scan_and_build-requires
-scan_and_build-requires g c = in_time call.Jobs c.args.words.now _ _ c.in-Ok.ensures
+pub build_by_crew-requires-clause-moment : goal.build_by_crew-requires-clause-moment
+build_by_crew-requires-clause-moment g c = in_time call.Jobs c.args.words.now _ _ c.in-Ok.ensures
 
-pub run_session-requires : goal.run_session-requires
-run_session-requires g c = in_time call.Jobs c.args.words.now _ _ c.in-Ok.ensures
+pub build_by_crew-requires-clause-jobs : goal.build_by_crew-requires-clause-jobs
+build_by_crew-requires-clause-jobs g c = build_jobs_in_range c.args.words.now _ _ _ c.in-Ok.ensures c.in-Build.is
+
+pub run_session-requires-clause-jobs : goal.run_session-requires-clause-jobs
+run_session-requires-clause-jobs g c = session_jobs_in_range c.args.words.now _ _ _ c.in-Ok.ensures c.in-Session.is
+
+pub run_session-requires-clause-moment : goal.run_session-requires-clause-moment
+run_session-requires-clause-moment g c = in_time call.Jobs c.args.words.now _ _ c.in-Ok.ensures
 
 pub unreachable-requires : goal.unreachable-requires
 unreachable-requires g c = none_for_jobs c.in-Ok.order (known call.Jobs c.args.words.now _ _ c.in-Ok.ensures) c.in_default.not-Build c.in_default.not-Session
@@ -27,24 +34,24 @@ returns-in-Build-clause-build g c = λ given options is told out.
     let moment_is = to_z-of_z c.ranges.moment in
     let order_is = ordered call.Jobs c.args.words.now _ _ _ _ moment_is c.in-Ok.ensures is in
     let options_is = same_build c.in-Ok.order c.in-Build.options options c.in-Build.is order_is in
-    subst (λ (s : Standing). Ended (after_scan given s) (g.O.OutTree.contents c.args.out.now) (g.O.OutTree.contents c.scan_and_build.new.out) c.scan_and_build.result) (same_start _ _ _ _ (ap (λ (o : Options). o.settings) options_is) moment_is)
-    (c.scan_and_build.ensures.told given told out)
+    subst (λ (s : Standing). Ended (after_scan given s) (g.O.OutTree.contents c.args.out.now) (g.O.OutTree.contents c.build_by_crew.new.out) c.build_by_crew.result) (same_start _ _ _ _ (ap (λ (o : Options). o.settings) options_is) moment_is)
+    (c.build_by_crew.ensures.told given told out)
 
 pub returns-in-Build-clause-build_took : goal.returns-in-Build-clause-build_took
 returns-in-Build-clause-build_took g c = λ given options before is why told out w.
     let moment_is = to_z-of_z c.ranges.moment in
     let order_is = ordered call.Jobs c.args.words.now _ _ _ _ moment_is c.in-Ok.ensures is in
     let options_is = same_build c.in-Ok.order c.in-Build.options options c.in-Build.is order_is in
-    subst (λ (s : Standing). Took given (after_scan given s) before (g.K.ByteSink.taken c.scan_and_build.new.sink) c.scan_and_build.result) (same_start _ _ _ _ (ap (λ (o : Options). o.settings) options_is) moment_is)
-    (c.scan_and_build.ensures.took given before (why ∙ ap (λ (o : Options). o.why) (sym options_is)) told out w)
+    subst (λ (s : Standing). Took given (after_scan given s) before (g.K.ByteSink.taken c.build_by_crew.new.sink) c.build_by_crew.result) (same_start _ _ _ _ (ap (λ (o : Options). o.settings) options_is) moment_is)
+    (c.build_by_crew.ensures.took given before (why ∙ ap (λ (o : Options). o.why) (sym options_is)) told out w)
 
 pub returns-in-Build-clause-build_run : goal.returns-in-Build-clause-build_run
 returns-in-Build-clause-build_run g c = λ given options before is why told out w.
     let moment_is = to_z-of_z c.ranges.moment in
     let order_is = ordered call.Jobs c.args.words.now _ _ _ _ moment_is c.in-Ok.ensures is in
     let options_is = same_build c.in-Ok.order c.in-Build.options options c.in-Build.is order_is in
-    subst (λ (s : Standing). OnceRun g.O.OutTree.contents given s before (g.K.ByteSink.taken c.scan_and_build.new.sink) c.args.out.now c.scan_and_build.new.out c.scan_and_build.result) (same_start _ _ _ _ (ap (λ (o : Options). o.settings) options_is) moment_is)
-    (c.scan_and_build.ensures.run given before (why ∙ ap (λ (o : Options). o.why) (sym options_is)) told out w)
+    subst (λ (s : Standing). OnceRun g.O.OutTree.contents given s before (g.K.ByteSink.taken c.build_by_crew.new.sink) (effects c.args.out.now c.args.tally.now) (effects c.build_by_crew.new.out c.build_by_crew.new.tally) c.build_by_crew.result) (same_start _ _ _ _ (ap (λ (o : Options). o.settings) options_is) moment_is)
+    (c.build_by_crew.ensures.run given before (why ∙ ap (λ (o : Options). o.why) (sym options_is)) told out w)
 
 pub returns-in-Session-clause-session : goal.returns-in-Session-clause-session
 returns-in-Session-clause-session g c = λ given options text before is why told out bytes w.
@@ -57,7 +64,7 @@ returns-in-Session-clause-session g c = λ given options text before is why told
       output_first = g.O.OutTree.failures c.args.out.now;
       output_now = g.O.OutTree.failures c.run_session.new.out;
     } in
-    subst (λ (s : Standing). SessionRun g.O.OutTree.contents given s text before (g.I.ByteSource.left c.run_session.new.input) (g.K.ByteSink.taken c.run_session.new.sink) c.args.out.now c.run_session.new.out counts c.run_session.result) (same_start _ _ _ _ (ap (λ (o : Options). o.settings) options_is) moment_is)
+    subst (λ (s : Standing). SessionRun g.O.OutTree.contents given s text before (g.I.ByteSource.left c.run_session.new.input) (g.K.ByteSink.taken c.run_session.new.sink) (effects c.args.out.now c.args.tally.now) (effects c.run_session.new.out c.run_session.new.tally) counts c.run_session.result) (same_start _ _ _ _ (ap (λ (o : Options). o.settings) options_is) moment_is)
     (c.run_session.ensures.run given text before (why ∙ ap (λ (o : Options). o.why) (sym options_is)) told out bytes w)
 
 pub returns-in-Err-Memory-clause-build_run : goal.returns-in-Err-Memory-clause-build_run

@@ -11,7 +11,7 @@ returns-in-Err-write_reply-clause-stopped g c = λ given before why told h w.
         new = c.answer.new.self;
         answers = c.in-Ok.ensures.answers given told h;
         output = c.in-Ok.ensures.belief given.output h;
-        leaves = record { built = c.in-Ok.ensures.leaves given.output h; untouched = c.in-Ok.ensures.untouched };
+        leaves = record { built = c.in-Ok.ensures.leaves given.output h; untouched = c.in-Ok.ensures.untouched; tallied = c.in-Ok.ensures.tallied };
         taken = p.0;
         part_is = refl;
       }),

@@ -1,6 +1,8 @@
-use Rattle.std.proofs.Common.{ℕ, List, refl, subst}
+use Rattle.std.proofs.Common.{ℕ, List, [], refl, subst}
+use Rattle.site_base.specs.declared.item_name.ItemName.{ItemName}
 use Rattle.std.proofs.Math.Facts.{to_z-of_z}
 use Rattle.site_session.specs.Session.{start}
+use Rattle.site_session.specs.Tallied.{effects}
 use Rattle.site_session.specs.Standing.{Standing}
 use Rattle.site_program.specs.Checks.{Checked, CheckTook, EndsAs, SaidBoth}
 use Rattle.site_program.specs.Makes.{first_bytes, make_status, second_bytes}
@@ -12,8 +14,8 @@ use Rattle.site_program.proofs.Onces.{cut_none}
 use Rattle.site_program.proofs.Orders.{in_time, known, makes_in_range, none_for_once, ordered, same_check, same_make, same_once, same_start}
 use Rattle.site_program.proofs.once.run_once.Goals as goal
 
-pub scan_and_build-requires : goal.scan_and_build-requires
-scan_and_build-requires g c = in_time call.Once c.args.words.now _ _ c.in-Ok.ensures
+pub build_one_by_one-requires : goal.build_one_by_one-requires
+build_one_by_one-requires g c = in_time call.Once c.args.words.now _ _ c.in-Ok.ensures
 
 pub scan_and_check-requires : goal.scan_and_check-requires
 scan_and_check-requires g c = in_time call.Once c.args.words.now _ _ c.in-Ok.ensures
@@ -27,24 +29,27 @@ returns-in-Once-clause-once g c = λ given settings is told out.
     let moment_is = to_z-of_z c.ranges.moment in
     let order_is = ordered call.Once c.args.words.now _ _ _ _ moment_is c.in-Ok.ensures is in
     let settings_is = same_once c.in-Ok.order c.in-Once.settings settings c.in-Once.is order_is in
-    subst (λ (s : Standing). Ended (after_scan given s) (g.O.OutTree.contents c.args.out.now) (g.O.OutTree.contents c.scan_and_build.new.out) c.scan_and_build.result) (same_start _ _ _ _ settings_is moment_is)
-    (c.scan_and_build.ensures.told given told out)
+    subst (λ (s : Standing). Ended (after_scan given s) (g.O.OutTree.contents c.args.out.now) (g.O.OutTree.contents c.build_one_by_one.new.out) c.build_one_by_one.result) (same_start _ _ _ _ settings_is moment_is)
+    (c.build_one_by_one.ensures.told given told out)
 
 pub returns-in-Once-clause-once_took : goal.returns-in-Once-clause-once_took
 returns-in-Once-clause-once_took g c = λ given settings before is why told out w.
     let moment_is = to_z-of_z c.ranges.moment in
     let order_is = ordered call.Once c.args.words.now _ _ _ _ moment_is c.in-Ok.ensures is in
     let settings_is = same_once c.in-Ok.order c.in-Once.settings settings c.in-Once.is order_is in
-    subst (λ (s : Standing). Took given (after_scan given s) before (g.K.ByteSink.taken c.scan_and_build.new.sink) c.scan_and_build.result) (same_start _ _ _ _ settings_is moment_is)
-    (c.scan_and_build.ensures.took given before why told out w)
+    subst (λ (s : Standing). Took given (after_scan given s) before (g.K.ByteSink.taken c.build_one_by_one.new.sink) c.build_one_by_one.result) (same_start _ _ _ _ settings_is moment_is)
+    (c.build_one_by_one.ensures.took given before why told out w)
 
 pub returns-in-Once-clause-once_run : goal.returns-in-Once-clause-once_run
 returns-in-Once-clause-once_run g c = λ given settings before is why told out w.
     let moment_is = to_z-of_z c.ranges.moment in
     let order_is = ordered call.Once c.args.words.now _ _ _ _ moment_is c.in-Ok.ensures is in
     let settings_is = same_once c.in-Ok.order c.in-Once.settings settings c.in-Once.is order_is in
-    subst (λ (s : Standing). OnceRun g.O.OutTree.contents given s before (g.K.ByteSink.taken c.scan_and_build.new.sink) c.args.out.now c.scan_and_build.new.out c.scan_and_build.result) (same_start _ _ _ _ settings_is moment_is)
-    (c.scan_and_build.ensures.run given before why told out w)
+    subst (λ (s : Standing). (names : List ItemName) × OnceRun g.O.OutTree.contents given s before (g.K.ByteSink.taken c.build_one_by_one.new.sink) (effects c.args.out.now []) (effects c.build_one_by_one.new.out names) c.build_one_by_one.result) (same_start _ _ _ _ settings_is moment_is) (
+      c.build_one_by_one.new.tally,
+      subst (λ (names : List ItemName). OnceRun g.O.OutTree.contents given _ before (g.K.ByteSink.taken c.build_one_by_one.new.sink) (effects c.args.out.now names) (effects c.build_one_by_one.new.out c.build_one_by_one.new.tally) c.build_one_by_one.result) c.new-tally.ensures
+          (c.build_one_by_one.ensures.run given before why told out w),
+    )
 
 pub returns-in-Check-clause-check : goal.returns-in-Check-clause-check
 returns-in-Check-clause-check g c = λ given settings is told.
@@ -64,7 +69,7 @@ returns-in-Check-clause-check_took g c = λ given settings before is told w.
 
 pub returns-clause-once_run : goal.returns-clause-once_run
 returns-clause-once_run g c = λ given settings before is why told out w.
-    cut_none g.O.OutTree.contents given (start settings c.args.moment) before _ _ _ refl out w refl
+    ([], cut_none g.O.OutTree.contents given (start settings c.args.moment) before _ _ _ refl out w refl)
 
 pub make-requires-clause-moment : goal.make-requires-clause-moment
 make-requires-clause-moment g c = in_time call.Once c.args.words.now _ _ c.in-Ok.ensures

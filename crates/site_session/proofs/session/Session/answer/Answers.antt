@@ -6,8 +6,8 @@ use Rattle.site_session.proofs.session.Session.answer.Goals as goal
 
 pub returns-in-Scan-clause-answers : goal.returns-in-Scan-clause-answers
 returns-in-Scan-clause-answers g c = λ given told h.
-    subst (λ (l : Line). IfOk c.scan_line.result (λ reply. Answers given c.args.self.now c.args.number l reply c.scan_line.new.self)) (sym c.in-Scan.is)
-    (c.scan_line.ensures.answers given told)
+    subst (λ (l : Line). IfOk c.answer_scan.result (λ reply. Answers given c.args.self.now c.args.number l reply c.answer_scan.new.self)) (sym c.in-Scan.is)
+    (c.answer_scan.ensures.answers given told)
 
 pub returns-in-Put-clause-answers : goal.returns-in-Put-clause-answers
 returns-in-Put-clause-answers g c = λ given told h.

@@ -1,20 +1,15 @@
+use Rattle.std.proofs.Common.{refl, subst}
+use Rattle.site_session.specs.Rebuilds.{Rebuilds}
+use Rattle.site_session.specs.Rounds.{in_order}
+use Rattle.site_session.specs.Standing.{Standing}
+use Rattle.site_session.proofs.Rebuilding.{rebuilds}
 use Rattle.site_session.proofs.session.Session.rebuild_serial.Goals as goal
 
 pub returns : goal.returns
 returns g c =
-    let by = c.rebuild_by.ensures in
-    record {
-      answers = by.answers;
-      belief = by.belief;
-      leaves = by.leaves;
-      unlisted = by.unlisted;
-      fault = by.fault;
-      quiet = by.quiet;
-      called = by.called;
-      tallied = by.tallied;
-      later = by.later;
-      cause = by.cause;
-      steady = by.steady;
-      same = by.same;
-      err = by.err;
-    }
+    let old = c.self.inside in
+    let first : Standing = record { files = old.held; moment = old.moment; settings = old.settings; kept = old.memo; belief = old.keeper } in
+    let last : Standing = record { files = old.held; moment = old.moment; settings = old.settings; kept = c.output_one_by_one.new.memo; belief = c.finish.new.keeper } in
+    subst (λ (s : Standing). Rebuilds in_order g.O.OutTree.contents g.O.OutTree.calls g.O.OutTree.failures s last c.finish.result c.args.out.now c.finish.new.out c.args.tally.now c.output_one_by_one.new.tally) c.self.view_is
+    (rebuilds in_order g.O.OutTree.contents g.O.OutTree.calls g.O.OutTree.failures first last c.output_one_by_one.result c.finish.result c.args.out.now c.finish.new.out c.args.tally.now c.output_one_by_one.new.tally
+    c.output_one_by_one.ensures c.finish.ensures (refl, refl, refl))

@@ -4,6 +4,7 @@ use Rattle.site_base.specs.Ends.{InputState, SinkState}
 use Rattle.source_tree.specs.Memory.{SourceState}
 use Rattle.out_tree.specs.Memory.{OutState}
 use Rattle.site_session.specs.Session.{start}
+use Rattle.site_session.specs.Tallied.{effects}
 use Rattle.site_program.specs.Once.{jobs_order}
 use Rattle.site_program.specs.Sessions.{Counts}
 use Rattle.site_tests.specs.Scenarios.{contents, given_of, told_of}
@@ -41,6 +42,9 @@ returns-clause-session g c = λ options is.
     let given = told_of c.args.self.now options in
     let source_first = ap (λ (s : SourceState). s.failures) c.in_ok-ends.ensures.source in
     let output_first = ap (λ (o : OutState). o.failures) c.in_ok-ends.ensures.out in
-    session contents given _ _ c.args.self.now.script.now _ _ _ _ _ _ _ _ (ap (start options.settings) same) c.in_ok-ends.ensures.out
-    (λ i. record { source_first = source_first i; source_now = c.run_jobs-status.new.source.failures; output_first = output_first i; output_now = c.run_jobs-status.new.out.failures })
-    (c.run_jobs-status.ensures.session given options c.args.self.now.script.now [] order refl source out input sink)
+    let none = c.new-tally.ensures in (
+      c.run_jobs-status.new.tally,
+      session contents given _ _ c.args.self.now.script.now _ _ _ _ _ _ _ _ (ap (start options.settings) same) (λ i. effects (c.in_ok-ends.ensures.out i) (none i))
+          (λ i. record { source_first = source_first i; source_now = c.run_jobs-status.new.source.failures; output_first = output_first i; output_now = c.run_jobs-status.new.out.failures })
+          (c.run_jobs-status.ensures.session given options c.args.self.now.script.now [] order refl source out input sink),
+    )

@@ -1,0 +1,135 @@
+// One build from nothing: a scan, and the build where it answers a number.
+ghost use Rattle.std.specs.Prelude.{◌≡◌, ◌≤◌, MatchResult, true};
+ghost use Rattle.site_base.specs.Ends.{Rose};
+ghost use Rattle.site_script.specs.Line.{is_moment};
+ghost use Rattle.site_session.specs.Session.{start};
+ghost use Rattle.site_session.specs.Tallied.{effects};
+ghost use Rattle.site_program.specs.OneBuild.{BuildStops, BuildTold, OneBuild, ScanStops, ScanTold};
+
+use crate::line::write_reply;
+use crate::status::{Status, Stop, status_of};
+use out_tree::OutTree;
+use page_render::PageMeaning;
+use read_record::{Renderer, Tally};
+use site_base::{ByteSink, Memory};
+use site_session::{Crew, Rebuilt, Reply, Session};
+use site_words::Options;
+use source_tree::SourceTree;
+use std::alloc::Global;
+use std::sync::Wait;
+use std::thread::Threads;
+
+// Rendered one item after another.
+pub(crate) fn build_one_by_one<
+    S: SourceTree,
+    O: OutTree,
+    K: ByteSink,
+    R: Renderer<Meaning = PageMeaning>,
+>(
+    alloc: Global,
+    options: Options,
+    moment: i64,
+    source: &mut S,
+    out: &mut O,
+    sink: &mut K,
+    renderer: &R,
+    tally: &mut Tally,
+) -> Status
+    requires { is_moment moment ≡ true }
+    ensures { OneBuild O.contents (start options.settings moment) options.why (S.files source.old) (K.taken sink.old) (K.taken sink.new) (effects out.old tally.old) (effects out.new tally.new)
+        (record { source_first = S.failures source.old; source_now = S.failures source.new; output_first = O.failures out.old; output_now = O.failures out.new }) (K.failures sink.old) (K.failures sink.new) result }
+{
+    let mut session = Session::open(alloc, options.settings, moment);
+    match tell_scan(alloc, options.why, &mut session, source, sink) {
+        Ok(Reply::Scanned(_)) => {}
+        Ok(other) => return status_of(other),
+        Err(stop) => return stop.status(),
+    }
+    let rebuilt = session.rebuild_serial(alloc, out, renderer, tally);
+    match tell_build(alloc, options.why, rebuilt, sink) {
+        Ok(reply) => status_of(reply),
+        Err(stop) => stop.status(),
+    }
+}
+
+// Rendered by the threads of a crew.
+pub(crate) fn build_by_crew<
+    H: Threads + Wait + Sync,
+    S: SourceTree,
+    O: OutTree,
+    K: ByteSink,
+    R: Renderer<Meaning = PageMeaning> + Sync,
+>(
+    alloc: Global,
+    options: Options,
+    moment: i64,
+    source: &mut S,
+    out: &mut O,
+    sink: &mut K,
+    crew: &Crew<'_, H, R>,
+    tally: &mut Tally,
+) -> Status
+    requires moment { is_moment moment ≡ true }
+    requires jobs { (1 ≤ crew.now.jobs) × (crew.now.jobs ≤ 64) }
+    ensures { OneBuild O.contents (start options.settings moment) options.why (S.files source.old) (K.taken sink.old) (K.taken sink.new) (effects out.old tally.old) (effects out.new tally.new)
+        (record { source_first = S.failures source.old; source_now = S.failures source.new; output_first = O.failures out.old; output_now = O.failures out.new }) (K.failures sink.old) (K.failures sink.new) result }
+{
+    let mut session = Session::open(alloc, options.settings, moment);
+    match tell_scan(alloc, options.why, &mut session, source, sink) {
+        Ok(Reply::Scanned(_)) => {}
+        Ok(other) => return status_of(other),
+        Err(stop) => return stop.status(),
+    }
+    let rebuilt = session.rebuild(alloc, crew.rt, crew.jobs, out, crew.renderer, tally);
+    match tell_build(alloc, options.why, rebuilt, sink) {
+        Ok(reply) => status_of(reply),
+        Err(stop) => stop.status(),
+    }
+}
+
+// Scans the source, as the first line of a session, and tells the reply.
+fn tell_scan<S: SourceTree, K: ByteSink>(
+    alloc: Global,
+    why: bool,
+    session: &mut Session,
+    source: &mut S,
+    sink: &mut K,
+) -> Result<Reply, Stop>
+    ensures told { MatchResult result
+        (λ reply. ScanTold why (S.files source.old) (S.failures source.old) (S.failures source.new) session.old session.new (K.taken sink.old) (K.taken sink.new) reply)
+        (λ stop. ScanStops (stop ≡ Stop.Memory) why (S.files source.old) session.old (K.taken sink.old) (K.taken sink.new)) }
+    ensures later { K.failures sink.old ≤ K.failures sink.new }
+    ensures cause { result ≡ Err Stop.Sink → Rose (K.failures sink.old) (K.failures sink.new) }
+{
+    let reply = match session.answer_scan(alloc, 1, source) {
+        Ok(reply) => reply,
+        Err(Memory) => return Err(Stop::Memory),
+    };
+    match write_reply(alloc, why, &reply, sink) {
+        Ok(()) => Ok(reply),
+        Err(stop) => Err(stop),
+    }
+}
+
+// Tells how a build ended.
+fn tell_build<K: ByteSink>(
+    alloc: Global,
+    why: bool,
+    rebuilt: Result<Rebuilt, Memory>,
+    sink: &mut K,
+) -> Result<Reply, Stop>
+    ensures told { MatchResult result
+        (λ reply. BuildTold why rebuilt (K.taken sink.old) (K.taken sink.new) reply)
+        (λ stop. BuildStops (stop ≡ Stop.Memory) why rebuilt (K.taken sink.old) (K.taken sink.new)) }
+    ensures later { K.failures sink.old ≤ K.failures sink.new }
+    ensures cause { result ≡ Err Stop.Sink → Rose (K.failures sink.old) (K.failures sink.new) }
+{
+    let reply = match rebuilt {
+        Ok(rebuilt) => Reply::of_build(rebuilt),
+        Err(Memory) => return Err(Stop::Memory),
+    };
+    match write_reply(alloc, why, &reply, sink) {
+        Ok(()) => Ok(reply),
+        Err(stop) => Err(stop),
+    }
+}

@@ -1,9 +1,0 @@
-use Rattle.std.proofs.Common.{subst, sym}
-use Rattle.std.proofs.Math.Facts.{to_z-of_z}
-use Rattle.site_dates.specs.Moment.{IsMoment}
-use Rattle.site_session.proofs.Moments.{moment}
-use Rattle.site_session.proofs.output.built_output.Goals as goal
-
--- an i64 that is handed on is the same number
-pub read_site-requires : goal.read_site-requires
-read_site-requires g c = subst (λ m. IsMoment m) (sym (to_z-of_z c.ranges.moment)) (moment c.args.moment c.requires)
