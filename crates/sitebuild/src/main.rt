@@ -3,7 +3,7 @@
 
 mod telling;
 
-use crate::telling::end;
+use crate::telling::{end, in_file};
 use out_tree::DiskOut;
 use page_render::PageRenderer;
 use read_record::Tally;
@@ -22,7 +22,7 @@ const NO_MOMENT: i64 = -1;
 fn main(rt: HostRuntime) -> ExitCode {
     let words = match words(&rt) {
         Ok(words) => words,
-        Err(status) => return end(&rt, &status),
+        Err(status) => return end(&rt, status),
     };
     let mut source = DiskSource::new(rt);
     let mut out = DiskOut::new(rt);
@@ -52,7 +52,7 @@ fn main(rt: HostRuntime) -> ExitCode {
             &mut sink,
         )
     };
-    end(&rt, &status)
+    end(&rt, in_file(rt.alloc(), &mut source, status))
 }
 
 // The words of the command line, without the program's name. Where they are no text, they have no kind of their own.

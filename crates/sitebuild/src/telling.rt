@@ -3,20 +3,63 @@ ghost use Rattle.std.specs.Prelude.{◌≡◌, IfOk};
 ghost use Rattle.std.specs.String.{string_bytes};
 ghost use Rattle.sitebuild.specs.Telling.{StatusSays, output_failure};
 
+use front_yaml::{Front, split_front};
+use site_base::{FaultKind, SiteFault};
 use site_program::Status;
 use site_sentences::{
     Failure, failure_line, failure_sentence, fault_line, script_line, usage_lines,
 };
+use source_tree::{DiskSource, SourceTree};
 use std::alloc::{AllocError, Global};
 use std::process::ExitCode;
 
 /// The exit code of a run. Standard error is told how it ended, unless it was done; nothing comes of it where standard error fails.
-pub(crate) fn end(rt: &HostRuntime, status: &Status) -> ExitCode {
-    let _ = match status_text(rt.alloc(), status) {
+pub(crate) fn end(rt: &HostRuntime, status: Status) -> ExitCode {
+    let _ = match status_text(rt.alloc(), &status) {
         Ok(text) => rt.eprint(text),
         Err(_) => rt.eprintln(failure_sentence(Failure::Memory)),
     };
     ExitCode::from(status.number())
+}
+
+/// The status for a person, who looks into the file: the line of a fault in a template is counted in its body, and here it is that of its
+/// file. Where the file cannot be read, the line stays.
+pub(crate) fn in_file(alloc: Global, source: &mut DiskSource, status: Status) -> Status {
+    match status {
+        Status::Site(fault) => Status::Site(SiteFault {
+            line: file_line(alloc, source, &fault),
+            ..fault
+        }),
+        other => other,
+    }
+}
+
+fn file_line(alloc: Global, source: &mut DiskSource, fault: &SiteFault) -> u64 {
+    if !is_in_body(fault) {
+        return fault.line;
+    }
+    match source.read(alloc, &fault.path) {
+        Ok(bytes) => fault.line.saturating_add(lines_before_body(&bytes)),
+        Err(_) => fault.line,
+    }
+}
+
+// Whether the line of a fault is counted in the body of its file: from F10 on, but for includes, which are templates from their first line.
+fn is_in_body(fault: &SiteFault) -> bool {
+    fault.line != 0
+        && fault.kind.number() >= FaultKind::LiquidSyntax.number()
+        && !fault.path.text().starts_with("_includes/")
+}
+
+fn lines_before_body(file: &[u8]) -> u64 {
+    match split_front(file) {
+        Front::Page { body, .. } => line_ends(&file[..body]),
+        Front::Open | Front::Plain => 0,
+    }
+}
+
+fn line_ends(text: &[u8]) -> u64 {
+    text.iter().filter(|byte| **byte == b'\n').count() as u64
 }
 
 // What is said of a status: nothing where all is done.
