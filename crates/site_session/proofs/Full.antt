@@ -15,7 +15,7 @@ use Rattle.render_workers.specs.Tallies.{times}
 use Rattle.render_workers.specs.declared.answers.Round.{Round}
 use Rattle.render_workers.specs.declared.answers.RoundError.{RoundError}
 use Rattle.render_workers.specs.declared.answers.RoundError.TheVariants as round_error
-use Rattle.round_core.specs.Meant.{given_by}
+use Rattle.round_core.specs.Meant.{Given, given_by}
 use Rattle.site_base.specs.Chains.{◌>>=◌}
 use Rattle.site_base.specs.Places.{Files}
 use Rattle.site_base.specs.declared.faults.SiteFault.{SiteFault}

@@ -1,9 +1,14 @@
+use Rattle.std.proofs.Common.{Result, sym, subst}
+use Rattle.site_reader.specs.declared.site_error.SiteError.{SiteError}
+use Rattle.site_session.specs.Makes.{Finishes}
+use Rattle.site_session.specs.declared.output.Output.{Output}
 use Rattle.site_session.proofs.build.finish.Goals as goal
 
 pub returns-in-Ok : goal.returns-in-Ok
 returns-in-Ok g c =
     let made = c.make.ensures in
-    record {
+    subst (λ (o : Result Output SiteError). Finishes g.O.OutTree.contents g.O.OutTree.calls g.O.OutTree.failures o c.make.result c.args.keeper.now c.make.new.keeper c.args.out.now c.make.new.out) (sym c.in-Ok.is)
+    (record {
       answers = made.answers;
       belief = made.belief;
       made = made.made;
@@ -14,4 +19,4 @@ returns-in-Ok g c =
       steady = made.steady;
       called = made.called;
       err = made.err;
-    }
+    })

@@ -4,10 +4,10 @@ use Rattle.site_session.proofs.Full.{came, counted}
 use Rattle.site_world.specs.Sights.{fixed_bytes}
 use Rattle.site_session.proofs.output.site_one_by_one.Goals as goal
 
-pub output_of-requires-counted : goal.output_of-requires-counted
-output_of-requires-counted g c =
-    counted in_order (given_of c.args.held.now c.args.site.now c.args.memo.now) (fixed_bytes c.args.held.now c.args.site.now) c.one_by_one.result c.one_by_one.new.memo c.args.tally.now c.one_by_one.new.tally c.one_by_one.ensures
+pub output_of-requires-clause-counted : goal.output_of-requires-clause-counted
+output_of-requires-clause-counted g c =
+    counted in_order (given_of c.args.held.now c.args.site.now c.args.memo.now) (fixed_bytes c.args.held.now c.args.site.now) c.one_by_one-round.result c.one_by_one-round.new.memo c.args.tally.now c.one_by_one-round.new.tally c.one_by_one-round.ensures
 
 pub returns : goal.returns
 returns g c =
-    came in_order c.args.held.now c.args.memo.now c.args.site.now c.one_by_one.new.memo c.args.tally.now c.one_by_one.new.tally c.one_by_one.result c.output_of.result c.one_by_one.ensures c.output_of.ensures
+    came in_order c.args.held.now c.args.memo.now c.args.site.now c.one_by_one-round.new.memo c.args.tally.now c.one_by_one-round.new.tally c.one_by_one-round.result c.output_of.result c.one_by_one-round.ensures c.output_of.ensures

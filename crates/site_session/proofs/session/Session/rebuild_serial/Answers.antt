@@ -9,7 +9,7 @@ pub returns : goal.returns
 returns g c =
     let old = c.self.inside in
     let first : Standing = record { files = old.held; moment = old.moment; settings = old.settings; kept = old.memo; belief = old.keeper } in
-    let last : Standing = record { files = old.held; moment = old.moment; settings = old.settings; kept = c.output_one_by_one.new.memo; belief = c.finish.new.keeper } in
-    subst (λ (s : Standing). Rebuilds in_order g.O.OutTree.contents g.O.OutTree.calls g.O.OutTree.failures s last c.finish.result c.args.out.now c.finish.new.out c.args.tally.now c.output_one_by_one.new.tally) c.self.view_is
-    (rebuilds in_order g.O.OutTree.contents g.O.OutTree.calls g.O.OutTree.failures first last c.output_one_by_one.result c.finish.result c.args.out.now c.finish.new.out c.args.tally.now c.output_one_by_one.new.tally
-    c.output_one_by_one.ensures c.finish.ensures (refl, refl, refl))
+    let last : Standing = record { files = old.held; moment = old.moment; settings = old.settings; kept = c.output_one_by_one-output.new.memo; belief = c.finish.new.keeper } in
+    subst (λ (s : Standing). Rebuilds in_order g.O.OutTree.contents g.O.OutTree.calls g.O.OutTree.failures s last c.finish.result c.args.out.now c.finish.new.out c.args.tally.now c.output_one_by_one-output.new.tally) c.self.view_is
+    (rebuilds in_order g.O.OutTree.contents g.O.OutTree.calls g.O.OutTree.failures first last c.output_one_by_one-output.result c.finish.result c.args.out.now c.finish.new.out c.args.tally.now c.output_one_by_one-output.new.tally
+    c.output_one_by_one-output.ensures c.finish.ensures (refl, refl, refl))
