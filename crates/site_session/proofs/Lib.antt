@@ -5,4 +5,5 @@ pub mod Steps
 mod ShownLaws
 mod MadeLaws
 pub mod RoundLaws
+mod Crosses
 pub mod Rebuilding

@@ -1,4 +1,7 @@
-use Rattle.std.proofs.Common.{refl, subst}
+use Rattle.std.proofs.Common.{FitsSigned, ℤ, refl, rules, subst, w64}
+use Rattle.std.proofs.Math.Facts.{to_z-of_z}
+use Rattle.site_reader.specs.Sites.{site}
+use Rattle.site_session.specs.Outputs.{IsOutput}
 use Rattle.site_session.specs.Rebuilds.{Rebuilds}
 use Rattle.site_session.specs.Rounds.{in_any_order}
 use Rattle.site_session.specs.Standing.{Standing}
@@ -9,7 +12,9 @@ pub returns : goal.returns
 returns g c =
     let old = c.self.inside in
     let first : Standing = record { files = old.held; moment = old.moment; settings = old.settings; kept = old.memo; belief = old.keeper } in
+    let fits : FitsSigned w64 old.moment = search rules in
+    let output = subst (λ (m : ℤ). IsOutput in_any_order old.held old.memo (site old.held m old.settings) c.output_by_crew-output.result c.output_by_crew-output.new.memo c.args.tally.now c.output_by_crew-output.new.tally) (to_z-of_z fits) c.output_by_crew-output.ensures in
     let last : Standing = record { files = old.held; moment = old.moment; settings = old.settings; kept = c.output_by_crew-output.new.memo; belief = c.finish.new.keeper } in
     subst (λ (s : Standing). Rebuilds in_any_order g.O.OutTree.contents g.O.OutTree.calls g.O.OutTree.failures s last c.finish.result c.args.out.now c.finish.new.out c.args.tally.now c.output_by_crew-output.new.tally) c.self.view_is
     (rebuilds in_any_order g.O.OutTree.contents g.O.OutTree.calls g.O.OutTree.failures first last c.output_by_crew-output.result c.finish.result c.args.out.now c.finish.new.out c.args.tally.now c.output_by_crew-output.new.tally
-    c.output_by_crew-output.ensures c.finish.ensures (refl, refl, refl))
+    output c.finish.ensures (refl, refl, refl))
