@@ -26,13 +26,13 @@ use Rattle.site_program.specs.Runs.{HalfTold, IsCut, Stopped, reply_status}
 use Rattle.site_program.specs.Sessions.{Counts}
 use Rattle.site_program.specs.declared.status.Status.{Status}
 use Rattle.site_program.specs.declared.status.Status.TheVariants as status
-use Rattle.site_program.proofs.Cases.{one_tells, two_tells, untouched_quiet, out_rose, source_rose}
+use Rattle.site_program.proofs.Cases.{Tells, one_tells, two_tells, untouched_quiet, out_rose, source_rose}
 use Rattle.site_program.proofs.Onces.{holds_first, whole_one, whole_two, cut_one, cut_two}
 
 -- ---- statuses
 
 -- the sink failed, or memory was wanting
-IsEarly : Status → Type 0
+abbrev pub IsEarly : Status → Type 0
 IsEarly s = (s ≡ status.SinkFault) ⊎ (s ≡ status.Memory)
 
 early_ended : (now : Standing) (told tells : Option Files) (s : Status) → IsEarly s → Ended now told tells s
@@ -159,7 +159,7 @@ module _ {D : Type 0} (contents : D → Option Files) (first opened : Standing) 
     sink_fault = λ e. absurd (plain_sink (reply_status reply) (plain reply) (sym is ∙ e));
   }
     where
-      tells : (given : Given) → source ≡ Some given.source → _
+      tells : (given : Given) → source ≡ Some given.source → Tells given (after_scan given opened) (contents was.output) (contents was.output) s (reply_bytes given.why reply)
       tells given src = one_tells given opened new reply (contents was.output) (contents was.output) s is (t.answers given src) other (λ _. refl)
 
       bytes_by : (given : Given) (before : List ℕ) → given.why ≡ why → taken ≡ Some before → taken' ≡ Some (before ++ reply_bytes given.why reply)
@@ -169,7 +169,7 @@ module _ {D : Type 0} (contents : D → Option Files) (first opened : Standing) 
   module _ (mid last : Standing) (scanned : Reply) (count : ℕ) (is_scanned : scanned ≡ Scanned count) (between : Option (List ℕ)) (source_first source_now output_first output_now : ℕ) (t : ScanTold why source source_first source_now opened mid taken between scanned)
       (calls : D → Option (List Call)) (failures : D → ℕ) (now : D) (tally : List ItemName) (rebuilt : Result Rebuilt Memory) (r : Rebuilds in_any_order contents calls failures mid last rebuilt was.output now was.tally tally)
       (first_is : output_first ≡ failures was.output) (now_is : output_now ≡ failures now) where
-    counts : Counts
+    abbrev pub counts : Counts
     counts = record { source_first = source_first; source_now = source_now; output_first = output_first; output_now = output_now }
 
     mid_holds : (given : Given) → contents was.output ≡ Some given.output → Holds (contents was.output) mid.belief given.output
@@ -216,7 +216,8 @@ module _ {D : Type 0} (contents : D → Option Files) (first opened : Standing) 
       sink_fault = λ e. absurd (plain_sink (reply_status reply) (plain reply) (sym is ∙ e));
     }
       where
-        tells : (given : Given) → source ≡ Some given.source → contents was.output ≡ Some given.output → _
+        tells : (given : Given) → source ≡ Some given.source → contents was.output ≡ Some given.output
+            → Tells given (after_scan given opened) (contents was.output) (contents now) s (reply_bytes given.why scanned ++ reply_bytes given.why reply)
         tells given src out =
             two_tells given opened mid last scanned reply count (contents was.output) (contents was.output) (contents now) s is is_scanned (ap (λ (o : Standing). o.belief) is_first ∙ unlisted)
             (t.answers given src) (r.answers given 2 reply (mid_holds given out) b.is) refl

@@ -1,5 +1,5 @@
 -- What a rebuild does, from what it found and what came of its output.
-use Rattle.std.proofs.Common.{◌≡◌, ◌∙◌, ◌+◌, ◌-◌, ◌^◌, ◌≤◌, ◌++◌, ℕ, min, inl, true, false, List, [], Option, Some, None, Result, Ok, Err, refl, sym, ap, subst, arith}
+use Rattle.std.proofs.Common.{◌≡◌, ◌∙◌, ◌+◌, ◌-◌, ◌^◌, ◌≤◌, ◌++◌, ℕ, min, inl, true, false, List, [], Option, Some, Result, Ok, Err, refl, sym, ap, subst, arith}
 use Rattle.out_tree.specs.Belief.{Belief}
 use Rattle.out_tree.specs.declared.step.Call.{Call}
 use Rattle.site_base.specs.Places.{Files}
@@ -9,8 +9,8 @@ use Rattle.site_base.specs.declared.item_name.ItemName.{ItemName}
 use Rattle.site_reader.specs.declared.site_error.SiteError.{SiteError}
 use Rattle.site_reader.specs.declared.site_error.SiteError.TheVariants as error
 use Rattle.site_session.specs.Full.{full}
-use Rattle.site_session.specs.Makes.{Finishes, IsShort, Makes}
-use Rattle.site_session.specs.Outputs.{IsOutput, Settled}
+use Rattle.site_session.specs.Makes.{Finishes, Makes}
+use Rattle.site_session.specs.Outputs.{IsOutput}
 use Rattle.site_session.specs.Rebuilds.{Rebuilds}
 use Rattle.site_session.specs.Tallied.{Tallied, effects}
 use Rattle.render_workers.specs.Tallies.{HasBetween, times}

@@ -1,5 +1,5 @@
 -- What a round of one item after another leaves, and one of many workers.
-use Rattle.std.proofs.Common.{◌≡◌, ◌∙◌, ℕ, suc, ◌+◌, ◌≤◌, List, [], ◌++◌, drop, Result, Ok, Err, refl, sym, ap, subst, arith}
+use Rattle.std.proofs.Common.{◌≡◌, ◌∙◌, ℕ, suc, List, [], ◌++◌, drop, Result, Ok, Err, sym, ap, subst, arith}
 use Rattle.memo_table.specs.Entries.{Entries}
 use Rattle.render_workers.specs.Rounds.{IsRound}
 use Rattle.render_workers.specs.declared.answers.Round.{Round}
@@ -9,7 +9,7 @@ use Rattle.round_core.specs.Meant.{Given}
 use Rattle.site_base.specs.declared.item_name.ItemName.{ItemName}
 use Rattle.render_workers.specs.Tallies.{times, SameNames, HasBetween}
 use Rattle.render_workers.specs.Worked.{IsWorked}
-use Rattle.render_workers.specs.Whys.{whys_below, why_names}
+use Rattle.render_workers.specs.Whys.{why_names}
 use Rattle.site_session.specs.Rounds.{IsGone, in_any_order, in_order}
 
 pub serial_gone : (g : Given) (fixed : ℕ) (r : Result Round RoundError) (kept : Entries) (before after : List ItemName) → IsRound g fixed r kept before after → IsGone in_order g fixed r kept before after

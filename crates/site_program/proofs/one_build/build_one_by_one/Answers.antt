@@ -24,8 +24,8 @@ returns-in-Ok-tell_build g c =
     _ _ _ _ refl _ _ _ _ _ c.in-Ok-Scanned.ensures.told g.O.OutTree.calls g.O.OutTree.failures _ _ _ (in_some_order g.O.OutTree.contents g.O.OutTree.calls g.O.OutTree.failures _ _ _ _ _ _ _ c.rebuild_serial-rebuilt.ensures) refl refl
     _ _ _ c.status_of-in-Ok-tell_build.result c.in-Ok-tell_build.reply c.in-Ok-tell_build.ensures.told c.status_of-in-Ok-tell_build.ensures
 
-pub returns-in-Err-tell_build : goal.returns-in-Err-tell_build
-returns-in-Err-tell_build g c =
+pub returns : goal.returns
+returns g c =
     let opened : c.open-session.result ≡ start c.args.options.settings c.args.moment = search rules in
     ends_cut g.O.OutTree.contents (start c.args.options.settings c.args.moment) c.open-session.result opened refl c.args.options.why (g.S.SourceTree.files c.args.source.now) (g.K.ByteSink.taken c.args.sink.now) (effects c.args.out.now c.args.tally.now)
     _ _ _ _ refl _ _ _ _ _ c.in-Ok-Scanned.ensures.told g.O.OutTree.calls g.O.OutTree.failures _ _ _ (in_some_order g.O.OutTree.contents g.O.OutTree.calls g.O.OutTree.failures _ _ _ _ _ _ _ c.rebuild_serial-rebuilt.ensures) refl refl
