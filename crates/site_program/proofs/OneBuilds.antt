@@ -1,5 +1,5 @@
 -- How one build from nothing ends, by the place at which it ends.
-use Rattle.std.proofs.Common.{◌≡◌, ◌∙◌, ◌⊎◌, inl, inr, ℕ, ◌+◌, ◌-◌, ◌^◌, ◌≤◌, min, max, Bool, true, false, List, [], ◌++◌, take, refl, sym, ap, subst, Option, Some, None, Result, Ok, Err, append_assoc, arith}
+use Rattle.std.proofs.Common.{◌≡◌, ◌∙◌, ◌⊎◌, inl, inr, ℕ, ◌+◌, ◌-◌, ◌^◌, ◌≤◌, min, Bool, false, List, [], ◌++◌, take, refl, sym, ap, subst, Option, Some, None, Result, Ok, Err, append_assoc, arith}
 use Rattle.std.specs.Result.{OnErr}
 use Rattle.out_tree.specs.declared.step.Call.{Call}
 use Rattle.site_base.specs.Ends.{Rose}
@@ -12,7 +12,7 @@ use Rattle.site_session.specs.Makes.{IsShort}
 use Rattle.site_session.specs.Rebuilds.{Rebuilds}
 use Rattle.site_session.specs.Replies.{IsQuiet, LeavesBy, LineLeaves, built_reply, has_called_output}
 use Rattle.site_session.specs.Rounds.{in_any_order}
-use Rattle.site_session.specs.Session.{Given, Answers, output_failures, source_failures}
+use Rattle.site_session.specs.Session.{Given, Answers, source_failures}
 use Rattle.site_session.specs.Standing.{Standing, Holds}
 use Rattle.site_session.specs.Tallied.{Effects, effects}
 use Rattle.site_session.specs.declared.build.Rebuilt.{Rebuilt}
@@ -21,8 +21,8 @@ use Rattle.site_session.specs.declared.reply.Reply.TheVariants.{Scanned, ScanFai
 use Rattle.site_session.proofs.Rebuilding.{answer-quiet, line_leaves, same-where-quiet}
 use Rattle.site_words.specs.declared.faults.UsageKind.{UsageKind}
 use Rattle.site_program.specs.Once.{after_scan, Ended, Took, Untouched}
-use Rattle.site_program.specs.OneBuild.{BuildStops, BuildTold, HalfBuild, HalfScan, OneBuild, Part, ScanStops, ScanTold}
-use Rattle.site_program.specs.Runs.{HalfTold, IsCut, Stopped, reply_status}
+use Rattle.site_program.specs.OneBuild.{BuildStops, BuildTold, HalfBuild, HalfScan, OneBuild, ScanStops, ScanTold}
+use Rattle.site_program.specs.Runs.{Stopped, reply_status}
 use Rattle.site_program.specs.Sessions.{Counts}
 use Rattle.site_program.specs.declared.status.Status.{Status}
 use Rattle.site_program.specs.declared.status.Status.TheVariants as status

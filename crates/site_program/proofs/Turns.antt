@@ -24,7 +24,7 @@ use Rattle.site_session.specs.Standing.{Standing, Holds}
 use Rattle.site_session.specs.declared.output.Output.{Output}
 use Rattle.site_session.specs.Replies.{AllLeave, LineLeaves, has_called_output}
 use Rattle.site_session.specs.Rounds.{in_any_order}
-use Rattle.site_session.specs.Tallied.{Effects, LineTallied, effects}
+use Rattle.site_session.specs.Tallied.{Effects, LineTallied}
 use Rattle.site_session.specs.Session.{Given, Answers, Run, Nothing, event_of, step, put, scan, build, build_reply, build_tree, failed_in, full_now, plan, rendered_now, source_failures, output_failures}
 use Rattle.site_session.specs.Bytes.{reply_bytes, written}
 use Rattle.site_session.specs.declared.reply.Reply.{Reply}

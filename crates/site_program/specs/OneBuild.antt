@@ -1,5 +1,5 @@
 -- One build from nothing: a scan, and the build where the scan answers a number.
-use Rattle.std.specs.Prelude.{◌≡◌, ◌⊎◌, ℕ, ◌+◌, ◌-◌, ◌^◌, ◌≤◌, min, max, Bool, List, [], ◌++◌, take, Option, Some, Result, Ok, Err}
+use Rattle.std.specs.Prelude.{◌≡◌, ◌⊎◌, ℕ, ◌+◌, ◌-◌, ◌^◌, ◌≤◌, min, max, Bool, List, [], ◌++◌, take, Option, Some, Result}
 use Rattle.site_base.specs.Ends.{Rose}
 use Rattle.site_base.specs.Places.{Files}
 use Rattle.site_base.specs.declared.errors.Memory.{Memory}

@@ -40,10 +40,13 @@ pub(crate) fn build_one_by_one<
         (record { source_first = S.failures source.old; source_now = S.failures source.new; output_first = O.failures out.old; output_now = O.failures out.new }) (K.failures sink.old) (K.failures sink.new) result }
 {
     let mut session = Session::open(alloc, options.settings, moment);
-    match tell_scan(alloc, options.why, &mut session, source, sink) {
-        Ok(Reply::Scanned(_)) => {}
-        Ok(other) => return status_of(other),
+    let scanned = match tell_scan(alloc, options.why, &mut session, source, sink) {
+        Ok(scanned) => scanned,
         Err(stop) => return stop.status(),
+    };
+    match scanned {
+        Reply::Scanned(_) => {}
+        other => return status_of(other),
     }
     let rebuilt = session.rebuild_serial(alloc, out, renderer, tally);
     match tell_build(alloc, options.why, rebuilt, sink) {
@@ -75,10 +78,13 @@ pub(crate) fn build_by_crew<
         (record { source_first = S.failures source.old; source_now = S.failures source.new; output_first = O.failures out.old; output_now = O.failures out.new }) (K.failures sink.old) (K.failures sink.new) result }
 {
     let mut session = Session::open(alloc, options.settings, moment);
-    match tell_scan(alloc, options.why, &mut session, source, sink) {
-        Ok(Reply::Scanned(_)) => {}
-        Ok(other) => return status_of(other),
+    let scanned = match tell_scan(alloc, options.why, &mut session, source, sink) {
+        Ok(scanned) => scanned,
         Err(stop) => return stop.status(),
+    };
+    match scanned {
+        Reply::Scanned(_) => {}
+        other => return status_of(other),
     }
     let rebuilt = session.rebuild(alloc, crew.rt, crew.jobs, out, crew.renderer, tally);
     match tell_build(alloc, options.why, rebuilt, sink) {

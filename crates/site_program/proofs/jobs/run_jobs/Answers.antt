@@ -14,16 +14,16 @@ use Rattle.site_program.proofs.Turns.{session_none}
 use Rattle.site_program.proofs.jobs.run_jobs.Goals as goal
 
 pub build_by_crew-requires-clause-moment : goal.build_by_crew-requires-clause-moment
-build_by_crew-requires-clause-moment g c κs = in_time call.Jobs c.args.words.now _ _ c.in-Ok.ensures
+build_by_crew-requires-clause-moment g c κs within = in_time call.Jobs c.args.words.now _ _ c.in-Ok.ensures
 
 pub build_by_crew-requires-clause-jobs : goal.build_by_crew-requires-clause-jobs
-build_by_crew-requires-clause-jobs g c κs = build_jobs_in_range c.args.words.now _ _ _ c.in-Ok.ensures c.in-Build.is
+build_by_crew-requires-clause-jobs g c κs within = build_jobs_in_range c.args.words.now _ _ _ c.in-Ok.ensures c.in-Build.is
 
 pub run_session-requires-clause-jobs : goal.run_session-requires-clause-jobs
-run_session-requires-clause-jobs g c κs = session_jobs_in_range c.args.words.now _ _ _ c.in-Ok.ensures c.in-Session.is
+run_session-requires-clause-jobs g c κs within = session_jobs_in_range c.args.words.now _ _ _ c.in-Ok.ensures c.in-Session.is
 
 pub run_session-requires-clause-moment : goal.run_session-requires-clause-moment
-run_session-requires-clause-moment g c κs = in_time call.Jobs c.args.words.now _ _ c.in-Ok.ensures
+run_session-requires-clause-moment g c κs within = in_time call.Jobs c.args.words.now _ _ c.in-Ok.ensures
 
 pub unreachable-requires : goal.unreachable-requires
 unreachable-requires g c = none_for_jobs c.in-Ok.order (known call.Jobs c.args.words.now _ _ c.in-Ok.ensures) c.in_default.not-Build c.in_default.not-Session

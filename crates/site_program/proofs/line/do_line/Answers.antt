@@ -1,6 +1,15 @@
-use Rattle.std.proofs.Common.{◌∙◌, ◌++◌, inr, ap, sym, refl, Some, take}
+use Rattle.std.proofs.Common.{◌∙◌, ◌++◌, [], append-nil, inl, inr, ap, sym, subst, refl, Some, take}
 use Rattle.site_session.specs.Bytes.{reply_bytes}
+use Rattle.site_session.specs.Standing.{Holds}
 use Rattle.site_program.proofs.line.do_line.Goals as goal
+
+pub returns-in-Err-clause-stopped : goal.returns-in-Err-clause-stopped
+returns-in-Err-clause-stopped g c = λ given before why told h w. (
+  [],
+  inl (record { memory = refl; kept = c.in-Err.ensures.err; output = subst (λ files. Holds files c.args.session.now.belief given.output) (sym c.in-Err.ensures.err) h; nothing = refl }),
+  w ∙ ap Some (sym (append-nil before)),
+  λ _. refl,
+)
 
 pub returns-in-Err-write_reply-clause-stopped : goal.returns-in-Err-write_reply-clause-stopped
 returns-in-Err-write_reply-clause-stopped g c = λ given before why told h w.

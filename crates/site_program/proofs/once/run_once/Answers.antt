@@ -10,7 +10,7 @@ use Rattle.site_program.specs.Once.{after_scan, Ended, Took}
 use Rattle.site_program.specs.Runs.{OnceRun}
 use Rattle.site_program.specs.declared.status.Status.{Status}
 use Rattle.site_program.specs.declared.usage.TopCall.TheVariants as call
-use Rattle.site_program.proofs.Onces.{cut_none}
+use Rattle.site_program.proofs.Onces.{cut_none, with_tally}
 use Rattle.site_program.proofs.Orders.{in_time, known, makes_in_range, none_for_once, ordered, same_check, same_make, same_once, same_start}
 use Rattle.site_program.proofs.once.run_once.Goals as goal
 
@@ -45,11 +45,8 @@ returns-in-Once-clause-once_run g c = λ given settings before is why told out w
     let moment_is = to_z-of_z c.ranges.moment in
     let order_is = ordered call.Once c.args.words.now _ _ _ _ moment_is c.in-Ok.ensures is in
     let settings_is = same_once c.in-Ok.order c.in-Once.settings settings c.in-Once.is order_is in
-    subst (λ (s : Standing). (names : List ItemName) × OnceRun g.O.OutTree.contents given s before (g.K.ByteSink.taken c.build_one_by_one.new.sink) (effects c.args.out.now []) (effects c.build_one_by_one.new.out names) c.build_one_by_one.result) (same_start _ _ _ _ settings_is moment_is) (
-      c.build_one_by_one.new.tally,
-      subst (λ (names : List ItemName). OnceRun g.O.OutTree.contents given _ before (g.K.ByteSink.taken c.build_one_by_one.new.sink) (effects c.args.out.now names) (effects c.build_one_by_one.new.out c.build_one_by_one.new.tally) c.build_one_by_one.result) c.new-tally.ensures
-          (c.build_one_by_one.ensures.run given before why told out w),
-    )
+    subst (λ (s : Standing). (names : List ItemName) × OnceRun g.O.OutTree.contents given s before (g.K.ByteSink.taken c.build_one_by_one.new.sink) (effects c.args.out.now []) (effects c.build_one_by_one.new.out names) c.build_one_by_one.result) (same_start _ _ _ _ settings_is moment_is)
+    (with_tally g.O.OutTree.contents given _ before _ _ _ _ _ _ c.new-tally.ensures (c.build_one_by_one.ensures.run given before why told out w))
 
 pub returns-in-Check-clause-check : goal.returns-in-Check-clause-check
 returns-in-Check-clause-check g c = λ given settings is told.
