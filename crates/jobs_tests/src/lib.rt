@@ -8,6 +8,4 @@ mod renderers;
 #[cfg(test)]
 mod runs;
 #[cfg(test)]
-mod together;
-#[cfg(test)]
 mod worked;

@@ -1,6 +1,5 @@
 // Sites of many items, built with one job and with several.
-use crate::runs::{Ends, FileList, words};
-use page_render::PageRenderer;
+use crate::runs::{Ends, FileList};
 use site_base::SitePath;
 use std::alloc::Global;
 use std::sync::Wait;
@@ -20,6 +19,7 @@ const LAST: &str = "---\n---\n{{ site.posts[0].content }}";
 const FAULTY: &str = "---\n---\n{% include no.html %}";
 
 // A site of posts and then pages, in the order in which they are rendered. Those from one place up to another have a fault.
+#[derive(Clone, Copy)]
 struct Site {
     posts: u64,
     post: &'static str,
@@ -99,36 +99,16 @@ fn are_made(alloc: Global, site: &Site, ends: &Ends) -> bool {
     ends.output_len() as u64 == site.items()
 }
 
-// Builds the site with so many jobs: the number of the status, and what is left.
-fn built<H: Threads + Wait + Sync>(
-    rt: &H,
-    alloc: Global,
-    jobs: &str,
-    site: &Site,
-) -> Option<(u8, Ends)> {
-    let words = words(alloc, "build", jobs)?;
-    let mut ends = Ends::new(alloc, site.files(alloc)?, "never read")?;
-    let status = ends.run(rt, alloc, &words, &PageRenderer::new(alloc));
-    Some((status, ends))
+// The site's ends.
+fn ends_of(alloc: Global, site: &Site) -> Option<Ends> {
+    Ends::new(alloc, site.files(alloc)?, "never read", 0)
 }
 
-fn tells_done(alloc: Global, site: &Site, ends: &Ends) -> bool {
+fn done_replies(alloc: Global, site: &Site) -> Option<String> {
     let items = site.items();
-    match format!(in alloc;
+    format!(in alloc;
         "scanned {items}\nbuilt rendered={items} reused=0 written={items} removed=0\n"
-    ) {
-        Ok(replies) => ends.replies_are(&replies),
-        Err(_) => false,
-    }
-}
-
-fn is_done<H: Threads + Wait + Sync>(rt: &H, alloc: Global, jobs: &str, site: &Site) -> bool {
-    match built(rt, alloc, jobs, site) {
-        Some((status, ends)) => {
-            status == 0 && tells_done(alloc, site, &ends) && are_made(alloc, site, &ends)
-        }
-        None => false,
-    }
+    ).ok()
 }
 
 fn fault_replies(alloc: Global, site: &Site) -> Option<String> {
@@ -137,18 +117,38 @@ fn fault_replies(alloc: Global, site: &Site) -> Option<String> {
     format!(in alloc; "scanned {items}\nfault F12 1 {}\n", path.text()).ok()
 }
 
-fn tells_fault(alloc: Global, site: &Site, ends: &Ends) -> bool {
-    match fault_replies(alloc, site) {
-        Some(replies) => ends.replies_are(&replies),
+// Whether a build of the site with so many jobs ends so.
+fn build_ends<H: Threads + Wait + Sync>(
+    rt: &H,
+    alloc: Global,
+    jobs: &str,
+    ends: &mut Ends,
+    status: u8,
+    replies: &Option<String>,
+) -> bool {
+    match replies {
+        Some(replies) => ends.end_with(rt, alloc, "build", jobs, status, replies),
+        None => false,
+    }
+}
+
+// Whether the site is built whole with so many jobs.
+fn is_done<H: Threads + Wait + Sync>(rt: &H, alloc: Global, jobs: &str, site: &Site) -> bool {
+    match ends_of(alloc, site) {
+        Some(mut ends) => {
+            build_ends(rt, alloc, jobs, &mut ends, 0, &done_replies(alloc, site))
+                && are_made(alloc, site, &ends)
+        }
         None => false,
     }
 }
 
 // Whether the first fault is told, and nothing is done to the output.
 fn is_refused<H: Threads + Wait + Sync>(rt: &H, alloc: Global, jobs: &str, site: &Site) -> bool {
-    match built(rt, alloc, jobs, site) {
-        Some((status, ends)) => {
-            status == 1 && tells_fault(alloc, site, &ends) && ends.output_calls() == 0
+    match ends_of(alloc, site) {
+        Some(mut ends) => {
+            build_ends(rt, alloc, jobs, &mut ends, 1, &fault_replies(alloc, site))
+                && ends.output_calls() == 0
         }
         None => false,
     }
@@ -167,7 +167,7 @@ fn sound(posts: u64, pages: u64) -> Site {
 
 #[test]
 fn a_chain_of_posts(rt: HostRuntime) {
-    let site = sound(2_000, 0);
+    let site = sound(12, 0);
     for jobs in JOBS {
         assert!(rt;
             is_done(&rt, rt.alloc(), jobs, &site),
@@ -179,7 +179,7 @@ fn a_chain_of_posts(rt: HostRuntime) {
 // All pages need the last post, which needs all others.
 #[test]
 fn pages_that_show_the_last_post(rt: HostRuntime) {
-    let site = sound(200, 300);
+    let site = sound(3, 4);
     for jobs in JOBS {
         assert!(rt;
             is_done(&rt, rt.alloc(), jobs, &site),
@@ -208,17 +208,17 @@ fn more_jobs_than_items(rt: HostRuntime) {
 const FAULTS: &[(&str, u64, u64)] = &[
     (ALONE, 0, 1),
     (NEXT, 0, 1),
-    (ALONE, 0, 120),
-    (NEXT, 59, 60),
-    (ALONE, 59, 120),
-    (NEXT, 119, 120),
+    (ALONE, 0, 6),
+    (NEXT, 2, 3),
+    (ALONE, 2, 6),
+    (NEXT, 5, 6),
 ];
 
 fn faulty(post: &'static str, faulty_from: u64, faulty_to: u64) -> Site {
     Site {
-        posts: 60,
+        posts: 3,
         post,
-        pages: 60,
+        pages: 3,
         faulty_from,
         faulty_to,
     }

@@ -1,4 +1,4 @@
-// Renderers that note when renders begin or how they end, and leave the rest to the renderer of the program.
+// A renderer that is watched, and leaves the rendering to that of the program.
 use page_render::{PageMeaning, PageRenderer};
 use read_record::{Look, Rendered, Renderer, Tally};
 use site_base::ItemName;
@@ -6,23 +6,24 @@ use std::alloc::Global;
 use std::sync::atomic::{AtomicU64, Ordering};
 use std::thread;
 
-// How often the first render looks for the second.
-const MOST_TURNS: u64 = 50_000_000;
-
-// It holds the first render until the second has begun, or the turns are over.
+// It holds the first render until the second has begun, for at most so many turns, and counts the renders that come to an outcome.
 #[derive(Drop)]
-pub(crate) struct Gate {
+pub(crate) struct WatchedRenderer {
     pages: PageRenderer,
+    most_turns: u64,
     begun: AtomicU64,
     met: AtomicU64,
+    outcomes: AtomicU64,
 }
 
-impl Gate {
-    pub(crate) fn new(alloc: Global) -> Gate {
-        Gate {
+impl WatchedRenderer {
+    pub(crate) fn new(alloc: Global, most_turns: u64) -> WatchedRenderer {
+        WatchedRenderer {
             pages: PageRenderer::new(alloc),
+            most_turns,
             begun: AtomicU64::new(0),
             met: AtomicU64::new(0),
+            outcomes: AtomicU64::new(0),
         }
     }
 
@@ -31,11 +32,16 @@ impl Gate {
         self.met.load(Ordering::SeqCst) == 1
     }
 
-    fn pass(&self) {
+    // How many renders came to an outcome.
+    pub(crate) fn outcomes(&self) -> u64 {
+        self.outcomes.load(Ordering::SeqCst)
+    }
+
+    fn begin(&self) {
         if self.begun.fetch_add(1, Ordering::SeqCst) > 0 {
             return;
         }
-        for _ in 0..MOST_TURNS {
+        for _ in 0..self.most_turns {
             if self.begun.load(Ordering::SeqCst) > 1 {
                 self.met.store(1, Ordering::SeqCst);
                 return;
@@ -45,7 +51,7 @@ impl Gate {
     }
 }
 
-impl Renderer for Gate {
+impl Renderer for WatchedRenderer {
     type Meaning = PageMeaning;
 
     fn render<L: Look>(
@@ -55,41 +61,7 @@ impl Renderer for Gate {
         look: &mut L,
         tally: &mut Tally,
     ) -> Rendered {
-        self.pass();
-        self.pages.render(alloc, name, look, tally)
-    }
-}
-
-// It counts the renders that come to an outcome.
-#[derive(Drop)]
-pub(crate) struct Counting {
-    pages: PageRenderer,
-    outcomes: AtomicU64,
-}
-
-impl Counting {
-    pub(crate) fn new(alloc: Global) -> Counting {
-        Counting {
-            pages: PageRenderer::new(alloc),
-            outcomes: AtomicU64::new(0),
-        }
-    }
-
-    pub(crate) fn count(&self) -> u64 {
-        self.outcomes.load(Ordering::SeqCst)
-    }
-}
-
-impl Renderer for Counting {
-    type Meaning = PageMeaning;
-
-    fn render<L: Look>(
-        &self,
-        alloc: Global,
-        name: &ItemName,
-        look: &mut L,
-        tally: &mut Tally,
-    ) -> Rendered {
+        self.begin();
         match self.pages.render(alloc, name, look, tally) {
             Rendered::Out(outcome) => {
                 self.outcomes.fetch_add(1, Ordering::SeqCst);

@@ -3,9 +3,9 @@ ghost use Rattle.std.specs.Prelude.{IsTrue};
 ghost use Rattle.site_base.specs.Clash.{ClashFree};
 ghost use Rattle.site_base.specs.Places.{AllDiffer, paths_of};
 
+use crate::renderers::WatchedRenderer;
 use out_tree::MemoryOut;
-use page_render::PageMeaning;
-use read_record::{Renderer, Tally};
+use read_record::Tally;
 use site_base::{MemoryInput, MemorySink, SitePath, Words};
 use site_program::run_jobs;
 use source_tree::{MemorySource, paths_stand_apart};
@@ -19,18 +19,24 @@ const NEW_YEAR: i64 = 1_704_067_200;
 // Paths with bytes.
 pub(crate) type FileList = Vec<(SitePath, Vec<u8>)>;
 
-// The ends of a run. None of them fails.
+// The ends of a run, of which none fails, and its renderer.
 #[derive(Drop)]
 pub(crate) struct Ends {
     source: MemorySource,
     out: MemoryOut,
     input: MemoryInput,
     sink: MemorySink,
+    renderer: WatchedRenderer,
 }
 
 impl Ends {
-    // These sources, an empty output, and this input. `None` also where two paths clash.
-    pub(crate) fn new(alloc: Global, sources: FileList, script: &str) -> Option<Ends> {
+    // These sources, an empty output, and this input; a first render is held for at most so many turns. `None` also where two paths clash.
+    pub(crate) fn new(
+        alloc: Global,
+        sources: FileList,
+        script: &str,
+        most_turns: u64,
+    ) -> Option<Ends> {
         if !stand_apart(alloc, &sources) {
             return None;
         }
@@ -40,17 +46,12 @@ impl Ends {
             out: MemoryOut::new(alloc, Vec::new(alloc), Vec::new(alloc)),
             input: MemoryInput::new(script, Vec::new(alloc)),
             sink: MemorySink::new(alloc, Vec::new(alloc)),
+            renderer: WatchedRenderer::new(alloc, most_turns),
         })
     }
 
-    // Does what a command says with so many jobs, and answers the number of the status.
-    pub(crate) fn run<H: Threads + Wait + Sync, R: Renderer<Meaning = PageMeaning> + Sync>(
-        &mut self,
-        rt: &H,
-        alloc: Global,
-        words: &Words,
-        renderer: &R,
-    ) -> u8 {
+    // Does what the words say, and answers the number of the status.
+    fn run<H: Threads + Wait + Sync>(&mut self, rt: &H, alloc: Global, words: &Words) -> u8 {
         let mut tally = Tally::new(alloc);
         let status = run_jobs(
             rt,
@@ -61,14 +62,27 @@ impl Ends {
             &mut self.out,
             &mut self.input,
             &mut self.sink,
-            renderer,
+            &self.renderer,
             &mut tally,
         );
         status.number()
     }
 
-    pub(crate) fn replies_are(&self, replies: &str) -> bool {
-        self.sink.bytes() == replies.as_bytes()
+    // Whether a command with so many jobs ends with this status and these replies.
+    pub(crate) fn end_with<H: Threads + Wait + Sync>(
+        &mut self,
+        rt: &H,
+        alloc: Global,
+        command: &str,
+        jobs: &str,
+        status: u8,
+        replies: &str,
+    ) -> bool {
+        match words(alloc, command, jobs) {
+            Some(words) => self.run(rt, alloc, &words) == status
+                && self.sink.bytes() == replies.as_bytes(),
+            None => false,
+        }
     }
 
     // How many files the output has.
@@ -85,6 +99,16 @@ impl Ends {
     pub(crate) fn output_calls(&self) -> u64 {
         self.out.calls()
     }
+
+    // How many renders came to an outcome.
+    pub(crate) fn outcomes(&self) -> u64 {
+        self.renderer.outcomes()
+    }
+
+    // Whether the second render began while the first was held.
+    pub(crate) fn have_met(&self) -> bool {
+        self.renderer.has_met()
+    }
 }
 
 fn stand_apart(alloc: Global, files: &[(SitePath, Vec<u8>)]) -> bool
@@ -96,8 +120,7 @@ fn stand_apart(alloc: Global, files: &[(SitePath, Vec<u8>)]) -> bool
     }
 }
 
-// The words of a command with so many jobs.
-pub(crate) fn words(alloc: Global, command: &str, jobs: &str) -> Option<Words> {
+fn words(alloc: Global, command: &str, jobs: &str) -> Option<Words> {
     let mut words = Words::new(alloc);
     words.push(alloc, command).ok()?;
     words.push(alloc, "--jobs").ok()?;

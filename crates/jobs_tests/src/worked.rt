@@ -1,29 +1,23 @@
-// Worked sites, built with one job and with four: one build, and builds after edits.
-use crate::renderers::Counting;
-use crate::runs::{Ends, FileList, words};
-use page_render::{PageMeaning, PageRenderer};
-use read_record::Renderer;
+// Worked sites, built with one job and with several: one build, and builds after edits.
+use crate::runs::{Ends, FileList};
 use site_base::SitePath;
 use std::alloc::Global;
 use std::sync::Wait;
 use std::thread::Threads;
 
-// Paths with texts.
-pub(crate) type Files = &'static [(&'static str, &'static str)];
-
 // What is given for a run, and what comes of it: the status number, the replies, and the output's files.
-pub(crate) struct Row {
-    pub(crate) command: &'static str,
-    pub(crate) script: &'static str,
-    pub(crate) sources: Files,
-    pub(crate) status: u8,
-    pub(crate) replies: &'static str,
-    pub(crate) outputs: Files,
+struct Row {
+    command: &'static str,
+    script: &'static str,
+    sources: &'static [(&'static str, &'static str)],
+    status: u8,
+    replies: &'static str,
+    outputs: &'static [(&'static str, &'static str)],
 }
 
-pub(crate) fn ends_of(alloc: Global, row: &Row) -> Option<Ends> {
+fn ends_of(alloc: Global, row: &Row, most_turns: u64) -> Option<Ends> {
     let sources = files(alloc, row.sources)?;
-    Ends::new(alloc, sources, row.script)
+    Ends::new(alloc, sources, row.script, most_turns)
 }
 
 fn files(alloc: Global, given: &[(&str, &str)]) -> Option<FileList> {
@@ -47,25 +41,16 @@ fn has_just(alloc: Global, ends: &Ends, wanted: &[(&str, &str)]) -> bool {
     ends.output_len() == wanted.len()
 }
 
-fn is_left(alloc: Global, ends: &Ends, row: &Row) -> bool {
-    ends.replies_are(row.replies) && has_just(alloc, ends, row.outputs)
-}
-
 // Whether the row comes out with so many jobs.
-pub(crate) fn comes_out<H: Threads + Wait + Sync, R: Renderer<Meaning = PageMeaning> + Sync>(
+fn comes_out<H: Threads + Wait + Sync>(
     rt: &H,
     alloc: Global,
     jobs: &str,
     row: &Row,
     ends: &mut Ends,
-    renderer: &R,
 ) -> bool {
-    match words(alloc, row.command, jobs) {
-        Some(words) => {
-            ends.run(rt, alloc, &words, renderer) == row.status && is_left(alloc, ends, row)
-        }
-        None => false,
-    }
+    ends.end_with(rt, alloc, row.command, jobs, row.status, row.replies)
+        && has_just(alloc, ends, row.outputs)
 }
 
 const JOBS: &[&str] = &["1", "4"];
@@ -203,8 +188,8 @@ const ROWS: &[Row] = &[
 ];
 
 fn builds<H: Threads + Wait + Sync>(rt: &H, alloc: Global, jobs: &str, row: &Row) -> bool {
-    match ends_of(alloc, row) {
-        Some(mut ends) => { comes_out(rt, alloc, jobs, row, &mut ends, &PageRenderer::new(alloc)) }
+    match ends_of(alloc, row, 0) {
+        Some(mut ends) => comes_out(rt, alloc, jobs, row, &mut ends),
         None => false,
     }
 }
@@ -252,14 +237,13 @@ fn renders<H: Threads + Wait + Sync>(
     alloc: Global,
     jobs: &str,
     row: &Row,
-    count: u64,
+    outcomes: u64,
     calls: u64,
 ) -> bool {
-    let renderer = Counting::new(alloc);
-    match ends_of(alloc, row) {
+    match ends_of(alloc, row, 0) {
         Some(mut ends) => {
-            comes_out(rt, alloc, jobs, row, &mut ends, &renderer)
-                && renderer.count() == count
+            comes_out(rt, alloc, jobs, row, &mut ends)
+                && ends.outcomes() == outcomes
                 && ends.output_calls() == calls
         }
         None => false,
@@ -278,4 +262,26 @@ fn renders_what_is_stale_alone(rt: HostRuntime) {
             "not 1 with {jobs} jobs"
         );
     }
+}
+
+const TWO_PAGES: Row = Row {
+    command: "build",
+    script: "never read",
+    sources: &[("a.html", "---\n---\na"), ("b.html", "---\n---\nb")],
+    status: 0,
+    replies: "scanned 2\nbuilt rendered=2 reused=0 written=2 removed=0\n",
+    outputs: &[("a.html", "a"), ("b.html", "b")],
+};
+
+// Whether two jobs build both pages, and the second begins while the first is held.
+fn render_together<H: Threads + Wait + Sync>(rt: &H, alloc: Global) -> bool {
+    match ends_of(alloc, &TWO_PAGES, 20) {
+        Some(mut ends) => comes_out(rt, alloc, "2", &TWO_PAGES, &mut ends) && ends.have_met(),
+        None => false,
+    }
+}
+
+#[test]
+fn two_jobs_render_together(rt: HostRuntime) {
+    assert!(rt; render_together(&rt, rt.alloc()));
 }
