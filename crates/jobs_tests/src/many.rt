@@ -96,7 +96,7 @@ fn are_made(alloc: Global, site: &Site, ends: &Ends) -> bool {
             _ => return false,
         }
     }
-    ends.output_len() as u64 == site.items()
+    ends.out.len() as u64 == site.items()
 }
 
 // The site's ends.
@@ -148,7 +148,7 @@ fn is_refused<H: Threads + Wait + Sync>(rt: &H, alloc: Global, jobs: &str, site:
     match ends_of(alloc, site) {
         Some(mut ends) => {
             build_ends(rt, alloc, jobs, &mut ends, 1, &fault_replies(alloc, site))
-                && ends.output_calls() == 0
+                && ends.out.calls() == 0
         }
         None => false,
     }
@@ -167,7 +167,7 @@ fn sound(posts: u64, pages: u64) -> Site {
 
 #[test]
 fn a_chain_of_posts(rt: HostRuntime) {
-    let site = sound(12, 0);
+    let site = sound(2_000, 0);
     for jobs in JOBS {
         assert!(rt;
             is_done(&rt, rt.alloc(), jobs, &site),
@@ -179,7 +179,7 @@ fn a_chain_of_posts(rt: HostRuntime) {
 // All pages need the last post, which needs all others.
 #[test]
 fn pages_that_show_the_last_post(rt: HostRuntime) {
-    let site = sound(3, 4);
+    let site = sound(200, 300);
     for jobs in JOBS {
         assert!(rt;
             is_done(&rt, rt.alloc(), jobs, &site),
@@ -208,17 +208,17 @@ fn more_jobs_than_items(rt: HostRuntime) {
 const FAULTS: &[(&str, u64, u64)] = &[
     (ALONE, 0, 1),
     (NEXT, 0, 1),
-    (ALONE, 0, 6),
-    (NEXT, 2, 3),
-    (ALONE, 2, 6),
-    (NEXT, 5, 6),
+    (ALONE, 0, 120),
+    (NEXT, 59, 60),
+    (ALONE, 59, 120),
+    (NEXT, 119, 120),
 ];
 
 fn faulty(post: &'static str, faulty_from: u64, faulty_to: u64) -> Site {
     Site {
-        posts: 3,
+        posts: 60,
         post,
-        pages: 3,
+        pages: 60,
         faulty_from,
         faulty_to,
     }

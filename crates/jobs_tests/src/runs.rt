@@ -23,10 +23,10 @@ pub(crate) type FileList = Vec<(SitePath, Vec<u8>)>;
 #[derive(Drop)]
 pub(crate) struct Ends {
     source: MemorySource,
-    out: MemoryOut,
+    pub(crate) out: MemoryOut,
     input: MemoryInput,
     sink: MemorySink,
-    renderer: WatchedRenderer,
+    pub(crate) renderer: WatchedRenderer,
 }
 
 impl Ends {
@@ -85,29 +85,9 @@ impl Ends {
         }
     }
 
-    // How many files the output has.
-    pub(crate) fn output_len(&self) -> usize {
-        self.out.len()
-    }
-
     // Whether the output has a file with this text.
     pub(crate) fn has_output(&self, path: &SitePath, text: &str) -> bool {
         self.out.get(path) == Some(text.as_bytes())
-    }
-
-    // How often the output was called.
-    pub(crate) fn output_calls(&self) -> u64 {
-        self.out.calls()
-    }
-
-    // How many renders came to an outcome.
-    pub(crate) fn outcomes(&self) -> u64 {
-        self.renderer.outcomes()
-    }
-
-    // Whether the second render began while the first was held.
-    pub(crate) fn have_met(&self) -> bool {
-        self.renderer.has_met()
     }
 }
 

@@ -38,7 +38,7 @@ fn has_just(alloc: Global, ends: &Ends, wanted: &[(&str, &str)]) -> bool {
             _ => return false,
         }
     }
-    ends.output_len() == wanted.len()
+    ends.out.len() == wanted.len()
 }
 
 // Whether the row comes out with so many jobs.
@@ -243,8 +243,8 @@ fn renders<H: Threads + Wait + Sync>(
     match ends_of(alloc, row, 0) {
         Some(mut ends) => {
             comes_out(rt, alloc, jobs, row, &mut ends)
-                && ends.outcomes() == outcomes
-                && ends.output_calls() == calls
+                && ends.renderer.outcomes() == outcomes
+                && ends.out.calls() == calls
         }
         None => false,
     }
@@ -275,8 +275,9 @@ const TWO_PAGES: Row = Row {
 
 // Whether two jobs build both pages, and the second begins while the first is held.
 fn render_together<H: Threads + Wait + Sync>(rt: &H, alloc: Global) -> bool {
-    match ends_of(alloc, &TWO_PAGES, 20) {
-        Some(mut ends) => comes_out(rt, alloc, "2", &TWO_PAGES, &mut ends) && ends.have_met(),
+    match ends_of(alloc, &TWO_PAGES, 50_000_000) {
+        Some(mut ends) => comes_out(rt, alloc, "2", &TWO_PAGES, &mut ends)
+            && ends.renderer.has_met(),
         None => false,
     }
 }
