@@ -37,13 +37,14 @@ impl Ends {
         script: &str,
         most_turns: u64,
     ) -> Option<Ends> {
-        if !stand_apart(alloc, &sources) {
+        let outputs = Vec::new(alloc);
+        if !stand_apart(alloc, &sources) || !stand_apart(alloc, &outputs) {
             return None;
         }
         let script = script.as_bytes().to_vec(alloc).ok()?;
         Some(Ends {
             source: MemorySource::new(sources, Vec::new(alloc)),
-            out: MemoryOut::new(alloc, Vec::new(alloc), Vec::new(alloc)),
+            out: MemoryOut::new(alloc, outputs, Vec::new(alloc)),
             input: MemoryInput::new(script, Vec::new(alloc)),
             sink: MemorySink::new(alloc, Vec::new(alloc)),
             renderer: WatchedRenderer::new(alloc, most_turns),
