@@ -24,7 +24,11 @@ pub(crate) fn end(rt: &HostRuntime, status: Status) -> ExitCode {
 
 /// The status for a person, who looks into the file: the line of a fault in a template is counted in its body, and here it is that of its
 /// file. Where the file cannot be read, the line stays.
-pub(crate) fn in_file(alloc: Global, source: &mut DiskSource, status: Status) -> Status {
+pub(crate) fn in_file(
+    alloc: Global,
+    source: &mut DiskSource<HostRuntime>,
+    status: Status,
+) -> Status {
     match status {
         Status::Site(fault) => Status::Site(SiteFault {
             line: file_line(alloc, source, &fault),
@@ -34,7 +38,7 @@ pub(crate) fn in_file(alloc: Global, source: &mut DiskSource, status: Status) ->
     }
 }
 
-fn file_line(alloc: Global, source: &mut DiskSource, fault: &SiteFault) -> u64 {
+fn file_line(alloc: Global, source: &mut DiskSource<HostRuntime>, fault: &SiteFault) -> u64 {
     if !is_in_body(fault) {
         return fault.line;
     }
