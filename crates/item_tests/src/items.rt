@@ -4,7 +4,8 @@ ghost use Rattle.site_dates.specs.Offset.{IsOffset};
 use site_base::{FaultKind, Memory, SharedBytes, SitePath, YamlKind, same_code};
 use site_config::{Config, read_config};
 use site_items::{
-    IncludeFile, Item, ItemError, Kind, LayoutFile, Rules, StaticFile, by_strength, title, variable,
+    FileContent, IncludeFile, Item, ItemError, Kind, LayoutFile, Rules, StaticFile, by_strength,
+    title, variable,
 };
 use std::alloc::Global;
 use std::process::Abort;
@@ -28,6 +29,7 @@ fn read(
     let (Ok(path), Ok(file)) = (SitePath::read(alloc, path), shared(alloc, file)) else {
         return Err(ItemError::Memory);
     };
+    let content = FileContent::of(&file);
     match by_strength(alloc, config.defaults.as_slice()) {
         Ok(scopes) => Item::read(
             alloc,
@@ -39,7 +41,7 @@ fn read(
             },
             kind,
             &path,
-            &file,
+            &content,
         ),
         Err(error) => Err(ItemError::from(error)),
     }
@@ -592,7 +594,8 @@ fn is_layout(alloc: Global, path: &str, file: &str, name: &str, body: &str) -> b
     let (Ok(path), Ok(file)) = (SitePath::read(alloc, path), shared(alloc, file.as_bytes())) else {
         return false;
     };
-    match LayoutFile::read(alloc, &path, &file) {
+    let content = FileContent::of(&file);
+    match LayoutFile::read(alloc, &path, &content) {
         Ok(layout) => layout.name.as_str() == name && layout.body.as_str() == body,
         Err(_) => false,
     }

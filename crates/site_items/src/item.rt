@@ -11,6 +11,7 @@ use crate::addresses::{Sought, dest_of, url_of};
 use crate::dates::{given_date, item_date};
 use crate::defaults::variables;
 use crate::extensions::output_ext;
+use crate::file_content::FileContent;
 use crate::item_error::{ItemError, config_fault, utf8_fault};
 use crate::kind::Kind;
 use crate::lookup::variable;
@@ -18,7 +19,7 @@ use crate::matter::{body, own_variables};
 use crate::names::{categories, set_names, slug_of};
 use crate::placed_variables::set_variables;
 use crate::templates::template;
-use site_base::{Hash, SharedBytes, SitePath, Text, Value};
+use site_base::{Hash, SitePath, Text, Value};
 use site_config::{Config, Scope};
 use site_files::{extension, file_name, stem};
 use std::alloc::Global;
@@ -62,15 +63,15 @@ impl Item {
         rules: &Rules,
         kind: Kind,
         path: &SitePath,
-        bytes: &SharedBytes,
+        content: &FileContent,
     ) -> Result<Option<Item>, ItemError>
         requires offset { IsOffset rules.now.config.now.timezone }
         requires now { IsMoment rules.now.now }
-        ensures { let found = ruled_item rules.entry.now kind path.now bytes.now in
+        ensures { let found = ruled_item rules.entry.now kind path.now content.now in
             MatchResult result (λ made. found ≡ Ok made) (IsFault found) }
     {
-        match str::from_utf8(bytes.as_slice()) {
-            Ok(text) => text_item(alloc, rules, kind, path, bytes, text),
+        match str::from_utf8(content.bytes().as_slice()) {
+            Ok(text) => text_item(alloc, rules, kind, path, content, text),
             Err(_) => Err(utf8_fault()),
         }
     }
@@ -82,16 +83,16 @@ fn text_item(
     rules: &Rules,
     kind: Kind,
     path: &SitePath,
-    bytes: &SharedBytes,
+    content: &FileContent,
     text: &str,
 ) -> Result<Option<Item>, ItemError>
-    requires text { bytes.now ≡ text.now }
+    requires text { content.now ≡ text.now }
     requires offset { IsOffset rules.now.config.now.timezone }
     requires now { IsMoment rules.now.now }
     ensures { let found = ruled_text rules.entry.now kind path.now text.now in
         MatchResult result (λ made. found ≡ Ok made) (IsFault found) }
 {
-    let own = own_variables(alloc, text)?;
+    let own = own_variables(alloc, content, text)?;
     let vars = variables(
         alloc,
         rules.scopes,
@@ -99,7 +100,7 @@ fn text_item(
         kind.type_name(rules.config),
         &own,
     )?;
-    let body = body(alloc, bytes, text)?;
+    let body = body(alloc, content, text)?;
     item_with(alloc, rules, kind, path, body, vars)
 }
 

@@ -3,10 +3,11 @@ ghost use Rattle.std.specs.Prelude.{◌≡◌, IfOk, MatchResult};
 ghost use Rattle.site_items.specs.Files.{layout, layout_name, layout_of_text};
 ghost use Rattle.site_items.specs.Outcomes.{IsFault};
 
+use crate::file_content::FileContent;
 use crate::folders::{behind, without_extension};
 use crate::item_error::{ItemError, utf8_fault};
 use crate::matter::{body, own_variables};
-use site_base::{SharedBytes, SitePath, Text, Value};
+use site_base::{SitePath, Text, Value};
 use std::alloc::Global;
 use std::str;
 
@@ -29,12 +30,12 @@ impl LayoutFile {
     pub fn read(
         alloc: Global,
         path: &SitePath,
-        bytes: &SharedBytes,
+        content: &FileContent,
     ) -> Result<LayoutFile, ItemError>
-        ensures { MatchResult result (λ made. layout path.now bytes.now ≡ Ok made) (IsFault (layout path.now bytes.now)) }
+        ensures { MatchResult result (λ made. layout path.now content.now ≡ Ok made) (IsFault (layout path.now content.now)) }
     {
-        match str::from_utf8(bytes.as_slice()) {
-            Ok(text) => layout_of(alloc, path, bytes, text),
+        match str::from_utf8(content.bytes().as_slice()) {
+            Ok(text) => layout_of(alloc, path, content, text),
             Err(_) => Err(utf8_fault()),
         }
     }
@@ -44,19 +45,19 @@ impl LayoutFile {
 fn layout_of(
     alloc: Global,
     path: &SitePath,
-    bytes: &SharedBytes,
+    content: &FileContent,
     text: &str,
 ) -> Result<LayoutFile, ItemError>
-    requires { bytes.now ≡ text.now }
+    requires { content.now ≡ text.now }
     ensures { let found = layout_of_text path.now text.now in
         MatchResult result (λ made. found ≡ Ok made) (IsFault found) }
 {
-    let own = own_variables(alloc, text)?;
+    let own = own_variables(alloc, content, text)?;
     let name = without_extension(behind("_layouts/", path.text()));
     Ok(LayoutFile {
         name: Text::copy(alloc, name)?,
         path: path.copy(alloc)?,
         vars: Value::Hash(own),
-        body: body(alloc, bytes, text)?,
+        body: body(alloc, content, text)?,
     })
 }

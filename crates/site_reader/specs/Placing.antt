@@ -64,4 +64,4 @@ as_copy file = if has_matter (front file.1.1) then None else copied_kind file.0
 
 -- the same of the code's own file
 abbrev pub seen : PlacedFile → Placed
-seen file = (file.place, (file.path.now, file.bytes.now))
+seen file = (file.place, (file.path.now, file.content))

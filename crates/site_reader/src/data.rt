@@ -34,7 +34,7 @@ fn add_data(alloc: Global, file: &PlacedFile, tree: &mut Hash) -> Result<(), Sit
         MatchResult result (λ _. found ≡ Ok tree.new) (IsFirst found) }
 {
     match file.place {
-        Place::Data => add_file(alloc, file.path, file.bytes.as_slice(), tree),
+        Place::Data => add_file(alloc, file.path, file.content.bytes().as_slice(), tree),
         _ => Ok(()),
     }
 }

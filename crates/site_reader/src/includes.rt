@@ -45,7 +45,7 @@ fn add_include(
         MatchResult result (λ _. found ≡ Ok includes.new.items) (IsFirst found) }
 {
     match file.place {
-        Place::Include => read_include(alloc, file.path, file.bytes, includes),
+        Place::Include => read_include(alloc, file.path, file.content.bytes(), includes),
         _ => Ok(()),
     }
 }

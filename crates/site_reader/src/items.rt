@@ -12,9 +12,9 @@ use crate::placing::PlacedFile;
 use crate::rank::Rank;
 use crate::site_error::{SiteError, error_at};
 use crate::site_item::SiteItem;
-use site_base::{Memory, Sequence, SharedBytes, SitePath};
+use site_base::{Memory, Sequence, SitePath};
 use site_config::Config;
-use site_items::{Item, Kind, Rules};
+use site_items::{FileContent, Item, Kind, Rules};
 use std::alloc::Global;
 use std::collections::BTreeMap;
 
@@ -89,7 +89,7 @@ fn add_item(
         MatchResult result (λ _. found ≡ Ok (in_order items.new.items)) (IsFirst found) }
 {
     match file.as_item() {
-        Some(kind) => add_kind(alloc, rules, kind, file.path, file.bytes, items),
+        Some(kind) => add_kind(alloc, rules, kind, file.path, &file.content, items),
         None => Ok(()),
     }
 }
@@ -99,15 +99,15 @@ fn add_kind(
     rules: &Rules,
     kind: Kind,
     path: &SitePath,
-    bytes: &SharedBytes,
+    content: &FileContent,
     items: &mut Vec<(Rank, Item)>,
 ) -> Result<(), SiteError>
     requires offset { IsOffset rules.now.config.now.timezone }
     requires now { IsMoment rules.now.now }
-    ensures { let found = ruled_kind rules.entry.now kind (path.now, bytes.now) (in_order items.old.items) in
+    ensures { let found = ruled_kind rules.entry.now kind (path.now, content.now) (in_order items.old.items) in
         MatchResult result (λ _. found ≡ Ok (in_order items.new.items)) (IsFirst found) }
 {
-    match Item::read(alloc, rules, kind, path, bytes) {
+    match Item::read(alloc, rules, kind, path, content) {
         Ok(made) => Ok(put_item(alloc, rules.config, kind, path, made, items)?),
         Err(error) => Err(error_at(alloc, path, error)),
     }

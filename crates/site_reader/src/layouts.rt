@@ -8,9 +8,9 @@ use crate::name::Name;
 use crate::placing::PlacedFile;
 use crate::site_error::{SiteError, error_at};
 use crate::values::values;
-use site_base::{Memory, Sequence, SharedBytes, SitePath};
+use site_base::{Memory, Sequence, SitePath};
 use site_files::Place;
-use site_items::LayoutFile;
+use site_items::{FileContent, LayoutFile};
 use std::alloc::Global;
 use std::collections::BTreeMap;
 
@@ -51,7 +51,7 @@ fn add_layout(
         MatchResult result (λ _. found ≡ Ok layouts.new.entries) (IsFirst found) }
 {
     match file.place {
-        Place::Layout => read_layout(alloc, file.path, file.bytes, layouts),
+        Place::Layout => read_layout(alloc, file.path, &file.content, layouts),
         _ => Ok(()),
     }
 }
@@ -59,13 +59,13 @@ fn add_layout(
 fn read_layout(
     alloc: Global,
     path: &SitePath,
-    bytes: &SharedBytes,
+    content: &FileContent,
     layouts: &mut BTreeMap<Name, LayoutFile>,
 ) -> Result<(), SiteError>
-    ensures { let found = read_layout (path.now, bytes.now) layouts.old.entries in
+    ensures { let found = read_layout (path.now, content.now) layouts.old.entries in
         MatchResult result (λ _. found ≡ Ok layouts.new.entries) (IsFirst found) }
 {
-    match LayoutFile::read(alloc, path, bytes) {
+    match LayoutFile::read(alloc, path, content) {
         Ok(made) => Ok(put_layout(alloc, layouts, made)?),
         Err(error) => Err(error_at(alloc, path, error)),
     }

@@ -1,25 +1,24 @@
 // Which file is what.
 ghost use Rattle.std.specs.Prelude.{◌≡◌, ◌<◌, IfOk, map, slice_index_or};
 ghost use Rattle.std.specs.FinMap as finite;
-ghost use Rattle.front_yaml.specs.Front.{front};
 ghost use Rattle.site_dates.specs.Offset.{IsOffset};
 ghost use Rattle.site_reader.specs.Placing.{as_copy, as_item, builds_drafts, builds_future, copied_kind, has_matter, item_kind, placed, seen};
 ghost use Rattle.source_tree.specs.Limits.{CanBeHeld};
 
-use front_yaml::{Front, split_front};
-use site_base::{Memory, Settings, SharedBytes, SitePath};
+use front_yaml::Front;
+use site_base::{Memory, Settings, SitePath};
 use site_config::Config;
 use site_files::Place;
-use site_items::Kind;
+use site_items::{FileContent, Kind};
 use source_tree::Held;
 use std::alloc::Global;
 
-/// A file of the site, with its place.
-#[derive(Clone, Copy)]
+/// A file of the site, with its place and that of its front matter.
+#[derive(Drop)]
 pub(crate) struct PlacedFile<'a> {
     pub(crate) place: Place,
     pub(crate) path: &'a SitePath,
-    pub(crate) bytes: &'a SharedBytes,
+    pub(crate) content: FileContent<'a>,
 }
 
 /// The held files in the order of their paths, each with its place.
@@ -49,7 +48,11 @@ fn placed_file<'a>(held: &'a Held, number: u32, config: &Config, drafts: bool) -
 {
     let (path, bytes) = held.shared_at(number);
     let place = Place::of(config, drafts, path.text());
-    PlacedFile { place, path, bytes }
+    PlacedFile {
+        place,
+        path,
+        content: FileContent::of(bytes),
+    }
 }
 
 impl PlacedFile<'_> {
@@ -57,7 +60,7 @@ impl PlacedFile<'_> {
     pub(crate) fn as_item(&self) -> Option<Kind>
         ensures { result ≡ as_item (seen self.now) }
     {
-        if has_matter(self.bytes.as_slice()) {
+        if has_matter(self.content.front()) {
             item_kind(self.place)
         } else {
             None
@@ -68,7 +71,7 @@ impl PlacedFile<'_> {
     pub(crate) fn as_copy(&self) -> Option<Kind>
         ensures { result ≡ as_copy (seen self.now) }
     {
-        if has_matter(self.bytes.as_slice()) {
+        if has_matter(self.content.front()) {
             None
         } else {
             copied_kind(self.place)
@@ -76,11 +79,11 @@ impl PlacedFile<'_> {
     }
 }
 
-// Whether a text has front matter, closed or not.
-fn has_matter(bytes: &[u8]) -> bool
-    ensures { result ≡ has_matter (front bytes.now) }
+// Whether there is front matter, closed or not.
+fn has_matter(front: Front) -> bool
+    ensures { result ≡ has_matter front }
 {
-    match split_front(bytes) {
+    match front {
         Front::Page { .. } | Front::Open => true,
         Front::Plain => false,
     }

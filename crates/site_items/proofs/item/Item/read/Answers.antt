@@ -9,12 +9,12 @@ use Rattle.site_items.proofs.item.Item.read.Goals as goal
 
 pub returns-in-Ok : goal.returns-in-Ok
 returns-in-Ok c =
-    let same = c.in-Ok.ensures.cases.0 ∙ c.as_slice.ensures in
-    let fits : is_utf8 c.args.bytes.now ≡ true = ap is_utf8 (sym c.as_slice.ensures) ∙ is_utf8-from_IsUtf8 c.as_slice.result.now c.in-Ok.ensures.cases.1 in
+    let same = c.in-Ok.ensures.cases.0 ∙ c.as_slice.ensures ∙ c.bytes.ensures in
+    let fits : is_utf8 c.args.content.now ≡ true = ap is_utf8 (sym (c.as_slice.ensures ∙ c.bytes.ensures)) ∙ is_utf8-from_IsUtf8 c.as_slice.result.now c.in-Ok.ensures.cases.1 in
     let made : List ℕ → Type 0 = λ s. let found = ruled_text c.args.rules.now c.args.kind c.args.path.now s in MatchResult c.text_item.result (λ item. found ≡ Ok item) (IsFault found) in
     rw fits (subst made same c.text_item.ensures)
 
 pub returns-in-Err : goal.returns-in-Err
 returns-in-Err c =
-    let other : is_utf8 c.args.bytes.now ≡ false = ap is_utf8 (sym c.as_slice.ensures) ∙ not_utf8 c.as_slice.result.now c.in-Err.ensures.cases.0 in
+    let other : is_utf8 c.args.content.now ≡ false = ap is_utf8 (sym (c.as_slice.ensures ∙ c.bytes.ensures)) ∙ not_utf8 c.as_slice.result.now c.in-Err.ensures.cases.0 in
     rw (other, c.utf8_fault.ensures) refl

@@ -9,11 +9,11 @@ use Rattle.site_items.proofs.layout_file.LayoutFile.read.Goals as goal
 
 pub returns-in-Ok : goal.returns-in-Ok
 returns-in-Ok c =
-    let fits : is_utf8 c.args.bytes.now ≡ true = ap is_utf8 (sym c.as_slice.ensures) ∙ is_utf8-from_IsUtf8 c.as_slice.result.now c.in-Ok.ensures.cases.1 in
+    let fits : is_utf8 c.args.content.now ≡ true = ap is_utf8 (sym (c.as_slice.ensures ∙ c.bytes.ensures)) ∙ is_utf8-from_IsUtf8 c.as_slice.result.now c.in-Ok.ensures.cases.1 in
     let made : List ℕ → Type 0 = λ s. let found = layout_of_text c.args.path.now s in MatchResult c.layout_of.result (λ file. found ≡ Ok file) (IsFault found) in
-    rw fits (subst made (c.in-Ok.ensures.cases.0 ∙ c.as_slice.ensures) c.layout_of.ensures)
+    rw fits (subst made (c.in-Ok.ensures.cases.0 ∙ c.as_slice.ensures ∙ c.bytes.ensures) c.layout_of.ensures)
 
 pub returns-in-Err : goal.returns-in-Err
 returns-in-Err c =
-    let other : is_utf8 c.args.bytes.now ≡ false = ap is_utf8 (sym c.as_slice.ensures) ∙ not_utf8 c.as_slice.result.now c.in-Err.ensures.cases.0 in
+    let other : is_utf8 c.args.content.now ≡ false = ap is_utf8 (sym (c.as_slice.ensures ∙ c.bytes.ensures)) ∙ not_utf8 c.as_slice.result.now c.in-Err.ensures.cases.0 in
     rw (other, c.utf8_fault.ensures) refl
