@@ -39,7 +39,7 @@ pub(crate) fn is_right(
             seen.rendered == due.rendered && seen.calls == 1 && seen.failed == 1
         }
         (Rebuilt::Fault(one), Rebuilt::Fault(other)) => {
-            due.has_fault && seen.rendered >= due.rendered && seen.calls == 0 && is_same(one, other)
+            seen.calls == 0 && is_begun(due, seen) && is_same(one, other)
         }
         _ => false,
     }
@@ -51,6 +51,11 @@ fn is_counted(report: &Report, due: Due, seen: Seen) -> bool {
     rendered == due.rendered
         && seen.rendered == due.rendered
         && reused == due.items.wrapping_sub(due.rendered)
+}
+
+// Up to the first fault all that was due is rendered; several workers may render items behind it too.
+fn is_begun(due: Due, seen: Seen) -> bool {
+    due.has_fault && due.rendered <= seen.rendered && seen.rendered <= due.items
 }
 
 // A path is marked for each call that fails, and for each write where something stands in the way that was to be removed.
@@ -72,19 +77,15 @@ fn differ_at_most(
     match fresh.list(alloc) {
         Ok(paths) => {
             are_right(out, fresh, paths.as_slice(), marked)
-                && out.len() as u64 == there(out, paths.as_slice()).wrapping_add(left(out, fresh, marked))
+                && out.len() as u64
+                    == there(out, paths.as_slice()).wrapping_add(left(out, fresh, marked))
         }
         Err(_) => false,
     }
 }
 
 // Whether each of these files is there, but for those that are marked.
-fn are_right(
-    out: &MemoryOut,
-    fresh: &MemoryOut,
-    paths: &[SitePath],
-    marked: &[SitePath],
-) -> bool {
+fn are_right(out: &MemoryOut, fresh: &MemoryOut, paths: &[SitePath], marked: &[SitePath]) -> bool {
     for path in paths {
         if out.get(path) != fresh.get(path) && !marked.contains(path) {
             return false;

@@ -35,6 +35,11 @@ struct Counts {
 }
 
 impl Counts {
+    // Whether builds ended in each way.
+    fn are_mixed(&self) -> bool {
+        self.built > BUILDS / 2 && self.marked > BUILDS / 20
+    }
+
     fn add(&mut self, ending: &Rebuilt) {
         match ending {
             Rebuilt::Built(_) => self.built = self.built.wrapping_add(1),
@@ -64,14 +69,14 @@ impl Walk {
         })
     }
 
-    // Builds after this many edits, up to the first that does not end as it has to.
-    fn go<H: Threads + Wait + Sync>(&mut self, rt: &H, alloc: Global, builds: u32) -> bool {
-        for _build in 0..builds {
+    // Builds and edits in turn, and answers how many builds came out right, up to the first that did not.
+    fn go<H: Threads + Wait + Sync>(&mut self, rt: &H, alloc: Global, builds: u32) -> u32 {
+        for build in 0..builds {
             if self.build(rt, alloc) != Some(true) || self.edited.edit(alloc).is_none() {
-                return false;
+                return build;
             }
         }
-        true
+        builds
     }
 
     fn build<H: Threads + Wait + Sync>(&mut self, rt: &H, alloc: Global) -> Option<bool> {
@@ -153,59 +158,71 @@ fn failing_calls(alloc: Global, seed: u64) -> Option<Vec<u64>> {
 
 const BUILDS: u32 = 300;
 
-fn walk<H: Threads + Wait + Sync>(rt: &H, alloc: Global, site: &'static str, seed: u64) -> bool {
+// How many builds of a site came out right; none where too few of them ended in each way that they may.
+fn right_builds<H: Threads + Wait + Sync>(
+    rt: &H,
+    alloc: Global,
+    site: &'static str,
+    seed: u64,
+) -> u32 {
     match Walk::new(alloc, site, seed) {
-        Some(mut walk) => walk.go(rt, alloc, BUILDS) && walk.counts.built > BUILDS / 2 && walk.counts.marked > 5,
-        None => false,
+        Some(mut walk) => {
+            let right = walk.go(rt, alloc, BUILDS);
+            if walk.counts.are_mixed() { right } else { 0 }
+        }
+        None => 0,
     }
 }
 
 #[test]
 fn neighbours(rt: HostRuntime) {
-    assert!(rt; walk(&rt, rt.alloc(), sites::NEIGHBOURS, 1));
+    assert_eq!(rt; right_builds(&rt, rt.alloc(), sites::NEIGHBOURS, 1), BUILDS);
 }
 
 #[test]
 fn labels(rt: HostRuntime) {
-    assert!(rt; walk(&rt, rt.alloc(), sites::LABELS, 2));
+    assert_eq!(rt; right_builds(&rt, rt.alloc(), sites::LABELS, 2), BUILDS);
 }
 
 #[test]
 fn posts(rt: HostRuntime) {
-    assert!(rt; walk(&rt, rt.alloc(), sites::POSTS, 3));
+    assert_eq!(rt; right_builds(&rt, rt.alloc(), sites::POSTS, 3), BUILDS);
 }
 
 #[test]
 fn collections(rt: HostRuntime) {
-    assert!(rt; walk(&rt, rt.alloc(), sites::COLLECTIONS, 4));
+    assert_eq!(rt;
+        right_builds(&rt, rt.alloc(), sites::COLLECTIONS, 4),
+        BUILDS
+    );
 }
 
 #[test]
 fn layouts(rt: HostRuntime) {
-    assert!(rt; walk(&rt, rt.alloc(), sites::LAYOUTS, 5));
+    assert_eq!(rt; right_builds(&rt, rt.alloc(), sites::LAYOUTS, 5), BUILDS);
 }
 
 #[test]
 fn includes(rt: HostRuntime) {
-    assert!(rt; walk(&rt, rt.alloc(), sites::INCLUDES, 6));
+    assert_eq!(rt; right_builds(&rt, rt.alloc(), sites::INCLUDES, 6), BUILDS);
 }
 
 #[test]
 fn tables(rt: HostRuntime) {
-    assert!(rt; walk(&rt, rt.alloc(), sites::TABLES, 7));
+    assert_eq!(rt; right_builds(&rt, rt.alloc(), sites::TABLES, 7), BUILDS);
 }
 
 #[test]
 fn paginators(rt: HostRuntime) {
-    assert!(rt; walk(&rt, rt.alloc(), sites::PAGINATORS, 8));
+    assert_eq!(rt; right_builds(&rt, rt.alloc(), sites::PAGINATORS, 8), BUILDS);
 }
 
 #[test]
 fn addresses(rt: HostRuntime) {
-    assert!(rt; walk(&rt, rt.alloc(), sites::ADDRESSES, 9));
+    assert_eq!(rt; right_builds(&rt, rt.alloc(), sites::ADDRESSES, 9), BUILDS);
 }
 
 #[test]
 fn chains(rt: HostRuntime) {
-    assert!(rt; walk(&rt, rt.alloc(), sites::CHAINS, 10));
+    assert_eq!(rt; right_builds(&rt, rt.alloc(), sites::CHAINS, 10), BUILDS);
 }
