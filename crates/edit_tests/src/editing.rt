@@ -38,7 +38,7 @@ pub(crate) fn moment_of(month: u64) -> i64
 }
 
 impl Edited {
-    /// A site in which each form stands once.
+    /// A site that each form was put into three times.
     pub(crate) fn new(
         alloc: Global,
         site: &'static str,
@@ -63,16 +63,18 @@ impl Edited {
     fn put_forms(&mut self, alloc: Global) -> Option<()> {
         for form in 0..form_count(self.site) {
             self.put_form(alloc, form)?;
+            self.put_form(alloc, form)?;
+            self.put_form(alloc, form)?;
         }
         Some(())
     }
 
-    /// Up to three edits, or none. Where there is a fault, the files come back at times that last had none.
+    /// Up to five edits, or none. Where there is a fault, the files come back at times that last had none.
     pub(crate) fn edit(&mut self, alloc: Global) -> Option<()> {
         if self.has_fault && self.dice.one_in(2) {
             return self.mend(alloc);
         }
-        for _edit in 0..self.dice.below(4) {
+        for _edit in 0..self.dice.below(6) {
             self.edit_once(alloc)?;
         }
         Some(())
@@ -81,9 +83,9 @@ impl Edited {
     fn edit_once(&mut self, alloc: Global) -> Option<()> {
         let form = self.dice.below(form_count(self.site));
         match self.dice.below(16) {
-            0 | 1 => self.delete_any(alloc),
-            2 | 3 => self.rename(alloc, form),
-            4 => self.go_to_month(),
+            0 => self.delete_any(alloc),
+            1 | 2 => self.rename(alloc, form),
+            3 => self.go_to_month(),
             _ => self.put_form(alloc, form),
         }
     }

@@ -37,7 +37,7 @@ struct Counts {
 impl Counts {
     // Whether builds ended in each way.
     fn are_mixed(&self) -> bool {
-        self.built > BUILDS / 2 && self.marked > BUILDS / 20
+        self.built > BUILDS / 4 && self.marked > BUILDS / 20
     }
 
     fn add(&mut self, ending: &Rebuilt) {
@@ -144,14 +144,14 @@ fn jobs(dice: &mut Dice) -> u32 {
     }
 }
 
-// One call in some twenty.
+// One call in some ten; of an odd seed also the first one, which lists the files.
 fn failing_calls(alloc: Global, seed: u64) -> Option<Vec<u64>> {
-    let mut dice = Dice::new(seed.wrapping_add(1));
+    let mut dice = Dice::new(seed);
     let mut calls = Vec::new(alloc);
-    let mut call: u64 = 0;
-    for _failure in 0..200 {
-        call = call.wrapping_add(1).wrapping_add(dice.below(40));
+    let mut call = seed % 2;
+    for _failure in 0..300 {
         calls.push(call).ok()?;
+        call = call.wrapping_add(1).wrapping_add(dice.below(20));
     }
     Some(calls)
 }
