@@ -50,11 +50,20 @@ pub(crate) fn from_nothing(
     if session.scan(alloc, source).is_err() {
         return None;
     }
-    let mut out = MemoryOut::new(alloc, Vec::new(alloc), Vec::new(alloc));
+    let mut out = output(alloc, Vec::new(alloc))?;
     let mut tally = Tally::new(alloc);
     match session.rebuild_serial(alloc, &mut out, renderer, &mut tally) {
         Ok(ending) => Some(Fresh { ending, out }),
         Err(_) => None,
+    }
+}
+
+/// An output without files, which fails at these calls.
+pub(crate) fn output(alloc: Global, fails: Vec<u64>) -> Option<MemoryOut> {
+    let files = Vec::new(alloc);
+    match paths_stand_apart(alloc, &files) {
+        Ok(true) => Some(MemoryOut::new(alloc, files, fails)),
+        _ => None,
     }
 }
 

@@ -28,7 +28,7 @@ pub(crate) struct Notes {
 }
 
 /// What a build has to do.
-#[derive(Clone, Copy, PartialEq, Eq)]
+#[derive(Clone, Copy)]
 pub(crate) struct Due {
     /// How many items are to be rendered, the first with a fault among them.
     pub(crate) rendered: u64,

@@ -97,17 +97,14 @@ title: <A^B>
 @all.html
 ---
 ---
-{% for x in site.collections %}{{ x.label }} {{ x.docs.size }} {% endfor %}{{ site.documents.size }}<m^n>
+{% for x in site.collections %}{{ x.label }} {{ x.docs.size }} {% endfor %}{{ site.documents.size }}
+{% for f in site.static_files %}{{ f.path }} {% endfor %}<m^n>
 @_posts/2024-01-01-<a^b>.md
 ---
 ---
 post <m^n>
 @_c/picture.<a^b>
 <x^y>
-@files.html
----
----
-{% for f in site.static_files %}{{ f.path }} {% endfor %}
 ";
 
 /// Layouts in layouts.
@@ -245,9 +242,9 @@ exclude: [<none^none^b.txt>]
 {{ page.url }}: {{ content }}
 @_posts/2024-01-0<1^2>-<a^b>.md
 ---
-<title: A^slug: s^permalink: /x/:title/>
+<title: A^title: B^slug: s^permalink: /x/:title/>
 ---
-{{ page.url }} {{ page.kind }}
+{{ page.url }} {{ page.kind }} <1^2^3>
 @sub/<p^q>.md
 ---
 ---
@@ -256,7 +253,7 @@ exclude: [<none^none^b.txt>]
 ---
 permalink: /<a.txt^b^c>/
 ---
-{{ \"/x\" | relative_url }} {{ \"/y\" | absolute_url }}
+{{ \"/x\" | relative_url }} {{ \"/y\" | absolute_url }} {% for p in site.posts %}{{ p.url }} {% endfor %}
 @post.html
 ---
 ---
@@ -266,7 +263,7 @@ permalink: /<a.txt^b^c>/
 @index.html
 ---
 ---
-home
+home <1^2^3>
 ";
 
 /// Posts that hold one another, and faults of many kinds.

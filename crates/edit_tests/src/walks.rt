@@ -1,5 +1,5 @@
 // Builds after random edits.
-use crate::building::{from_nothing, rebuild, source_of};
+use crate::building::{from_nothing, output, rebuild, source_of};
 use crate::dice::Dice;
 use crate::editing::{Edited, moment_of};
 use crate::notes::Notes;
@@ -27,7 +27,7 @@ struct Walk {
 }
 
 // How many builds ended in each way.
-#[derive(Clone, Copy, Debug, PartialEq, Eq)]
+#[derive(Clone, Copy)]
 struct Counts {
     built: u32,
     marked: u32,
@@ -54,7 +54,7 @@ impl Walk {
         let sound = source_of(alloc, &Held::new(alloc))?;
         let edited = Edited::new(alloc, site, seed, sound)?;
         let fails = failing_calls(alloc, seed)?;
-        let out = MemoryOut::new(alloc, Vec::new(alloc), fails.to_vec(alloc).ok()?);
+        let out = output(alloc, fails.to_vec(alloc).ok()?)?;
         Some(Walk {
             edited,
             out,
