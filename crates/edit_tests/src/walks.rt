@@ -149,14 +149,14 @@ fn failing_calls(alloc: Global, seed: u64) -> Option<Vec<u64>> {
     let mut dice = Dice::new(seed);
     let mut calls = Vec::new(alloc);
     let mut call = seed % 2;
-    for _failure in 0..300 {
+    for _failure in 0..2_000 {
         calls.push(call).ok()?;
         call = call.wrapping_add(1).wrapping_add(dice.below(20));
     }
     Some(calls)
 }
 
-const BUILDS: u32 = 300;
+const BUILDS: u32 = 2_000;
 
 // How many builds of a site came out right; none where too few of them ended in each way that they may.
 fn right_builds<H: Threads + Wait + Sync>(
