@@ -1,5 +1,5 @@
 // Builds of a session, and builds from nothing.
-ghost use Rattle.std.specs.Prelude.{◌≡◌, true};
+ghost use Rattle.std.specs.Prelude.{◌≡◌, ◌≤◌, true};
 ghost use Rattle.site_script.specs.Line.{is_moment};
 
 use out_tree::MemoryOut;
@@ -19,15 +19,17 @@ pub(crate) const SETTINGS: Settings = Settings {
 
 /// The next build of a session, by so many workers.
 pub(crate) fn rebuild<H: Threads + Wait + Sync>(
-    _rt: &H,
+    rt: &H,
     alloc: Global,
     session: &mut Session,
-    _jobs: u32,
+    jobs: u32,
     out: &mut MemoryOut,
     renderer: &PageRenderer,
     tally: &mut Tally,
-) -> Result<Rebuilt, Memory> {
-    session.rebuild_serial(alloc, out, renderer, tally)
+) -> Result<Rebuilt, Memory>
+    requires { (1 ≤ jobs) × (jobs ≤ 64) }
+{
+    session.rebuild(alloc, rt, jobs, out, renderer, tally)
 }
 
 /// What a build from nothing comes to.

@@ -1,4 +1,6 @@
 // Builds after random edits.
+ghost use Rattle.std.specs.Prelude.{◌≤◌};
+
 use crate::building::{from_nothing, output, rebuild, source_of};
 use crate::dice::Dice;
 use crate::editing::{Edited, moment_of};
@@ -135,7 +137,9 @@ impl Walk {
     }
 }
 
-fn jobs(dice: &mut Dice) -> u32 {
+fn jobs(dice: &mut Dice) -> u32
+    ensures { (1 ≤ result) × (result ≤ 64) }
+{
     match dice.below(4) {
         0 => 1,
         1 => 2,
