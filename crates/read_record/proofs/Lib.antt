@@ -6,3 +6,4 @@ pub mod QueryLaws
 pub mod RecordLaws
 pub mod PlaceLaws
 pub mod TraceLaws
+pub mod Crosses

@@ -4,6 +4,7 @@
 
 mod asking;
 mod checking;
+mod crossing;
 mod entry;
 mod key;
 mod look;
