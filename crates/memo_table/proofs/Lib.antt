@@ -1,3 +1,4 @@
 pub mod EntryLaws
 pub mod PlaceLaws
 mod Rows
+pub mod Crosses

@@ -2,6 +2,7 @@
 #![tactic(auto)]
 
 mod by_name;
+mod crossing;
 mod memo;
 mod name_key;
 

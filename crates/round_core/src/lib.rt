@@ -2,6 +2,7 @@
 //! others made: which steps are allowed, what they leave, and what one worker knows.
 #![tactic(auto)]
 
+mod crossing;
 mod event;
 mod hand;
 mod known;

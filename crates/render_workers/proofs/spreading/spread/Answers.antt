@@ -2,7 +2,8 @@ use denote.Param.Send.{sendable}
 use Rattle.std.proofs.Crossing as heap
 use Rattle.site_base.proofs.errors.Memory.TheSendSync as Memory
 use Rattle.claim_table.proofs.table.ClaimTable.TheSendSync as ClaimTable
-use Rattle.render_workers.proofs.Crosses.{part_send, part_field_send, memo_sync, memo_field_sync, cells_sync, cells_field_sync}
+use Rattle.memo_table.proofs.Crosses.{memo_sync, memo_field_sync}
+use Rattle.render_workers.proofs.Crosses.{part_send, part_field_send, cells_sync, cells_field_sync}
 use Rattle.render_workers.proofs.spreading.spread.Goals as goal
 
 pub map_vec-requires-send-X : goal.map_vec-requires-send-X
