@@ -1,6 +1,7 @@
 //! Items that several threads claim, each at most once.
 #![tactic(auto)]
 
+mod crossing;
 mod rule;
 mod seat;
 mod table;

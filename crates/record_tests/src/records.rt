@@ -579,21 +579,3 @@ fn copied(alloc: Global) -> Option<(u32, u64, usize)> {
 fn copies_an_entry(rt: HostRuntime) {
     assert!(rt; copied(rt.alloc()) == Some((0, 2, 1)));
 }
-
-fn pass(outcome: &Outcome, tally: &Tally) {
-    is_shared(outcome);
-    is_sent(tally);
-}
-
-#[test]
-fn passes_between_threads(rt: HostRuntime) {
-    let outcome = Outcome::Done {
-        content: Text::new(rt.alloc()),
-        output: Text::new(rt.alloc()),
-    };
-    pass(&outcome, &Tally::new(rt.alloc()));
-}
-
-fn is_shared<T: Send + Sync>(_value: &T) {}
-
-fn is_sent<T: Send>(_value: &T) {}
