@@ -2,6 +2,7 @@
 #![tactic(auto)]
 
 mod around;
+mod crossing;
 mod item;
 mod layout;
 mod layouts;

@@ -5,5 +5,4 @@ pub mod Steps
 mod ShownLaws
 mod MadeLaws
 pub mod RoundLaws
-mod Crosses
 pub mod Rebuilding

@@ -9,4 +9,5 @@ mod FormLaws
 mod TextCodes
 mod Loops
 mod FileTexts
+pub mod Crosses
 mod Rows

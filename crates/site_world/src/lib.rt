@@ -3,6 +3,7 @@
 
 mod coded;
 mod copied;
+mod crossing;
 mod found;
 mod item_places;
 mod looking;

@@ -5,7 +5,7 @@ use Rattle.site_base.specs.Places.{Files}
 use Rattle.site_reader.specs.declared.site.Site.{Site}
 use Rattle.site_session.specs.Full.{given_of}
 use Rattle.site_session.specs.Rounds.{IsGone, in_any_order}
-use Rattle.site_session.proofs.Crosses.{world_sync}
+use Rattle.site_world.proofs.Crosses.{world_sync}
 use Rattle.site_session.proofs.RoundLaws.{worked_gone}
 use Rattle.site_world.specs.Sights.{fixed_bytes}
 use Rattle.site_session.proofs.rounds.by_crew.Goals as goal
