@@ -1,5 +1,5 @@
 //! Random edits of small sites: after each, what a session builds is what a build from nothing gives, and what it renders is what
-//! has to be rendered.
+//! has to be rendered. And the first fault of a session's files, which needs a session too.
 #![tactic(auto)]
 
 #[cfg(test)]
@@ -8,6 +8,8 @@ mod building;
 mod dice;
 #[cfg(test)]
 mod editing;
+#[cfg(test)]
+mod first_faults;
 #[cfg(test)]
 mod forms;
 #[cfg(test)]

@@ -1,8 +1,6 @@
-//! What items, whole sites, pages and builds come to, for rows of them.
+//! What items, whole sites and their pages come to, for rows of them.
 #![tactic(auto)]
 
-#[cfg(test)]
-mod builds;
 #[cfg(test)]
 mod items;
 #[cfg(test)]

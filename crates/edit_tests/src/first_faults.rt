@@ -1,5 +1,6 @@
+use crate::building::SETTINGS;
 use page_render::PageRenderer;
-use site_base::{Settings, SiteFault, SitePath};
+use site_base::{SiteFault, SitePath};
 use site_session::Session;
 use std::alloc::Global;
 use std::test::Fail;
@@ -9,11 +10,7 @@ const MOMENT: i64 = 1_704_067_200;
 
 // The first fault of a site of one file.
 fn first_fault(alloc: Global, path: &str, text: &str) -> Result<Option<SiteFault>, Fail> {
-    let settings = Settings {
-        drafts: false,
-        future: false,
-    };
-    let mut session = Session::open(alloc, settings, MOMENT);
+    let mut session = Session::open(alloc, SETTINGS, MOMENT);
     session.put(SitePath::read(alloc, path)?, text.as_bytes().to_vec(alloc)?)?;
     match session.first_fault(alloc, &PageRenderer::new(alloc)) {
         Ok(fault) => Ok(fault),
