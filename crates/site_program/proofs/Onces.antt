@@ -1,14 +1,13 @@
 -- Runs of a build from nothing.
-use Rattle.std.proofs.Common.{◌≡◌, inl, inr, ℕ, List, [], ◌∷◌, ◌++◌, refl, sym, ◌∙◌, ap, subst, Option, Some, None, append_assoc}
+use Rattle.std.proofs.Common.{◌≡◌, ℕ, List, [], ◌∷◌, ◌++◌, refl, sym, ◌∙◌, ap, subst, Option, Some, None, append_assoc}
 use Rattle.std.proofs.lemmas.List.{append-nil}
 use Rattle.site_base.specs.Places.{Files}
-use Rattle.site_base.specs.declared.item_name.ItemName.{ItemName}
 use Rattle.site_script.specs.declared.line.Line.{Line}
 use Rattle.site_script.specs.declared.line.Line.TheVariants as line
 use Rattle.site_session.specs.Standing.{Standing, Holds}
 use Rattle.site_session.specs.Session.{Given, Answers, Run, event_of, step}
 use Rattle.site_session.specs.Replies.{AllLeave, LineLeaves}
-use Rattle.site_session.specs.Tallied.{Effects, effects}
+use Rattle.site_session.specs.Tallied.{Effects}
 use Rattle.site_session.specs.Bytes.{reply_bytes}
 use Rattle.site_session.specs.declared.reply.Reply.{Reply}
 use Rattle.site_session.specs.declared.reply.Reply.TheVariants.{Scanned, ScanFailed, Faulty, Fine, Absent, Built, Marked, Unlisted, BadLine, Silent}
@@ -105,16 +104,3 @@ cut_two contents given first mid before part after was there now status scanned 
   stopped = stopped;
   bytes = bytes ∙ ap Some (append_assoc before (reply_bytes given.why scanned) part) ∙ ap (λ b. Some (before ++ (b ++ part))) (sym (append-nil (reply_bytes given.why scanned)));
 }) is
-
--- a run that came to nothing, for want of memory
-pub cut_none : {D : Type 0} (contents : D → Option Files) (given : Given) (first : Standing) (before : List ℕ) (after : Option (List ℕ)) (out : Effects D) (status : Status)
-    → first.belief ≡ None → contents out.output ≡ Some given.output → after ≡ Some before → status ≡ Memory → OnceRun contents given first before after out out status
-cut_none contents given first before after out status none is bytes ends =
-    cut_one contents given first first before [] after out out status refl (inl (record { memory = ends; kept = refl; output = holds_first first (contents out.output) given.output none is; nothing = refl })) (bytes ∙ ap Some (sym (append-nil before)))
-    (record { cases = inr ends; memory = λ _. refl })
-
--- a run with a tally of its own, which begins without names
-pub with_tally : {D : Type 0} (contents : D → Option Files) (given : Given) (first : Standing) (before : List ℕ) (after : Option (List ℕ)) (was now : D) (status : Status) (none names : List ItemName) → none ≡ []
-    → OnceRun contents given first before after (effects was none) (effects now names) status → (names : List ItemName) × OnceRun contents given first before after (effects was []) (effects now names) status
-with_tally contents given first before after was now status none names is run =
-    (names, subst (λ (n : List ItemName). OnceRun contents given first before after (effects was n) (effects now names) status) is run)

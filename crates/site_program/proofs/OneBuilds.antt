@@ -1,6 +1,7 @@
 -- How one build from nothing ends, by the place at which it ends.
 use Rattle.std.proofs.Common.{◌≡◌, ◌∙◌, ◌⊎◌, inl, inr, ℕ, ◌+◌, ◌-◌, ◌^◌, ◌≤◌, min, Bool, false, List, [], ◌++◌, take, refl, sym, ap, subst, Option, Some, None, Result, Ok, Err, append_assoc, arith}
 use Rattle.std.specs.Result.{OnErr}
+use Rattle.std.proofs.lemmas.List.{append-nil}
 use Rattle.out_tree.specs.declared.step.Call.{Call}
 use Rattle.site_base.specs.Ends.{Rose}
 use Rattle.site_base.specs.Places.{Files}
@@ -269,3 +270,20 @@ module _ {D : Type 0} (contents : D → Option Files) (first opened : Standing) 
           taken = h.taken;
           part_is = h.part_is ∙ ap (λ y. take h.taken (reply_bytes y h.reply)) (sym w);
         })
+
+-- ---- what is told of a whole run
+
+-- the run ended for want of memory before it had read what it is to do
+pub ends_unread : {D : Type 0} (contents : D → Option Files) (first : Standing) (why : Bool) (source : Option Files) (taken : Option (List ℕ)) (at : Effects D) (counts : Counts) (sink_first sink_now : ℕ) (s : Status) → first.belief ≡ None → s ≡ status.Memory
+    → OneBuild contents first why source taken taken at at counts sink_first sink_now s
+ends_unread contents first why source taken at counts sink_first sink_now s unlisted is =
+    ends_early contents first first refl unlisted why source taken at (s ≡ status.Memory) taken counts sink_first sink_now s
+    (λ given before w src t. ([], record { bytes = t ∙ ap Some (sym (append-nil before)); memory = λ _. refl }, inl (is, refl))) (inr is) (λ e. e) (λ e. e)
+    (λ e. let none : status.Memory ≡ status.SinkFault = sym is ∙ e in absurd (cc (none)))
+
+-- the same run, of equal standing, reasons and tally
+pub same_run : {D : Type 0} (contents : D → Option Files) (first start : Standing) (why said : Bool) (source : Option Files) (taken taken' : Option (List ℕ)) (was now : D) (none begun names : List ItemName) (counts : Counts) (sink_first sink_now : ℕ) (s : Status)
+    → first ≡ start → why ≡ said → none ≡ begun → OneBuild contents first why source taken taken' (effects was none) (effects now names) counts sink_first sink_now s
+    → OneBuild contents start said source taken taken' (effects was begun) (effects now names) counts sink_first sink_now s
+same_run contents first start why said source taken taken' was now none begun names counts sink_first sink_now s first_is why_is none_is run =
+    subst (λ (x : Standing × (Bool × List ItemName)). OneBuild contents x.0 x.1.0 source taken taken' (effects was x.1.1) (effects now names) counts sink_first sink_now s) (λ i. (first_is i, (why_is i, none_is i))) run

@@ -1,12 +1,13 @@
 -- What a check answers of a site, and what the sink then took.
 use Rattle.std.specs.Prelude.{◌≡◌, ◌⊎◌, ℕ, false, List, ◌++◌, codes, Option, Some, None}
 use Rattle.std.specs.FinMap.{entries}
+use Rattle.site_base.specs.Places.{Files}
 use Rattle.site_base.specs.declared.faults.SiteFault.{SiteFault}
 use Rattle.source_tree.specs.Scan.{scan_fault}
 use Rattle.site_session.specs.Bytes.{fault_line, reply_bytes}
 use Rattle.site_session.specs.Session.{Given, first_fault}
 use Rattle.site_session.specs.Standing.{Standing}
-use Rattle.site_program.specs.Once.{scanned, site_fault}
+use Rattle.site_program.specs.Once.{after_scan, scanned, site_fault}
 use Rattle.site_program.specs.declared.status.Status.{Status}
 use Rattle.site_program.specs.declared.status.Status.TheVariants.{Done, Site, Usage, SourceFault, OutFault, InputFault, SinkFault, Script, Memory}
 
@@ -57,6 +58,11 @@ CheckTook given now before after (OutFault count) = ⊥
 CheckTook given now before after (Usage kind) = ⊥
 CheckTook given now before after InputFault = ⊥
 CheckTook given now before after (Script number kind) = ⊥
+
+-- the check of what a session's first scan finds: when each status comes and what the sink took, where the ends tell it
+pub record OneCheck (first : Standing) (source : Option Files) (taken taken' : Option (List ℕ)) (ended : Status) : Type 0 where
+  pub told : (given : Given) → source ≡ Some given.source → Checked (after_scan given first) ended
+  pub took : (given : Given) (before : List ℕ) → source ≡ Some given.source → taken ≡ Some before → CheckTook given (after_scan given first) before taken' ended
 
 -- ---- parts of a check
 

@@ -1,5 +1,5 @@
 -- What `make` prints: the replies of a session over a made-up site, which is built, edited and built again.
-use Rattle.std.specs.Prelude.{ℕ, ℤ, true, false, List, [], Option, Some, None}
+use Rattle.std.specs.Prelude.{◌≡◌, ℕ, ℤ, true, false, List, [], Option, Some, None}
 use Rattle.std.specs.Option.{option_or}
 use Rattle.std.specs.FinMap.{empty}
 use Rattle.site_base.specs.declared.faults.SiteFault.{SiteFault}
@@ -10,7 +10,7 @@ use Rattle.site_session.specs.Bytes.{reply_bytes}
 use Rattle.site_session.specs.Session.{Given, Nothing, first_fault, start, step}
 use Rattle.site_session.specs.Standing.{Standing}
 use Rattle.site_session.specs.declared.reply.Reply.{Reply}
-use Rattle.site_program.specs.Checks.{verdict_status}
+use Rattle.site_program.specs.Checks.{EndsAs, SaidBoth, verdict_status}
 use Rattle.site_program.specs.declared.status.Status.{Status}
 
 -- an output without files, and no source
@@ -54,3 +54,9 @@ first_bytes number count moment = build_bytes (made number count moment)
 
 abbrev pub second_bytes : ℕ → ℕ → ℤ → List ℕ
 second_bytes number count moment = unless_fault (first_fault (made number count moment)) (build_bytes (edited number count moment))
+
+-- a made-up site was built, edited and built again: it ends with the first fault, unless the sink fails or memory is wanting, and the sink took the
+-- replies
+pub record OneMake (number count : ℕ) (moment : ℤ) (taken taken' : Option (List ℕ)) (ended : Status) : Type 0 where
+  pub ends : EndsAs (make_status number count moment) ended
+  pub took : (before : List ℕ) → taken ≡ Some before → SaidBoth (first_bytes number count moment) (second_bytes number count moment) (make_status number count moment) before taken' ended

@@ -9,8 +9,8 @@ ghost use Rattle.site_session.specs.Tallied.{effects};
 ghost use Rattle.site_words.specs.declared.faults.UsageKind.{UsageKind};
 ghost use Rattle.site_words.specs.declared.orders.Options.{Options};
 ghost use Rattle.site_words.specs.declared.orders.Order.TheVariants as order;
-ghost use Rattle.site_program.specs.Runs.{OnceRun};
-ghost use Rattle.site_program.specs.Once.{after_scan, jobs_order, Took, Untouched, WasUsage, Ended};
+ghost use Rattle.site_program.specs.Once.{jobs_order, Untouched, WasUsage};
+ghost use Rattle.site_program.specs.OneBuild.{OneBuild};
 ghost use Rattle.site_program.specs.Sessions.{SessionRun, EndsAt, GoesOn, EndsSession, bad_status};
 ghost use Rattle.site_program.specs.Usage.{usage_line};
 
@@ -63,18 +63,11 @@ pub fn run_jobs<
         (record { source_first = S.failures source.old; source_now = S.failures source.new; output_first = O.failures out.old; output_now = O.failures out.new }) result }
     ensures session_status { (options : Options) → jobs_order words.now moment ≡ Ok (order.Session options) → EndsSession result }
 
-    // When each status of a build comes, what the output then has,
-    ensures build { (given : Given) (options : Options) → jobs_order words.now moment ≡ Ok (order.Build options) →
-        S.files source.old ≡ Some given.source → O.contents out.old ≡ Some given.output →
-        Ended (after_scan given (start options.settings moment)) (O.contents out.old) (O.contents out.new) result }
-    // what the sink then took,
-    ensures build_took { (given : Given) (options : Options) (before : List ℕ) → jobs_order words.now moment ≡ Ok (order.Build options) → given.why ≡ options.why →
-        S.files source.old ≡ Some given.source → O.contents out.old ≡ Some given.output → K.taken sink.old ≡ Some before →
-        Took given (after_scan given (start options.settings moment)) before (K.taken sink.new) result }
-    // and how the run is one of a session.
-    ensures build_run { (given : Given) (options : Options) (before : List ℕ) → jobs_order words.now moment ≡ Ok (order.Build options) → given.why ≡ options.why →
-        S.files source.old ≡ Some given.source → O.contents out.old ≡ Some given.output → K.taken sink.old ≡ Some before →
-        OnceRun O.contents given (start options.settings moment) before (K.taken sink.new) (effects out.old tally.old) (effects out.new tally.new) result }
+    // A build is one from nothing.
+    ensures build { (options : Options) → jobs_order words.now moment ≡ Ok (order.Build options) → OneBuild O.contents (start options.settings moment) options.why
+        (S.files source.old) (K.taken sink.old) (K.taken sink.new) (effects out.old tally.old) (effects out.new tally.new)
+        (record { source_first = S.failures source.old; source_now = S.failures source.new; output_first = O.failures out.old; output_now = O.failures out.new })
+        (K.failures sink.old) (K.failures sink.new) result }
 
     // Whatever the ends tell: a build leaves the input alone, and the output too where it did not come to build,
     ensures build_input { (options : Options) → jobs_order words.now moment ≡ Ok (order.Build options) → input.new ≡ input.old }

@@ -3,14 +3,14 @@ ghost use Rattle.std.specs.Prelude.{◌≡◌, ◌⊎◌, ◌++◌, ◌≤◌, �
 ghost use Rattle.site_base.specs.Ends.{Rose};
 ghost use Rattle.site_base.specs.declared.item_name.ItemName.{ItemName};
 ghost use Rattle.site_base.specs.declared.settings.Settings.{Settings};
-ghost use Rattle.site_session.specs.Session.{Given, start};
+ghost use Rattle.site_session.specs.Session.{start};
 ghost use Rattle.site_session.specs.Tallied.{effects};
 ghost use Rattle.site_words.specs.declared.faults.UsageKind.{UsageKind};
 ghost use Rattle.site_words.specs.declared.orders.Order.TheVariants as order;
-ghost use Rattle.site_program.specs.Checks.{Checked, CheckTook, EndsAs, SaidBoth};
-ghost use Rattle.site_program.specs.Makes.{first_bytes, make_status, second_bytes};
-ghost use Rattle.site_program.specs.Runs.{OnceRun};
-ghost use Rattle.site_program.specs.Once.{after_scan, once_order, Took, Untouched, WasUsage, Ended};
+ghost use Rattle.site_program.specs.Checks.{OneCheck};
+ghost use Rattle.site_program.specs.Makes.{OneMake};
+ghost use Rattle.site_program.specs.Once.{once_order, Untouched, WasUsage};
+ghost use Rattle.site_program.specs.OneBuild.{OneBuild};
 ghost use Rattle.site_program.specs.Usage.{usage_line};
 
 use crate::check::scan_and_check;
@@ -38,35 +38,19 @@ pub fn run_once<S: SourceTree, O: OutTree, K: ByteSink>(
     out: &mut O,
     sink: &mut K,
 ) -> Status
-    // Of `once`: when each status comes and what the output then has,
-    ensures once { (given : Given) (settings : Settings) → once_order words.now moment ≡ Ok (order.Once settings) →
-        S.files source.old ≡ Some given.source → O.contents out.old ≡ Some given.output →
-        Ended (after_scan given (start settings moment)) (O.contents out.old) (O.contents out.new) result }
-    // what the sink then took,
-    ensures once_took { (given : Given) (settings : Settings) (before : List ℕ) → once_order words.now moment ≡ Ok (order.Once settings) → given.why ≡ false →
-        S.files source.old ≡ Some given.source → O.contents out.old ≡ Some given.output → K.taken sink.old ≡ Some before →
-        Took given (after_scan given (start settings moment)) before (K.taken sink.new) result }
-    // and that the run is one of a session over the script `scan`, `build`, with a tally of its own.
-    ensures once_run { (given : Given) (settings : Settings) (before : List ℕ) → once_order words.now moment ≡ Ok (order.Once settings) → given.why ≡ false →
-        S.files source.old ≡ Some given.source → O.contents out.old ≡ Some given.output → K.taken sink.old ≡ Some before →
-        (names : List ItemName) × OnceRun O.contents given (start settings moment) before (K.taken sink.new) (effects out.old []) (effects out.new names) result }
+    // `once` is one build from nothing, with a tally of its own,
+    ensures once { (settings : Settings) → once_order words.now moment ≡ Ok (order.Once settings) → (names : List ItemName) × OneBuild O.contents (start settings moment) false
+        (S.files source.old) (K.taken sink.old) (K.taken sink.new) (effects out.old []) (effects out.new names)
+        (record { source_first = S.failures source.old; source_now = S.failures source.new; output_first = O.failures out.old; output_now = O.failures out.new })
+        (K.failures sink.old) (K.failures sink.new) result }
 
-    // Of `check`: when each status comes,
-    ensures check { (given : Given) (settings : Settings) → once_order words.now moment ≡ Ok (order.Check settings) →
-        S.files source.old ≡ Some given.source → Checked (after_scan given (start settings moment)) result }
-    // what the sink then took,
-    ensures check_took { (given : Given) (settings : Settings) (before : List ℕ) → once_order words.now moment ≡ Ok (order.Check settings) →
-        S.files source.old ≡ Some given.source → K.taken sink.old ≡ Some before →
-        CheckTook given (after_scan given (start settings moment)) before (K.taken sink.new) result }
-    // and that the output is the same value as before.
+    // `check` is one check, which leaves the output the same value as before,
+    ensures check { (settings : Settings) → once_order words.now moment ≡ Ok (order.Check settings) →
+        OneCheck (start settings moment) (S.files source.old) (K.taken sink.old) (K.taken sink.new) result }
     ensures check_untouched { (settings : Settings) → once_order words.now moment ≡ Ok (order.Check settings) → out.new ≡ out.old }
 
-    // Of `make`: that it ends with the first fault of the site or of the edited one, unless the sink fails or memory is wanting,
-    ensures make { (number count : ℕ) → once_order words.now moment ≡ Ok (order.Make number count) → EndsAs (make_status number count moment) result }
-    // what the sink then took,
-    ensures make_took { (number count : ℕ) (before : List ℕ) → once_order words.now moment ≡ Ok (order.Make number count) → K.taken sink.old ≡ Some before →
-        SaidBoth (first_bytes number count moment) (second_bytes number count moment) (make_status number count moment) before (K.taken sink.new) result }
-    // and that it calls neither source nor output.
+    // and `make` is two builds of a made-up site, which call neither source nor output.
+    ensures make { (number count : ℕ) → once_order words.now moment ≡ Ok (order.Make number count) → OneMake number count moment (K.taken sink.old) (K.taken sink.new) result }
     ensures make_untouched { (number count : ℕ) → once_order words.now moment ≡ Ok (order.Make number count) → (source.new ≡ source.old) × (out.new ≡ out.old) }
 
     // Whatever the ends tell: the words alone decide about Usage, and a run that did not come to build left the output alone.

@@ -4,11 +4,10 @@ use Rattle.site_session.specs.Session.{start}
 use Rattle.site_session.specs.Tallied.{effects}
 use Rattle.site_session.specs.Standing.{Standing}
 use Rattle.site_words.specs.declared.orders.Options.{Options}
-use Rattle.site_program.specs.Once.{after_scan, Ended, Took}
-use Rattle.site_program.specs.Runs.{OnceRun}
 use Rattle.site_program.specs.Sessions.{Counts, SessionRun}
 use Rattle.site_program.specs.declared.usage.TopCall.TheVariants as call
-use Rattle.site_program.proofs.Onces.{cut_none, holds_first}
+use Rattle.site_program.proofs.OneBuilds.{ends_unread, same_run}
+use Rattle.site_program.proofs.Onces.{holds_first}
 use Rattle.site_program.proofs.Orders.{build_jobs_in_range, in_time, known, none_for_jobs, ordered, same_build, same_session, same_start, session_jobs_in_range}
 use Rattle.site_program.proofs.Turns.{session_none}
 use Rattle.site_program.proofs.jobs.run_jobs.Goals as goal
@@ -30,28 +29,11 @@ unreachable-requires g c = none_for_jobs c.in-Ok.order (known call.Jobs c.args.w
 
 -- the order is the one that the clause speaks of, and a moment that is handed on is the same number
 pub returns-in-Build-clause-build : goal.returns-in-Build-clause-build
-returns-in-Build-clause-build g c = λ given options is told out.
+returns-in-Build-clause-build g c = λ options is.
     let moment_is = to_z-of_z c.ranges.moment in
     let order_is = ordered call.Jobs c.args.words.now _ _ _ _ moment_is c.in-Ok.ensures is in
     let options_is = same_build c.in-Ok.order c.in-Build.options options c.in-Build.is order_is in
-    subst (λ (s : Standing). Ended (after_scan given s) (g.O.OutTree.contents c.args.out.now) (g.O.OutTree.contents c.build_by_crew.new.out) c.build_by_crew.result) (same_start _ _ _ _ (ap (λ (o : Options). o.settings) options_is) moment_is)
-    (c.build_by_crew.ensures.told given told out)
-
-pub returns-in-Build-clause-build_took : goal.returns-in-Build-clause-build_took
-returns-in-Build-clause-build_took g c = λ given options before is why told out w.
-    let moment_is = to_z-of_z c.ranges.moment in
-    let order_is = ordered call.Jobs c.args.words.now _ _ _ _ moment_is c.in-Ok.ensures is in
-    let options_is = same_build c.in-Ok.order c.in-Build.options options c.in-Build.is order_is in
-    subst (λ (s : Standing). Took given (after_scan given s) before (g.K.ByteSink.taken c.build_by_crew.new.sink) c.build_by_crew.result) (same_start _ _ _ _ (ap (λ (o : Options). o.settings) options_is) moment_is)
-    (c.build_by_crew.ensures.took given before (why ∙ ap (λ (o : Options). o.why) (sym options_is)) told out w)
-
-pub returns-in-Build-clause-build_run : goal.returns-in-Build-clause-build_run
-returns-in-Build-clause-build_run g c = λ given options before is why told out w.
-    let moment_is = to_z-of_z c.ranges.moment in
-    let order_is = ordered call.Jobs c.args.words.now _ _ _ _ moment_is c.in-Ok.ensures is in
-    let options_is = same_build c.in-Ok.order c.in-Build.options options c.in-Build.is order_is in
-    subst (λ (s : Standing). OnceRun g.O.OutTree.contents given s before (g.K.ByteSink.taken c.build_by_crew.new.sink) (effects c.args.out.now c.args.tally.now) (effects c.build_by_crew.new.out c.build_by_crew.new.tally) c.build_by_crew.result) (same_start _ _ _ _ (ap (λ (o : Options). o.settings) options_is) moment_is)
-    (c.build_by_crew.ensures.run given before (why ∙ ap (λ (o : Options). o.why) (sym options_is)) told out w)
+    same_run g.O.OutTree.contents _ _ _ _ _ _ _ _ _ _ _ _ _ _ _ _ (same_start _ _ _ _ (ap (λ (o : Options). o.settings) options_is) moment_is) (ap (λ (o : Options). o.why) options_is) refl c.build_by_crew.ensures
 
 pub returns-in-Session-clause-session : goal.returns-in-Session-clause-session
 returns-in-Session-clause-session g c = λ given options text before is why told out bytes w.
@@ -67,9 +49,8 @@ returns-in-Session-clause-session g c = λ given options text before is why told
     subst (λ (s : Standing). SessionRun g.O.OutTree.contents given s text before (g.I.ByteSource.left c.run_session.new.input) (g.K.ByteSink.taken c.run_session.new.sink) (effects c.args.out.now c.args.tally.now) (effects c.run_session.new.out c.run_session.new.tally) counts c.run_session.result) (same_start _ _ _ _ (ap (λ (o : Options). o.settings) options_is) moment_is)
     (c.run_session.ensures.run given text before (why ∙ ap (λ (o : Options). o.why) (sym options_is)) told out bytes w)
 
-pub returns-in-Err-Memory-clause-build_run : goal.returns-in-Err-Memory-clause-build_run
-returns-in-Err-Memory-clause-build_run g c = λ given options before is why told out w.
-    cut_none g.O.OutTree.contents given (start options.settings c.args.moment) before _ _ _ refl out w refl
+pub returns-in-Err-Memory-clause-build : goal.returns-in-Err-Memory-clause-build
+returns-in-Err-Memory-clause-build g c = λ options is. ends_unread g.O.OutTree.contents (start options.settings c.args.moment) options.why _ _ _ _ _ _ _ refl refl
 
 pub returns-in-Err-Memory-clause-session : goal.returns-in-Err-Memory-clause-session
 returns-in-Err-Memory-clause-session g c = λ given options text before is why told out bytes w.

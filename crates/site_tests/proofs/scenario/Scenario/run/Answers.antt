@@ -19,7 +19,7 @@ returns-clause-once c = λ settings is.
     let order = ap (λ m. once_order c.in_ok-words.words m) same ∙ ap (λ w. once_order w c.args.moment) c.in_ok-words.ensures.words ∙ is in
     let source = ap (λ (s : SourceState). Some s.files) c.in_ok-ends.ensures.source in
     let out = ap (λ (o : OutState). Some o.files) c.in_ok-ends.ensures.out in
-    ended (given_of c.args.self.now) _ _ _ _ _ _ (ap (start settings) same) out (c.run_once-status.ensures.once (given_of c.args.self.now) settings order source out)
+    ended (given_of c.args.self.now) _ _ _ _ _ _ (ap (start settings) same) out ((c.run_once-status.ensures.once settings order).1.told (given_of c.args.self.now) source out)
 
 pub returns-clause-once_took : goal.returns-clause-once_took
 returns-clause-once_took c = λ settings is.
@@ -28,7 +28,7 @@ returns-clause-once_took c = λ settings is.
     let source = ap (λ (s : SourceState). Some s.files) c.in_ok-ends.ensures.source in
     let out = ap (λ (o : OutState). Some o.files) c.in_ok-ends.ensures.out in
     let sink = ap (λ (s : SinkState). Some s.taken) c.in_ok-ends.ensures.sink in
-    took (given_of c.args.self.now) _ _ _ _ (ap (start settings) same) (c.run_once-status.ensures.once_took (given_of c.args.self.now) settings [] order refl source out sink)
+    took (given_of c.args.self.now) _ _ _ _ (ap (start settings) same) ((c.run_once-status.ensures.once settings order).1.took (given_of c.args.self.now) [] refl source out sink)
 
 pub returns-clause-check : goal.returns-clause-check
 returns-clause-check c = λ settings is.
@@ -36,7 +36,7 @@ returns-clause-check c = λ settings is.
     let order = ap (λ m. once_order c.in_ok-words.words m) same ∙ ap (λ w. once_order w c.args.moment) c.in_ok-words.ensures.words ∙ is in
     let source = ap (λ (s : SourceState). Some s.files) c.in_ok-ends.ensures.source in
     let given = given_of c.args.self.now in
-    subst (λ (s : Standing). Checked (after_scan given s) c.run_once-status.result) (ap (start settings) same) (c.run_once-status.ensures.check given settings order source)
+    subst (λ (s : Standing). Checked (after_scan given s) c.run_once-status.result) (ap (start settings) same) ((c.run_once-status.ensures.check settings order).told given source)
 
 pub returns-clause-check_took : goal.returns-clause-check_took
 returns-clause-check_took c = λ settings is.
@@ -46,4 +46,4 @@ returns-clause-check_took c = λ settings is.
     let sink = ap (λ (s : SinkState). Some s.taken) c.in_ok-ends.ensures.sink in
     let given = given_of c.args.self.now in
     subst (λ (s : Standing). CheckTook given (after_scan given s) [] (Some c.run_once-status.new.sink.taken) c.run_once-status.result) (ap (start settings) same)
-    (c.run_once-status.ensures.check_took given settings [] order source sink)
+    ((c.run_once-status.ensures.check settings order).took given [] source sink)

@@ -19,7 +19,7 @@ returns-clause-build g c = λ options is.
     let order = ap (λ m. jobs_order c.in_ok-words.words m) same ∙ ap (λ w. jobs_order w c.args.moment) c.in_ok-words.ensures.words ∙ is in
     let source = ap (λ (s : SourceState). Some s.files) c.in_ok-ends.ensures.source in
     let out = ap (λ (o : OutState). Some o.files) c.in_ok-ends.ensures.out in
-    ended (given_of c.args.self.now) _ _ _ _ _ _ (ap (start options.settings) same) out (c.run_jobs-status.ensures.build (given_of c.args.self.now) options order source out)
+    ended (given_of c.args.self.now) _ _ _ _ _ _ (ap (start options.settings) same) out ((c.run_jobs-status.ensures.build options order).told (given_of c.args.self.now) source out)
 
 pub returns-clause-build_took : goal.returns-clause-build_took
 returns-clause-build_took g c = λ options is.
@@ -29,7 +29,7 @@ returns-clause-build_took g c = λ options is.
     let out = ap (λ (o : OutState). Some o.files) c.in_ok-ends.ensures.out in
     let sink = ap (λ (s : SinkState). Some s.taken) c.in_ok-ends.ensures.sink in
     let given = told_of c.args.self.now options in
-    took given _ _ _ _ (ap (start options.settings) same) (c.run_jobs-status.ensures.build_took given options [] order refl source out sink)
+    took given _ _ _ _ (ap (start options.settings) same) ((c.run_jobs-status.ensures.build options order).took given [] refl source out sink)
 
 pub returns-clause-session : goal.returns-clause-session
 returns-clause-session g c = λ options is.
