@@ -112,6 +112,13 @@ HUGO_ALL = """{{ define "main" }}<ul>
 """
 
 
+CHAIN = """---
+layout: base
+---
+{{ content }}{{ page.previous.content | size }}
+"""
+
+
 def write(folder, path, text):
     """Writes a file, with the folders that it needs."""
     path = os.path.join(folder, path)
@@ -184,6 +191,11 @@ def write_blog(folder, count, size, newest=False):
     write(folder, "all.html", ALL)
     for number in range(count):
         write(folder, post_path(number), post(number, size))
+
+
+def write_chain(folder):
+    """Makes each post of a blog show something of the one before it, so that no two can be rendered at once."""
+    write(folder, "_layouts/post.html", CHAIN)
 
 
 def write_hugo(folder, count, size, newest=False):
