@@ -88,6 +88,11 @@ took_by : (given : Given) (now : Standing) (before : List ℕ) (after : Option (
 took_by given now before after None is = is
 took_by given now before after (Some fault) is = is
 
+lacked : (given : Given) (now : Standing) (before : List ℕ) (after : Option (List ℕ)) → scan_fault (entries given.source) ≡ None
+    → (after ≡ Some before) ⊎ (after ≡ Some (before ++ reply_bytes false (scanned given))) → CheckTook given now before after Memory
+lacked given now before after none (inl is) = inl is
+lacked given now before after none (inr is) = inr (none, is)
+
 pub held_took : (given : Given) (now : Standing) (before : List ℕ) (after : Option (List ℕ)) (s : Status) → scan_fault (entries given.source) ≡ None
     → SaidBoth (reply_bytes false (scanned given)) (verdict (first_fault now)) (verdict_status (first_fault now)) before after s → CheckTook given now before after s
 held_took given now before after s none (inl done) =
@@ -95,7 +100,7 @@ held_took given now before after s none (inl done) =
     (took_by given now before after (first_fault now) (done.1 ∙ ap (λ f. Some (before ++ check_bytes_by given now f)) (sym none)))
 held_took given now before after s none (inr (inl cut)) =
     subst (λ x. CheckTook given now before after x) (sym cut.0) (cut.1.0, inl (subst (λ f. IsFrontOf cut.1.0 (check_bytes_by given now f)) (sym none) cut.1.1), cut.1.2)
-held_took given now before after s none (inr (inr lack)) = subst (λ x. CheckTook given now before after x) (sym lack.0) lack.1
+held_took given now before after s none (inr (inr lack)) = subst (λ x. CheckTook given now before after x) (sym lack.0) (lacked given now before after none lack.1)
 
 pub limit_took : (given : Given) (now : Standing) (before : List ℕ) (after : Option (List ℕ)) (s : Status) (fault : SiteFault) → scan_fault (entries given.source) ≡ Some fault
     → Said (fault_line fault) (Site fault) before after s → CheckTook given now before after s

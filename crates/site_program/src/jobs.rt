@@ -9,6 +9,7 @@ ghost use Rattle.site_session.specs.Tallied.{effects};
 ghost use Rattle.site_words.specs.declared.faults.UsageKind.{UsageKind};
 ghost use Rattle.site_words.specs.declared.orders.Options.{Options};
 ghost use Rattle.site_words.specs.declared.orders.Order.TheVariants as order;
+ghost use Rattle.site_program.specs.Checks.{Said};
 ghost use Rattle.site_program.specs.Once.{jobs_order, Untouched, WasUsage};
 ghost use Rattle.site_program.specs.OneBuild.{OneBuild};
 ghost use Rattle.site_program.specs.Sessions.{SessionRun, EndsAt, GoesOn, EndsSession, bad_status};
@@ -76,9 +77,11 @@ pub fn run_jobs<
     ensures usage { (kind : UsageKind) → jobs_order words.now moment ≡ Err kind → WasUsage kind result }
     ensures usage_took { (kind : UsageKind) (before : List ℕ) → K.taken sink.old ≡ Some before → result ≡ Status.Usage kind →
         K.taken sink.new ≡ Some (before ++ usage_line kind) }
+    ensures usage_said { (kind : UsageKind) (before : List ℕ) → jobs_order words.now moment ≡ Err kind → K.taken sink.old ≡ Some before →
+        Said (usage_line kind) (Status.Usage kind) before (K.taken sink.new) result }
     ensures only_usage { (kind : UsageKind) → result ≡ Status.Usage kind → jobs_order words.now moment ≡ Err kind }
     ensures usage_untouched { (kind : UsageKind) → jobs_order words.now moment ≡ Err kind →
-        (source.new ≡ source.old) × (out.new ≡ out.old) × (input.new ≡ input.old) }
+        (source.new ≡ source.old) × (out.new ≡ out.old) × (input.new ≡ input.old) × (tally.new ≡ tally.old) }
 
     // A failure is answered only where that end failed in this call.
     ensures source_fault { result ≡ Status.SourceFault → Rose (S.failures source.old) (S.failures source.new) }

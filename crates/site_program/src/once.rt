@@ -7,7 +7,7 @@ ghost use Rattle.site_session.specs.Session.{start};
 ghost use Rattle.site_session.specs.Tallied.{effects};
 ghost use Rattle.site_words.specs.declared.faults.UsageKind.{UsageKind};
 ghost use Rattle.site_words.specs.declared.orders.Order.TheVariants as order;
-ghost use Rattle.site_program.specs.Checks.{OneCheck};
+ghost use Rattle.site_program.specs.Checks.{OneCheck, Said};
 ghost use Rattle.site_program.specs.Makes.{OneMake};
 ghost use Rattle.site_program.specs.Once.{once_order, Untouched, WasUsage};
 ghost use Rattle.site_program.specs.OneBuild.{OneBuild};
@@ -57,6 +57,8 @@ pub fn run_once<S: SourceTree, O: OutTree, K: ByteSink>(
     ensures usage { (kind : UsageKind) → once_order words.now moment ≡ Err kind → WasUsage kind result }
     ensures usage_took { (kind : UsageKind) (before : List ℕ) → K.taken sink.old ≡ Some before → result ≡ Status.Usage kind →
         K.taken sink.new ≡ Some (before ++ usage_line kind) }
+    ensures usage_said { (kind : UsageKind) (before : List ℕ) → once_order words.now moment ≡ Err kind → K.taken sink.old ≡ Some before →
+        Said (usage_line kind) (Status.Usage kind) before (K.taken sink.new) result }
     ensures only_usage { (kind : UsageKind) → result ≡ Status.Usage kind → once_order words.now moment ≡ Err kind }
     ensures usage_untouched { (kind : UsageKind) → once_order words.now moment ≡ Err kind → (source.new ≡ source.old) × (out.new ≡ out.old) }
     ensures untouched { Untouched result → out.new ≡ out.old }

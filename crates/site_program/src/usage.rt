@@ -4,6 +4,7 @@ ghost use Rattle.std.specs.String.{string_bytes};
 ghost use Rattle.site_base.specs.Ends.{Rose};
 ghost use Rattle.site_script.specs.Line.{is_moment};
 ghost use Rattle.site_words.specs.Words.{Answers};
+ghost use Rattle.site_program.specs.Checks.{Said};
 ghost use Rattle.site_program.specs.Usage.{knows, order_of, timed, usage_line};
 
 use crate::status::Status;
@@ -73,6 +74,7 @@ pub(crate) fn tell_usage<K: ByteSink>(alloc: Global, kind: UsageKind, sink: &mut
     ensures cases { (result ≡ Status.Usage kind) ⊎ ((result ≡ Status.SinkFault) ⊎ (result ≡ Status.Memory)) }
     ensures bytes { (before : List ℕ) → K.taken sink.old ≡ Some before → result ≡ Status.Usage kind →
         K.taken sink.new ≡ Some (before ++ usage_line kind) }
+    ensures took { (before : List ℕ) → K.taken sink.old ≡ Some before → Said (usage_line kind) (Status.Usage kind) before (K.taken sink.new) result }
     ensures sink_fault { result ≡ Status.SinkFault → Rose (K.failures sink.old) (K.failures sink.new) }
 {
     let Ok(text) = usage_text(alloc, kind) else {

@@ -63,6 +63,7 @@ module _ {D : Type 0} (adds : Adds) (contents : D → Option Files) (calls : D �
         steady = m.steady;
         same = stays;
         err = m.err;
+        short = m.short;
       }
 
   -- the held files have a fault
@@ -93,6 +94,7 @@ module _ {D : Type 0} (adds : Adds) (contents : D → Option Files) (calls : D �
         steady = λ report is. refl;
         same = stays;
         err = tt;
+        short = tt;
       }
 
   -- memory was wanting before the output was touched
@@ -111,6 +113,7 @@ module _ {D : Type 0} (adds : Adds) (contents : D → Option Files) (calls : D �
     steady = λ report is. absurd (cc (is));
     same = stays;
     err = refl;
+    short = refl;
   }
 
 pub rebuilds : {D : Type 0} (adds : Adds) (contents : D → Option Files) (calls : D → Option (List Call)) (failures : D → ℕ) (old new : Standing) (output : Result Output SiteError) (result : Result Rebuilt Memory) (before after : D) (tally tally' : List ItemName)
@@ -178,4 +181,5 @@ in_some_order contents calls failures old new result before after tally tally' r
   steady = r.steady;
   same = r.same;
   err = r.err;
+  short = r.short;
 }

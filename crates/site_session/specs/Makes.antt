@@ -29,6 +29,7 @@ pub record Makes {D : Type 0} (contents : D → Option Files) (calls : D → Opt
   pub steady : (report : Report) → result ≡ Ok (rebuilt.Built report) → failures after ≡ failures before
   pub called : (first : Files) → Holds (contents before) was first → Called was first output.written result (calls before) (calls after)
   pub err : OnErr result (contents after ≡ contents before)
+  pub short : OnErr result (failures after ≡ failures before)
 
 -- no answer but want of memory
 abbrev pub IsShort : Result Rebuilt Memory → Type 0

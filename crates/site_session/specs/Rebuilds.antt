@@ -39,3 +39,5 @@ pub record Rebuilds {D : Type 0} (adds : Adds) (contents : D → Option Files) (
   pub steady : (report : Report) → result ≡ Ok (rebuilt.Built report) → failures after ≡ failures before
   pub same : (new.files ≡ old.files) × (new.moment ≡ old.moment) × (new.settings ≡ old.settings)
   pub err : OnErr result (contents after ≡ contents before)
+  -- want of memory is not told in the place of a failure
+  pub short : OnErr result (failures after ≡ failures before)

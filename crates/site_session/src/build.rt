@@ -82,6 +82,7 @@ fn make<O: OutTree>(
     ensures called { (first : Files) → Holds (O.contents out.old) keeper.old first →
         Called keeper.old first output.written result (O.calls out.old) (O.calls out.new) }
     ensures err { OnErr result (O.contents out.new ≡ O.contents out.old) }
+    ensures short { OnErr result (O.failures out.new ≡ O.failures out.old) }
 {
     match keeper.list_once(alloc, out) {
         Ok(()) => make_listed(keeper, alloc, output, out),

@@ -228,6 +228,8 @@ impl Session {
         ensures kept { OnErr result ((self.new.files ≡ self.old.files) × (self.new.moment ≡ self.old.moment) × (self.new.settings ≡ self.old.settings)) }
         ensures leaves { (first : Files) → Holds (O.contents out.old) self.old.belief first →
             IfOk result (λ reply. LeavesBy self.old reply (O.contents out.old) (O.contents out.new) self.new.belief) }
+        // Want of memory is not told in the place of a failure.
+        ensures short { OnErr result ((S.failures source.new ≡ S.failures source.old) × (O.failures out.new ≡ O.failures out.old)) }
         // Where no build was tried, the output is the same value as before.
         ensures untouched { IfOk result (λ reply. has_called_output reply ≡ false → out.new ≡ out.old) }
         ensures source_same { S.files source.new ≡ S.files source.old }
@@ -266,6 +268,7 @@ impl Session {
         ensures later { S.failures source.old ≤ S.failures source.new }
         ensures cause { IfOk result (λ reply. min (S.failures source.old + source_failures reply) (2 ^ 64 - 1) ≤ S.failures source.new) }
         ensures err { OnErr result (self.new ≡ self.old) }
+        ensures short { OnErr result (S.failures source.new ≡ S.failures source.old) }
         ensures quiet { IfOk result (λ reply. IsQuiet reply) }
     {
         match self.scan(alloc, source) {
@@ -322,6 +325,7 @@ impl Session {
         ensures later { O.failures out.old ≤ O.failures out.new }
         ensures cause { IfOk result (λ reply. min (O.failures out.old + output_failures reply) (2 ^ 64 - 1) ≤ O.failures out.new) }
         ensures quiet { IfOk result (λ reply. source_failures reply ≡ 0) }
+        ensures short { OnErr result (O.failures out.new ≡ O.failures out.old) }
         ensures tallied { OnOk result (in_any_order (names_now self.old) (names_past_now self.old) tally.old tally.new) }
     {
         match self.rebuild_by(alloc, out, crew, tally) {

@@ -19,4 +19,5 @@ returns-in-Ok g c =
       steady = made.steady;
       called = made.called;
       err = made.err;
+      short = made.short;
     })
