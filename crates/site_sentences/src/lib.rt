@@ -1,12 +1,15 @@
-//! What sitebuild says to a person: a sentence for each thing that can be wrong, and the line that tells it.
+//! What sitebuild says to a person: a sentence for each thing that can be wrong, the line that tells it, and the answers
+//! to what people ask a program first.
 #![tactic(auto)]
 
 mod failure;
 mod lines;
+mod questions;
 mod sentences;
 
 pub use failure::Failure;
 pub use lines::{failure_line, fault_line, script_line, usage_lines};
+pub use questions::{Question, answer, asked};
 pub use sentences::{
     failure_sentence, fault_sentence, script_sentence, usage_sentence, yaml_sentence,
 };

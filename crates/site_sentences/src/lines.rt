@@ -10,8 +10,8 @@ use site_script::ScriptKind;
 use site_words::UsageKind;
 use std::alloc::{AllocError, Global};
 
-// What stands behind the line for a command line that is wrong.
-const COMMANDS: &str =
+// The commands, as a person is told them.
+pub(crate) const COMMANDS: &str =
     "  sitebuild once    [--drafts] [--future]                     builds the site of this folder into _site
   sitebuild check   [--drafts] [--future]                     tells its first fault, and writes nothing
   sitebuild build   [--drafts] [--future] [--jobs N] [--why]  as once; N is from 1 to 64, --why tells why a page was made

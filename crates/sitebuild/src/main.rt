@@ -22,7 +22,7 @@ const NO_MOMENT: i64 = -1;
 fn main(rt: HostRuntime) -> ExitCode {
     let words = match words(&rt) {
         Ok(words) => words,
-        Err(status) => return end(&rt, status),
+        Err(status) => return end(&rt, &Words::new(rt.alloc()), status),
     };
     let mut source = DiskSource::new(rt);
     let mut out = DiskOut::new(rt);
@@ -52,7 +52,8 @@ fn main(rt: HostRuntime) -> ExitCode {
             &mut sink,
         )
     };
-    end(&rt, in_file(rt.alloc(), &mut source, status))
+    let status = in_file(rt.alloc(), &mut source, status);
+    end(&rt, &words, status)
 }
 
 // The words of the command line, without the program's name. Where they are no text, they have no kind of their own.

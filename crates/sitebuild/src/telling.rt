@@ -1,21 +1,24 @@
 // What is said to a person.
 ghost use Rattle.std.specs.Prelude.{◌≡◌, IfOk};
 ghost use Rattle.std.specs.String.{string_bytes};
-ghost use Rattle.sitebuild.specs.Telling.{StatusSays, output_failure};
+ghost use Rattle.site_sentences.specs.Questions.{asked};
+ghost use Rattle.sitebuild.specs.Telling.{StatusSays, WordsSay, output_failure};
 
 use front_yaml::{Front, split_front};
-use site_base::{FaultKind, SiteFault};
+use site_base::{FaultKind, SiteFault, Words};
 use site_program::Status;
 use site_sentences::{
-    Failure, failure_line, failure_sentence, fault_line, script_line, usage_lines,
+    Failure, answer, asked, failure_line, failure_sentence, fault_line, script_line, usage_lines,
 };
+use site_words::UsageKind;
 use source_tree::{DiskSource, SourceTree};
 use std::alloc::{AllocError, Global};
 use std::process::ExitCode;
 
-/// The exit code of a run. Standard error is told how it ended, unless it was done; nothing comes of it where standard error fails.
-pub(crate) fn end(rt: &HostRuntime, status: Status) -> ExitCode {
-    let _ = match status_text(rt.alloc(), &status) {
+/// The exit code of a run with these words. Standard error is told how it ended, unless it was done, or answers what the words ask; nothing comes of it where
+/// standard error fails.
+pub(crate) fn end(rt: &HostRuntime, words: &Words, status: Status) -> ExitCode {
+    let _ = match status_text(rt.alloc(), words, &status) {
         Ok(text) => rt.eprint(text),
         Err(_) => rt.eprintln(failure_sentence(Failure::Memory)),
     };
@@ -67,19 +70,29 @@ fn line_ends(text: &[u8]) -> u64 {
 }
 
 // What is said of a status: nothing where all is done.
-fn status_text(alloc: Global, status: &Status) -> Result<String, AllocError>
-    ensures { IfOk result (λ text. StatusSays status.now (string_bytes text)) }
+fn status_text(alloc: Global, words: &Words, status: &Status) -> Result<String, AllocError>
+    ensures { IfOk result (λ text. StatusSays words.now status.now (string_bytes text)) }
 {
     match status {
         Status::Done => Ok(String::new(alloc)),
         Status::Site(fault) => fault_line(alloc, fault),
-        Status::Usage(kind) => usage_lines(alloc, *kind),
+        Status::Usage(kind) => usage_text(alloc, words, *kind),
         Status::SourceFault => failure_line(alloc, Failure::Source),
         Status::OutFault(count) => failure_line(alloc, output_failure(*count)),
         Status::InputFault => failure_line(alloc, Failure::Input),
         Status::SinkFault => failure_line(alloc, Failure::Sink),
         Status::Script(number, kind) => script_line(alloc, *number, *kind),
         Status::Memory => failure_line(alloc, Failure::Memory),
+    }
+}
+
+// What is said of words that give no command: the answer, where they ask something, and else what is wrong with them.
+fn usage_text(alloc: Global, words: &Words, kind: UsageKind) -> Result<String, AllocError>
+    ensures { IfOk result (λ text. WordsSay (asked words.now) kind (string_bytes text)) }
+{
+    match asked(words) {
+        Some(question) => answer(alloc, question),
+        None => usage_lines(alloc, kind),
     }
 }
 
