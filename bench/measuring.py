@@ -1,5 +1,6 @@
-"""What the benchmarks share: runs of a program on a text or in a folder, and repeated texts."""
+"""What the benchmarks share: the program, runs of a program on a text or in a folder, and repeated texts."""
 import os
+import subprocess
 import sys
 import time
 
@@ -7,6 +8,14 @@ ROOT = os.path.dirname(os.path.dirname(os.path.abspath(__file__)))
 PROGRAM = os.path.join(ROOT, "crates/site_bench/out/site_bench")
 KIB = 1024
 MIB = 1024 * KIB
+
+
+def sitebuild_program(words):
+    """The program that the words of a command line begin with, or the one that .ci/program prints."""
+    if words:
+        return os.path.abspath(words[0])
+    printed = subprocess.run(["bash", os.path.join(ROOT, ".ci/program")], stdout=subprocess.PIPE, text=True)
+    return printed.stdout.strip() or sys.exit(1)
 
 
 def measure(command, path, made=os.devnull):
