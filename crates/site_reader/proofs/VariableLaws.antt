@@ -195,7 +195,7 @@ module _ (config : Config) (now : ℤ) (future : Bool) (k : Kind) (path : List �
   in_text : (scopes : List Scope) (s : List ℕ) → Makes (of.text_item config scopes now future k path s) → IsKnown config (group_of config k) path made
   in_text scopes s e =
       let own = found_before (matter.own_variables s) _ (Some made) e in
-      let vars = variables scopes path (of.type_name config k) own.0 in
+      let vars = variables config scopes k path own.0 in
       let told = found_before (of.is_published (variable (codes "published") vars)) (of.published_item config now future k path vars (matter.body s)) (Some made) own.2 in
       published vars (matter.body s) told.0 told.2
 
