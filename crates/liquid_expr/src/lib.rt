@@ -20,7 +20,7 @@ mod tokens;
 
 pub use cutting::{CutError, Cutter, Next, Pieces, cut, cut_up};
 pub use naming::{
-    TagText, inside, read_include, read_language, read_name_parts, read_path, tag_text,
+    TagText, inside, read_include, read_language, read_name_parts, read_path, tag_text, trimmed,
 };
 pub use reads::{
     read_assign, read_condition, read_cycle, read_expr, read_loop, read_name, read_nothing,

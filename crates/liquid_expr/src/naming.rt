@@ -106,8 +106,8 @@ fn stripped_front<'a>(text: &'a str) -> &'a str
     &text[white_len(text.as_bytes())..]
 }
 
-// A text without the white space at its ends.
-fn trimmed<'a>(text: &'a str) -> &'a str
+/// A text without the white space at its ends.
+pub fn trimmed<'a>(text: &'a str) -> &'a str
     ensures { result.now ≡ trimmed text.now }
 {
     let behind = stripped_front(text);

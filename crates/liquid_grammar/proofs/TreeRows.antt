@@ -135,7 +135,7 @@ else_of_row : tree (codes "{% tablerow x in a %}{% else %}{% endtablerow %}") �
 unfolding cut_from down tokens_after many_after operand operand_in expression test_at condition assignment cycle loop_at name_len tag_item tag_words
 else_of_row = refl
 
-cycles : tree (codes "{% cycle g: 1, 2 %}{% cycle 1 %}") ≡ Ok (leaf 1 (leaves.Cycle (codes " cycle g: 1, 2 ") (record { group = Some (v (codes "g")); values = int 1 ∷ int 2 ∷ [] })) (leaf 1 (leaves.Cycle (codes " cycle 1 ") (record { group = None; values = int 1 ∷ [] })) done))
+cycles : tree (codes "{% cycle g: 1, 2 %}{% cycle 1 %}") ≡ Ok (leaf 1 (leaves.Cycle (codes "g: 1, 2") (record { group = Some (v (codes "g")); values = int 1 ∷ int 2 ∷ [] })) (leaf 1 (leaves.Cycle (codes "1") (record { group = None; values = int 1 ∷ [] })) done))
 unfolding cut_from down tokens_after many_after operand operand_in expression test_at condition assignment cycle loop_at name_len tag_item tag_words
 cycles = refl
 

@@ -28,7 +28,7 @@ use Rattle.liquid_grammar.specs.Pieces.{after_white}
 use Rattle.site_text.specs.Bytes.{is_name_byte, is_name_start}
 use Rattle.liquid_grammar.specs.Expressions.{read_expression}
 use Rattle.liquid_grammar.specs.Conditions.{read_condition}
-use Rattle.liquid_grammar.specs.Tags.{read_nothing, read_name, read_assign, read_values, read_cycle, read_loop, read_include, read_path, read_language, inside}
+use Rattle.liquid_grammar.specs.Tags.{read_nothing, read_name, read_assign, read_values, read_cycle, read_loop, read_include, read_path, read_language, trimmed, inside}
 
 -- ---- Faults
 
@@ -107,25 +107,25 @@ turning Else rest = made (λ _. item.Turns Otherwise) (read_nothing rest)
 turning ElsIf rest = made (λ c. item.Turns (Test c)) (read_condition rest)
 turning When rest = made (λ vs. item.Turns (part.When vs)) (read_values rest)
 
--- a cycle has the text of its whole tag, too
-abbrev pub leaf_tag : LeafName → List ℕ → List ℕ → Result Item FaultKind
-leaf_tag leaf_name.Assign text rest = made (λ a. item.Leaf (leaf.Assign a)) (read_assign rest)
-leaf_tag leaf_name.Cycle text rest = made (λ c. item.Leaf (leaf.Cycle text c)) (read_cycle rest)
-leaf_tag leaf_name.Increment text rest = made (λ x. item.Leaf (leaf.Increment x)) (read_name rest)
-leaf_tag leaf_name.Decrement text rest = made (λ x. item.Leaf (leaf.Decrement x)) (read_name rest)
-leaf_tag leaf_name.Break text rest = made (λ _. item.Leaf leaf.Break) (read_nothing rest)
-leaf_tag leaf_name.Continue text rest = made (λ _. item.Leaf leaf.Continue) (read_nothing rest)
-leaf_tag leaf_name.Include text rest = made (λ i. item.Leaf (leaf.Include i)) (read_include rest)
-leaf_tag leaf_name.IncludeRelative text rest = made (λ i. item.Leaf (leaf.IncludeRelative i)) (read_include rest)
-leaf_tag leaf_name.Link text rest = made (λ p. item.Leaf (leaf.Link p)) (read_path rest)
-leaf_tag leaf_name.PostUrl text rest = made (λ p. item.Leaf (leaf.PostUrl p)) (read_path rest)
+-- a cycle has the text behind its word, too, without the white space at its ends
+abbrev pub leaf_tag : LeafName → List ℕ → Result Item FaultKind
+leaf_tag leaf_name.Assign rest = made (λ a. item.Leaf (leaf.Assign a)) (read_assign rest)
+leaf_tag leaf_name.Cycle rest = made (λ c. item.Leaf (leaf.Cycle (trimmed rest) c)) (read_cycle rest)
+leaf_tag leaf_name.Increment rest = made (λ x. item.Leaf (leaf.Increment x)) (read_name rest)
+leaf_tag leaf_name.Decrement rest = made (λ x. item.Leaf (leaf.Decrement x)) (read_name rest)
+leaf_tag leaf_name.Break rest = made (λ _. item.Leaf leaf.Break) (read_nothing rest)
+leaf_tag leaf_name.Continue rest = made (λ _. item.Leaf leaf.Continue) (read_nothing rest)
+leaf_tag leaf_name.Include rest = made (λ i. item.Leaf (leaf.Include i)) (read_include rest)
+leaf_tag leaf_name.IncludeRelative rest = made (λ i. item.Leaf (leaf.IncludeRelative i)) (read_include rest)
+leaf_tag leaf_name.Link rest = made (λ p. item.Leaf (leaf.Link p)) (read_path rest)
+leaf_tag leaf_name.PostUrl rest = made (λ p. item.Leaf (leaf.PostUrl p)) (read_path rest)
 
-abbrev pub said : Option TagKind → List ℕ → List ℕ → Result Item FaultKind
-said (Some (Opens b)) text rest = opening b rest
-said (Some (Ends b)) text rest = made (λ _. item.Ends b) (read_nothing rest)
-said (Some (Turns p)) text rest = turning p rest
-said (Some (Leaf l)) text rest = leaf_tag l text rest
-said None text rest = Err UnknownTag
+abbrev pub said : Option TagKind → List ℕ → Result Item FaultKind
+said (Some (Opens b)) rest = opening b rest
+said (Some (Ends b)) rest = made (λ _. item.Ends b) (read_nothing rest)
+said (Some (Turns p)) rest = turning p rest
+said (Some (Leaf l)) rest = leaf_tag l rest
+said None rest = Err UnknownTag
 
 -- how many bytes at the front are a name
 abbrev pub tag_name_len : List ℕ → ℕ
@@ -133,8 +133,8 @@ tag_name_len [] = 0
 tag_name_len (c ∷ cs) = if is_name_start c then prefix_len is_name_byte (c ∷ cs) else 0
 
 -- a tag without a name is none
-abbrev pub tag_with : List ℕ → List ℕ → List ℕ → Result Item FaultKind
-tag_with text name rest = if length name == 0 then Err LiquidSyntax else said (kind_in tag_words name) text rest
+abbrev pub tag_with : List ℕ → List ℕ → Result Item FaultKind
+tag_with name rest = if length name == 0 then Err LiquidSyntax else said (kind_in tag_words name) rest
 
 abbrev pub tag_name : List ℕ → List ℕ
 tag_name text = let behind = after_white text in take (tag_name_len behind) behind
@@ -144,7 +144,7 @@ tag_rest text = let behind = after_white text in drop (tag_name_len behind) behi
 
 -- what stands between the marks of a tag
 unfoldable pub tag_item : List ℕ → Result Item FaultKind
-tag_item text = tag_with text (tag_name text) (tag_rest text)
+tag_item text = tag_with (tag_name text) (tag_rest text)
 
 -- ---- What pieces say
 

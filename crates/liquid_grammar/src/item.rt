@@ -8,7 +8,7 @@ pub enum Leaf {
     Text(Text),
     Output(Boxed<Expr>),
     Assign(Boxed<Assign>),
-    /// The text of the tag, and what it says.
+    /// The text behind the tag's word, without the white space at its ends, and what it says.
     Cycle(Boxed<Text>, Boxed<Cycle>),
     Increment(Text),
     Decrement(Text),

@@ -9,7 +9,7 @@ use crate::error::ItemError;
 use crate::tags::tag_kind;
 use liquid_expr::{
     read_assign, read_condition, read_cycle, read_expr, read_include, read_language, read_loop,
-    read_name, read_nothing, read_path, read_values, tag_text,
+    read_name, read_nothing, read_path, read_values, tag_text, trimmed,
 };
 use liquid_grammar::{
     Block, BlockName, Item, Leaf, LeafName, LoopKind, Part, PartName, PieceKind, TagKind,
@@ -79,15 +79,15 @@ fn turning(alloc: Global, part: PartName, rest: &str) -> Result<Item, ItemError>
 }
 
 // A tag that holds nothing else.
-fn leaf_tag(alloc: Global, leaf: LeafName, text: &str, rest: &str) -> Result<Item, ItemError>
-    ensures { GivesItem result (leaf_tag leaf text.now rest.now) }
+fn leaf_tag(alloc: Global, leaf: LeafName, rest: &str) -> Result<Item, ItemError>
+    ensures { GivesItem result (leaf_tag leaf rest.now) }
 {
     match leaf {
         LeafName::Assign => Ok(Item::Leaf(Leaf::Assign(Boxed::new(
             alloc,
             read_assign(alloc, rest)?,
         )?))),
-        LeafName::Cycle => cycle_tag(alloc, text, rest),
+        LeafName::Cycle => cycle_tag(alloc, rest),
         LeafName::Increment => Ok(Item::Leaf(Leaf::Increment(read_name(alloc, rest)?))),
         LeafName::Decrement => Ok(Item::Leaf(Leaf::Decrement(read_name(alloc, rest)?))),
         LeafName::Break => {
@@ -111,17 +111,18 @@ fn leaf_tag(alloc: Global, leaf: LeafName, text: &str, rest: &str) -> Result<Ite
     }
 }
 
-fn cycle_tag(alloc: Global, text: &str, rest: &str) -> Result<Item, ItemError>
-    ensures { GivesItem result (leaf_tag leaf_name.Cycle text.now rest.now) }
+// A cycle, with the text that names its group where it names none.
+fn cycle_tag(alloc: Global, rest: &str) -> Result<Item, ItemError>
+    ensures { GivesItem result (leaf_tag leaf_name.Cycle rest.now) }
 {
     let cycle = Boxed::new(alloc, read_cycle(alloc, rest)?)?;
-    let text = Boxed::new(alloc, Text::copy(alloc, text)?)?;
+    let text = Boxed::new(alloc, Text::copy(alloc, trimmed(rest))?)?;
     Ok(Item::Leaf(Leaf::Cycle(text, cycle)))
 }
 
 // What a tag says that is known.
-fn said(alloc: Global, kind: TagKind, text: &str, rest: &str) -> Result<Item, ItemError>
-    ensures { GivesItem result (said (Some kind) text.now rest.now) }
+fn said(alloc: Global, kind: TagKind, rest: &str) -> Result<Item, ItemError>
+    ensures { GivesItem result (said (Some kind) rest.now) }
 {
     match kind {
         TagKind::Opens(block) => opening(alloc, block, rest),
@@ -130,7 +131,7 @@ fn said(alloc: Global, kind: TagKind, text: &str, rest: &str) -> Result<Item, It
             Ok(Item::Ends(block))
         }
         TagKind::Turns(part) => turning(alloc, part, rest),
-        TagKind::Leaf(leaf) => leaf_tag(alloc, leaf, text, rest),
+        TagKind::Leaf(leaf) => leaf_tag(alloc, leaf, rest),
     }
 }
 
@@ -144,7 +145,7 @@ fn tag_item(alloc: Global, text: &str) -> Result<Item, ItemError>
         return Err(ItemError::Fault(FaultKind::LiquidSyntax));
     }
     match tag_kind(tag.name) {
-        Some(kind) => said(alloc, kind, text, tag.rest),
+        Some(kind) => said(alloc, kind, tag.rest),
         None => Err(ItemError::Fault(FaultKind::UnknownTag)),
     }
 }

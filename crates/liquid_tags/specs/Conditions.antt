@@ -32,7 +32,7 @@ use Rattle.liquid_values.specs.Places.{Place, found_at}
 use Rattle.liquid_values.specs.Names.{Excerpting}
 use Rattle.liquid_values.specs.Operands.{operand}
 
--- ---- `== empty` and `== blank`
+-- ---- `empty` and `blank` on the right of `==`, `!=` and `<>`
 
 abbrev pub is_empty : Plain → Bool
 is_empty (text t) = length t == 0
@@ -109,7 +109,7 @@ contains v w = is_true v && is_true w && holds v w
 
 abbrev pub compare : Comparison → Right → Plain → Plain → Result Bool FaultKind
 compare Equal r v w = Ok (equals_right r v w)
-compare Unequal r v w = Ok (not (same_value v w))
+compare Unequal r v w = Ok (not (equals_right r v w))
 compare Less r v w = ordered Less v w
 compare Greater r v w = ordered Greater v w
 compare AtMost r v w = ordered AtMost v w

@@ -66,7 +66,7 @@ module _ (excerpts : Excerpting) where
   abbrev pub operand_text : Place → Pairs → operands.Operand → Query SiteFault (List ℕ)
   operand_text p vars e = bind (operand excerpts p vars e) (λ v. Give (value_text v))
 
-  -- what names the group: the text of its operand, or the text of the tag
+  -- what names the group: the text of its operand, or what stands in the tag
   abbrev pub group_name : Place → Pairs → Option operands.Operand → List ℕ → Query SiteFault (List ℕ)
   group_name p vars (Some e) tag = operand_text p vars e
   group_name p vars None tag = Give tag

@@ -155,7 +155,7 @@ fn compare(
 {
     match how {
         Comparison::Equal => Ok(Ok(equals_right(right, value, other))),
-        Comparison::Unequal => Ok(Ok(!is_same(value, other))),
+        Comparison::Unequal => Ok(Ok(!equals_right(right, value, other))),
         Comparison::Less => Ok(ordered(how, value, other)),
         Comparison::Greater => Ok(ordered(how, value, other)),
         Comparison::AtMost => Ok(ordered(how, value, other)),

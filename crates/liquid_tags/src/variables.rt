@@ -110,7 +110,7 @@ pub fn decrement<'a>(
     state.write_value(alloc, place, &Value::Int(next))
 }
 
-/// `cycle`: prints the next value of its group, which alone is evaluated. `text` is the text of the tag, by which a group without a
+/// `cycle`: prints the next value of its group, which alone is evaluated. `text` is what stands in the tag, by which a group without a
 /// name of its own is called.
 #[tactic(auto, using(read_record::proofs::CallLaws::binds))]
 pub fn cycle<'a, X: Excerpts, L: Look>(

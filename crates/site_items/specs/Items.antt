@@ -24,12 +24,6 @@ use Rattle.site_items.specs.declared.item.Item.{Item}
 use Rattle.site_items.specs.declared.kind.Kind.{Kind}
 use Rattle.site_items.specs.declared.kind.Kind.TheVariants as kind
 
--- the type by which a scope of `defaults` names an item
-abbrev pub type_name : Config → Kind → List ℕ
-type_name config kind.Page = codes "pages"
-type_name config kind.Draft = codes "drafts"
-type_name config k = name_of (collection_of config k)
-
 -- ---- whether it is built
 
 abbrev pub is_draft : Kind → Bool
@@ -120,6 +114,10 @@ placed path address vars =
     set (codes "ext") (text (extension (file_name path))) (set (codes "url") (text address)
     (set (codes "relative_path") (text path) (set (codes "path") (text path) vars)))
 
+-- what tells the address of a page, over what tells another
+abbrev pub addressed : List ℕ → Pairs → Pairs
+addressed address vars = set (codes "dir") (text (folder_of address)) (set (codes "url") (text address) vars)
+
 abbrev pub page_variables : List ℕ → List ℕ → Pairs → Pairs
 page_variables path address vars = set (codes "dir") (text (folder_of address)) (set (codes "name") (text (file_name path)) vars)
 
@@ -179,7 +177,7 @@ item_with config now future k path text_body vars =
 
 abbrev pub text_item : Config → List Scope → ℤ → Bool → Kind → List ℕ → List ℕ → Outcome (Option Item)
 text_item config ordered now future k path s =
-    own_variables s >>= λ own. item_with config now future k path (body s) (variables ordered path (type_name config k) own)
+    own_variables s >>= λ own. item_with config now future k path (body s) (variables config ordered k path own)
 
 -- the item that a file is
 abbrev pub item : Config → List Scope → ℤ → Bool → Kind → List ℕ → List ℕ → Outcome (Option Item)

@@ -1,10 +1,11 @@
 // Values that a configuration gives to items.
 ghost use Rattle.std.specs.Prelude.{◌≡◌, ◌≤◌, IfOk, OnOk, length, map};
 ghost use Rattle.std.specs.List.{position_or_len};
-ghost use Rattle.site_items.specs.Defaults.{by_strength, fits, is_for_path, is_for_type, is_stronger, set_all, strength, variables};
+ghost use Rattle.site_items.specs.Defaults.{by_strength, fits, is_for_kind, is_for_path, is_stronger, set_all, strength, variables};
 
+use crate::kind::Kind;
 use site_base::{Hash, Memory, copy};
-use site_config::Scope;
+use site_config::{Config, Scope};
 use site_files::{covers, without_slash};
 use std::alloc::Global;
 
@@ -41,20 +42,20 @@ fn strength(scope: &Scope) -> u128
     2 * path + u128::from(scope.kind.is_some())
 }
 
-/// The variables of an item at a path and of a type: its own, and below them what the scopes that fit give it, in their
-/// order.
+/// The variables of an item of a kind at a path: its own, and below them what the scopes that fit give it, in their order.
 pub fn variables(
     alloc: Global,
+    config: &Config,
     ordered: &[&Scope],
+    kind: Kind,
     path: &str,
-    type_name: &str,
     own: &Hash,
 ) -> Result<Hash, Memory>
-    ensures { IfOk result (λ made. made ≡ variables (map (λ s. s.now) ordered.now) path.now type_name.now own.now) }
+    ensures { IfOk result (λ made. made ≡ variables config.now (map (λ s. s.now) ordered.now) kind path.now own.now) }
 {
     let mut made = Hash::new(alloc);
     for scope in ordered {
-        if fits(scope, path, type_name) {
+        if fits(config, scope, kind, path) {
             set_shares(alloc, &mut made, &scope.values)?;
         }
     }
@@ -71,10 +72,10 @@ fn set_shares(alloc: Global, under: &mut Hash, values: &Hash) -> Result<(), Memo
     Ok(())
 }
 
-fn fits(scope: &Scope, path: &str, type_name: &str) -> bool
-    ensures { result ≡ fits path.now type_name.now scope.now }
+fn fits(config: &Config, scope: &Scope, kind: Kind, path: &str) -> bool
+    ensures { result ≡ fits config.now kind path.now scope.now }
 {
-    is_for_path(scope, path) && is_for_type(scope, type_name)
+    is_for_path(scope, path) && is_for_kind(config, scope, kind)
 }
 
 fn is_for_path(scope: &Scope, path: &str) -> bool
@@ -84,11 +85,11 @@ fn is_for_path(scope: &Scope, path: &str) -> bool
     place.is_empty() || covers(path.as_bytes(), place)
 }
 
-fn is_for_type(scope: &Scope, type_name: &str) -> bool
-    ensures { result ≡ is_for_type type_name.now scope.now.kind }
+fn is_for_kind(config: &Config, scope: &Scope, kind: Kind) -> bool
+    ensures { result ≡ is_for_kind config.now kind scope.now.kind }
 {
     match &scope.kind {
-        Some(wanted) => type_name == wanted.as_str(),
+        Some(type_name) => kind.has_type(config, type_name.as_str()),
         None => true,
     }
 }

@@ -95,9 +95,10 @@ fn text_item(
     let own = own_variables(alloc, content, text)?;
     let vars = variables(
         alloc,
+        rules.config,
         rules.scopes,
+        kind,
         path.text(),
-        kind.type_name(rules.config),
         &own,
     )?;
     let body = body(alloc, content, text)?;

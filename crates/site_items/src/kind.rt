@@ -2,7 +2,8 @@
 ghost use Rattle.std.specs.Prelude.{◌≡◌};
 ghost use Rattle.std.specs.Option.{option_copied};
 ghost use Rattle.site_items.specs.Addresses.{collection_of, has_output, is_page, is_post, name_of};
-ghost use Rattle.site_items.specs.Items.{is_draft, type_name};
+ghost use Rattle.site_items.specs.Defaults.{has_type};
+ghost use Rattle.site_items.specs.Items.{is_draft};
 
 use site_config::{Collection, Config};
 
@@ -58,14 +59,14 @@ impl Kind {
         }
     }
 
-    /// The type by which a scope of `defaults` names such an item.
-    pub(crate) fn type_name(self, config: &Config) -> &str
-        ensures { result.now ≡ type_name config.now self }
+    /// Whether a scope of `defaults` names such an item by this type. A draft is one of the posts, too.
+    pub(crate) fn has_type(self, config: &Config, type_name: &str) -> bool
+        ensures { result ≡ has_type config.now self type_name.now }
     {
         match self {
-            Kind::Page => "pages",
-            Kind::Draft => "drafts",
-            _ => self.collection_name(config),
+            Kind::Page => type_name == "pages",
+            Kind::Draft => type_name == "drafts" || type_name == self.collection_name(config),
+            _ => type_name == self.collection_name(config),
         }
     }
 

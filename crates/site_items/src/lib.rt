@@ -35,5 +35,6 @@ pub use item_error::{ItemError, LineFault};
 pub use kind::Kind;
 pub use layout_file::LayoutFile;
 pub use lookup::variable;
+pub use placed_variables::set_address;
 pub use static_file::StaticFile;
 pub use titles::title;

@@ -4,7 +4,7 @@ ghost use Rattle.site_base.specs.Plain.{set, text};
 ghost use Rattle.site_base.specs.View.{plain};
 ghost use Rattle.site_dates.specs.Moment.{IsMoment};
 ghost use Rattle.site_dates.specs.Offset.{IsOffset};
-ghost use Rattle.site_items.specs.Items.{document_variables, folder_of, has_end, id_of, page_variables, placed, without_end};
+ghost use Rattle.site_items.specs.Items.{addressed, document_variables, folder_of, has_end, id_of, page_variables, placed, without_end};
 ghost use Rattle.site_items.specs.Seeking.{all_variables};
 
 use crate::addresses::Sought;
@@ -58,6 +58,14 @@ fn set_page_variables(alloc: Global, vars: &mut Hash, path: &str, url: &str) -> 
 {
     set_text(alloc, vars, "name", file_name(path))?;
     set_text(alloc, vars, "dir", folder_of(url))
+}
+
+/// Sets the variables that tell the address of a page, over those that tell another.
+pub fn set_address(alloc: Global, vars: &mut Hash, url: &Text) -> Result<(), Memory>
+    ensures { OnOk result (vars.new ≡ addressed url.now vars.old) }
+{
+    set(alloc, vars, "url", Value::Text(url.share(alloc)?))?;
+    set_text(alloc, vars, "dir", folder_of(url.as_str()))
 }
 
 fn set_document_variables(

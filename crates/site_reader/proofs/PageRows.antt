@@ -73,7 +73,7 @@ second = record {
   name = record { path = codes "index.html"; part = 2 };
   group = 2;
   body = codes "x";
-  vars = value.Hash (pair (codes "url") (text (codes "/")) no_pairs);
+  vars = value.Hash (pair (codes "url") (text (codes "/page2/")) (pair (codes "dir") (text (codes "/page2/")) no_pairs));
   url = codes "/page2/";
   dest = Some (codes "page2/index.html");
   paginator = value.Hash

@@ -1,17 +1,22 @@
 -- What is said of the items of a site holds of them with their pages too.
 use Rattle.std.proofs.Common.{◌≡◌, ◌≢◌, ℕ, zero, suc, ◌+◌, ◌-◌, ◌*◌, ◌<◌, ◌≤◌, nat_lt, nat_le, Bool, true, false, if◌then◌else◌, List, [], ◌∷◌, ◌++◌, codes, length, length-append, map, take, drop, slice_set, Option, Some, None, Ok, inl, inr, ◌⊎◌, arith, refl, sym, ap, subst, ◌∙◌}
 use Rattle.std.specs.List.{AllByRecursion}
+use Rattle.std.specs.Option.{unwrap_or}
 use Rattle.std.specs.Prelude.{pos}
+use Rattle.std.specs.Str.{bytes_eq}
 use Rattle.std.proofs.lemmas.List.{length-set}
-use Rattle.site_base.specs.Plain.{Plain, hash, int}
+use Rattle.site_base.specs.Plain.{Pairs, Plain, hash, int, nil, set, text}
+use Rattle.site_base.specs.View.{plain}
 use Rattle.site_base.specs.declared.item_name.ItemName.{ItemName}
+use Rattle.site_base.specs.declared.value.Value.{Value}
+use Rattle.site_base.specs.declared.value.Value.TheVariants as value
 use Rattle.site_config.specs.Config.{count_of}
 use Rattle.site_config.specs.Forms.{setting}
 use Rattle.site_config.specs.declared.config.Config.{Config}
 use Rattle.site_files.specs.Names.{file_name, stem}
-use Rattle.site_items.specs.Items.{kind_named, kind_variables, placed}
+use Rattle.site_items.specs.Items.{addressed, folder_of, kind_named, kind_variables, placed}
 use Rattle.site_items.specs.declared.kind.Kind.{Kind}
-use Rattle.site_reader.specs.Lawful.{HasVariables, KnowsItself, page_of, part_group}
+use Rattle.site_reader.specs.Lawful.{HasVariables, KnowsItself, page_of, part_group, part_variables}
 use Rattle.site_reader.specs.Neighbours.{between}
 use Rattle.site_reader.specs.Paginating as paged
 use Rattle.site_reader.specs.Ranks.{group_of}
@@ -20,7 +25,7 @@ use Rattle.site_reader.specs.declared.site_item.SiteItem.{SiteItem}
 use Rattle.site_reader.proofs.Differing.{Distinct}
 use Rattle.site_reader.proofs.EachLaws.{mapped_one}
 use Rattle.site_reader.proofs.PageLaws.{IsSpread, all_get, all_pushed, all_set, map_set, page_is, pages_few, pages_keep, paginated_is, posts_few, template_group}
-use Rattle.site_reader.proofs.VariableLaws.{AreOwn, Has}
+use Rattle.site_reader.proofs.VariableLaws.{AreOwn, Has, other_set, same_set}
 
 -- ---- names
 
@@ -60,6 +65,27 @@ page_itself : (number : ℕ) → 1 ≤ number → page_of number ≡ number
 page_itself zero least = absurd (omega (arith, least))
 page_itself (suc part) least = refl
 
+variables_above : (number : ℕ) (address : List ℕ) (vars : Pairs) → 1 ≤ number → part_variables number address vars ≡ addressed address vars
+variables_above zero address vars least = absurd (omega (arith, least))
+variables_above (suc part) address vars least = refl
+
+with_address_is : (v : Value) (ps : Pairs) (address : List ℕ) → plain v ≡ hash ps → plain (paged.with_address address v) ≡ hash (addressed address ps)
+with_address_is (value.Hash qs) ps address are = ap (λ vars. hash (addressed address vars)) (cc (are))
+with_address_is v ps address are = absurd (cc (are))
+
+-- what the variables of a page with another address still tell, and what they tell of that
+module _ (v : Value) (ps : Pairs) (address : List ℕ) (are : plain v ≡ hash ps) where
+  address_keeps : (key : List ℕ) → bytes_eq key (codes "dir") ≡ false → bytes_eq key (codes "url") ≡ false → setting key (plain (paged.with_address address v)) ≡ setting key (plain v)
+  address_keeps key no_dir no_url =
+      ap (setting key) (with_address_is v ps address are)
+      ∙ ap (λ o. unwrap_or o nil) (other_set key (codes "dir") (text (folder_of address)) (set (codes "url") (text address) ps) no_dir ∙ other_set key (codes "url") (text address) ps no_url)
+      ∙ sym (ap (setting key) are)
+
+  address_is : setting (codes "url") (plain (paged.with_address address v)) ≡ text address
+  address_is =
+      ap (setting (codes "url")) (with_address_is v ps address are)
+      ∙ ap (λ o. unwrap_or o nil) (other_set (codes "url") (codes "dir") (text (folder_of address)) (set (codes "url") (text address) ps) refl ∙ same_set (codes "url") (text address) ps)
+
 behind_documents : (group documents : ℕ) → group ≡ documents → nat_lt group documents ≡ nat_lt (suc documents) documents
 behind_documents group documents is = grind (arith, is)
 
@@ -79,8 +105,6 @@ module _ (config : Config) (paging : Paging) where
         let knows : KnowsItself (paged.first_page paging posts) = record {
           path = known.path;
           relative_path = known.relative_path;
-          address = known.address;
-          own = known.own;
           url = known.url;
           ext = known.ext;
         } in
@@ -104,16 +128,19 @@ module _ (config : Config) (paging : Paging) where
     page_has number posts url dest least =
         let known = template.has.0 in
         let had = template.has.1 in
-        let knows : KnowsItself (paged.generated paging number posts url dest) = record {
-          path = known.path;
-          relative_path = known.relative_path;
-          address = known.address;
-          own = λ none. absurd (omega (arith, none, least));
-          url = known.url;
-          ext = known.ext;
-        } in
         let path = paging.template.name.path in
         let vars = kind_variables config had.kind path had.address had.moment (placed path had.address (kind_named config.timezone had.kind (stem (file_name path)) had.given)) in
+        let were = between (nat_lt paging.group (length config.collections)) had.previous had.next vars in
+        let was : plain paging.template.vars ≡ hash were =
+        had.are
+        ∙ ap (λ part. hash (part_variables part paging.template.url (between (nat_lt paging.template.group (length config.collections)) had.previous had.next vars))) template.part
+        ∙ ap (λ b. hash (between b had.previous had.next vars)) (behind_documents paging.template.group (length config.collections) template.group ∙ ap (λ g. nat_lt g (length config.collections)) (sym template.behind)) in
+        let knows : KnowsItself (paged.generated paging number posts url dest) = record {
+          path = address_keeps paging.template.vars were url was (codes "path") refl refl ∙ known.path;
+          relative_path = address_keeps paging.template.vars were url was (codes "relative_path") refl refl ∙ known.relative_path;
+          url = address_is paging.template.vars were url was;
+          ext = address_keeps paging.template.vars were url was (codes "ext") refl refl ∙ known.ext;
+        } in
         let in_group : group_of config had.kind ≡ length config.collections = ap (part_group config had.kind) (sym template.part) ∙ had.in_group ∙ template.group in
         let variables : HasVariables config (paged.generated paging number posts url dest) = record {
           kind = had.kind;
@@ -126,7 +153,7 @@ module _ (config : Config) (paging : Paging) where
           next = had.next;
           previous_is = had.previous_is;
           next_is = had.next_is;
-          are = had.are ∙ ap (λ b. hash (between b had.previous had.next vars)) (behind_documents paging.template.group (length config.collections) template.group ∙ ap (λ g. nat_lt g (length config.collections)) (sym template.behind));
+          are = with_address_is paging.template.vars were url was ∙ ap hash (sym (variables_above number url were least));
           paginator = inr (paging, posts, ap (λ page. hash (paged.paginator paging page posts)) (sym (page_itself number least)));
         } in
         (knows, variables)

@@ -66,10 +66,10 @@ module _ (k l : List ℕ) (v : Plain) where
       by true is rest = here (bytes_eq k l) (bytes_eq k m) w (get k ps) (ap (bytes_eq k) (same_text l m is))
       by false is rest = beside (bytes_eq k l) (bytes_eq k m) w (get k ps) (get k (set l v ps)) (apart_from k l m is) rest
 
-  other_set : (ps : Pairs) → bytes_eq k l ≡ false → get k (set l v ps) ≡ get k ps
+  pub other_set : (ps : Pairs) → bytes_eq k l ≡ false → get k (set l v ps) ≡ get k ps
   other_set ps apart = get_set ps ∙ ap (λ b. if b then Some v else get k ps) apart
 
-same_set : (k : List ℕ) (v : Plain) (ps : Pairs) → get k (set k v ps) ≡ Some v
+pub same_set : (k : List ℕ) (v : Plain) (ps : Pairs) → get k (set k v ps) ≡ Some v
 same_set k v ps = get_set k k v ps ∙ ap (λ b. if b then Some v else get k ps) (text_same k k refl)
 
 -- ---- an item's own path, URL and extension
@@ -195,7 +195,7 @@ module _ (config : Config) (now : ℤ) (future : Bool) (k : Kind) (path : List �
   in_text : (scopes : List Scope) (s : List ℕ) → Makes (of.text_item config scopes now future k path s) → IsKnown config (group_of config k) path made
   in_text scopes s e =
       let own = found_before (matter.own_variables s) _ (Some made) e in
-      let vars = variables scopes path (of.type_name config k) own.0 in
+      let vars = variables config scopes k path own.0 in
       let told = found_before (of.is_published (variable (codes "published") vars)) (of.published_item config now future k path vars (matter.body s)) (Some made) own.2 in
       published vars (matter.body s) told.0 told.2
 
@@ -266,8 +266,6 @@ module _ (config : Config) where
       let itself : KnowsItself (site_item_of documents rank before behind made) = record {
         path = ap (λ o. unwrap_or o nil) known.its_path;
         relative_path = ap (λ o. unwrap_or o nil) known.its_relative_path;
-        address = made.url;
-        own = λ _. refl;
         url = ap (λ o. unwrap_or o nil) known.its_url;
         ext = ap (λ o. unwrap_or o nil) known.its_ext;
       } in

@@ -11,7 +11,7 @@ use Rattle.site_config.specs.Table.{wrong_key}
 use Rattle.site_config.specs.declared.config.Config.{Config}
 use Rattle.site_dates.specs.Moment.{IsMoment}
 use Rattle.site_files.specs.Names.{extension, file_name, stem}
-use Rattle.site_items.specs.Items.{kind_named, kind_variables, placed}
+use Rattle.site_items.specs.Items.{addressed, kind_named, kind_variables, placed}
 use Rattle.site_items.specs.declared.kind.Kind.{Kind}
 use Rattle.site_items.specs.declared.layout_file.LayoutFile.{LayoutFile}
 use Rattle.site_reader.specs.Neighbours.{between}
@@ -25,17 +25,11 @@ use Rattle.site_reader.specs.declared.site_item.SiteItem.{SiteItem}
 abbrev pub Differ : {A B : Type 0} → (A → B) → List A → Type 0
 Differ name xs = AllPairs (λ x y. name x ≢ name y) xs
 
--- the URL that the variables of an item tell: its own; of a page that pagination generates, that of its template
-abbrev pub IsAddress : SiteItem → List ℕ → Type 0
-IsAddress item address = item.name.part ≡ 0 → address ≡ item.url
-
 -- the variables by which an item is known: its path, also as `relative_path`, its URL, and its extension
 pub record KnowsItself (item : SiteItem) : Type 0 where
   pub path : setting (codes "path") (plain item.vars) ≡ text item.name.path
   pub relative_path : setting (codes "relative_path") (plain item.vars) ≡ text item.name.path
-  pub address : List ℕ
-  pub own : IsAddress item address
-  pub url : setting (codes "url") (plain item.vars) ≡ text address
+  pub url : setting (codes "url") (plain item.vars) ≡ text item.url
   pub ext : setting (codes "ext") (plain item.vars) ≡ text (extension (file_name item.name.path))
 
 -- an item of the site by its name, or nothing
@@ -57,7 +51,16 @@ abbrev pub HasPaginator : SiteItem → Type 0
 HasPaginator item =
     (plain item.paginator ≡ nil) ⊎ ((paging : Paging) × (posts : List ItemName) × (plain item.paginator ≡ hash (paginator paging (page_of item.name.part) posts)))
 
--- the variables of an item have their forms: over those that front matter and defaults give it stand those of its kind, and of a document the two neighbours. After Jekyll 4's manual, "Variables"
+-- the URL for which the variables of an item were made: its own; of a page that pagination generates, that of its template
+abbrev pub IsAddress : SiteItem → List ℕ → Type 0
+IsAddress item address = item.name.part ≡ 0 → address ≡ item.url
+
+-- a page that pagination generates has its own address over that of its template
+abbrev pub part_variables : ℕ → List ℕ → Pairs → Pairs
+part_variables zero address vars = vars
+part_variables (suc part) address vars = addressed address vars
+
+-- the variables of an item have their forms: over those that front matter and defaults give it stand those of its kind, of a document the two neighbours, and of a page that pagination generates its own address. After Jekyll 4's manual, "Variables"
 pub record HasVariables (config : Config) (item : SiteItem) : Type 0 where
   pub kind : Kind
   pub in_group : part_group config kind item.name.part ≡ item.group
@@ -72,7 +75,8 @@ pub record HasVariables (config : Config) (item : SiteItem) : Type 0 where
   pub are :
       let path = item.name.path in
       let above = placed path address (kind_named config.timezone kind (stem (file_name path)) given) in
-      plain item.vars ≡ hash (between (nat_lt item.group (length config.collections)) previous next (kind_variables config kind path address moment above))
+      let made = between (nat_lt item.group (length config.collections)) previous next (kind_variables config kind path address moment above) in
+      plain item.vars ≡ hash (part_variables item.name.part item.url made)
   pub paginator : HasPaginator item
 
 -- the variables of a layout are a hash

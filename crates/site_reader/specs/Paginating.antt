@@ -7,6 +7,7 @@ use Rattle.site_base.specs.Chains.{◌>>=◌}
 use Rattle.site_base.specs.Plain.{Plain, nil, int, text, list, site_item, Items, no_items, item, Pairs, no_pairs, pair, onto_pairs, hash}
 use Rattle.site_base.specs.View.{plain}
 use Rattle.site_base.specs.declared.item_name.ItemName.{ItemName}
+use Rattle.site_base.specs.declared.value.Value.{Value}
 use Rattle.site_base.specs.declared.value.Value.TheVariants as value
 use Rattle.pagination.specs.Pages.{page_count, page_path}
 use Rattle.permalinks.specs.Dest.{dest}
@@ -17,6 +18,7 @@ use Rattle.site_files.specs.Choosing.{without_slash}
 use Rattle.site_files.specs.Names.{folder}
 use Rattle.site_items.specs.Addresses.{behind, if_path}
 use Rattle.site_items.specs.Extensions.{html}
+use Rattle.site_items.specs.Items.{addressed}
 use Rattle.site_reader.specs.Found.{Found, in_file}
 use Rattle.site_reader.specs.Placing.{config_path}
 use Rattle.site_reader.specs.declared.paging.Paging.{Paging}
@@ -116,13 +118,18 @@ paginator paging page posts =
 abbrev pub page_url : List ℕ → List ℕ
 page_url path = if ends_with nat_eq path (codes "/") then path else path ++ codes "/"
 
--- a page that is generated, with the body and the variables of the template
+-- variables with another address
+abbrev pub with_address : List ℕ → Value → Value
+with_address url (value.Hash vars) = value.Hash (addressed url vars)
+with_address url v = v
+
+-- a page that is generated, with the body and the variables of the template, and with an address of its own
 abbrev pub generated : Paging → ℕ → List ItemName → List ℕ → Option (List ℕ) → SiteItem
 generated paging page posts url dest = record {
   name = record { path = paging.template.name.path; part = page };
   group = paging.group;
   body = paging.template.body;
-  vars = paging.template.vars;
+  vars = with_address url paging.template.vars;
   url = url;
   dest = dest;
   paginator = value.Hash (paginator paging page posts);

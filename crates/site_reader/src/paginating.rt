@@ -7,7 +7,7 @@ ghost use Rattle.site_config.specs.Forms.{given};
 ghost use Rattle.site_items.specs.Addresses.{if_path};
 ghost use Rattle.site_items.specs.Extensions.{html};
 ghost use Rattle.site_reader.specs.Found.{IsFirst, in_file};
-ghost use Rattle.site_reader.specs.Paginating.{HasSize, generated, page_at, page_url, paginated, spread, template_place, with_page, with_pages, with_place, with_template};
+ghost use Rattle.site_reader.specs.Paginating.{HasSize, generated, page_at, page_url, paginated, spread, template_place, with_address, with_page, with_pages, with_place, with_template};
 ghost use Rattle.site_reader.specs.Placing.{config_path};
 ghost use Rattle.source_tree.specs.Limits.{most_files};
 
@@ -22,7 +22,7 @@ use pagination::page_path;
 use permalinks::{UrlError, dest};
 use site_base::{FaultKind, ItemName, Memory, Sequence, SitePath, Text, Value, copy};
 use site_config::Config;
-use site_items::variable;
+use site_items::{set_address, variable};
 use std::alloc::Global;
 
 /// The items, and behind them the pages that pagination generates, where the configuration asks for them and there is a
@@ -231,6 +231,20 @@ fn output_path(alloc: Global, url: &str) -> Result<SitePath, SiteError>
     }
 }
 
+// Variables with another address. Their values are shared.
+fn with_address(alloc: Global, vars: &Value, url: &Text) -> Result<Value, Memory>
+    ensures { IfOk result (λ made. made ≡ with_address url.now vars.now) }
+{
+    match vars {
+        Value::Hash(vars) => {
+            let mut own = vars.share(alloc)?;
+            set_address(alloc, &mut own, url)?;
+            Ok(Value::Hash(own))
+        }
+        other => copy(alloc, other),
+    }
+}
+
 fn generated(
     alloc: Global,
     paging: &Paging,
@@ -250,7 +264,7 @@ fn generated(
         },
         group: paging.group,
         body: paging.template.body.share(alloc)?,
-        vars: copy(alloc, &paging.template.vars)?,
+        vars: with_address(alloc, &paging.template.vars, &url)?,
         url,
         dest: Some(path),
         paginator: Value::Hash(paginator(alloc, paging, number, posts)?),

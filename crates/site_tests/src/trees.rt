@@ -516,14 +516,14 @@ const DEFAULTS_ARE_GIVEN: &[Row] = &[
         replies: "scanned 2\nbuilt rendered=1 reused=0 written=1 removed=0\n",
         outputs: &[("x.html", "[3]")],
     },
-    // A scope of drafts is not one of posts. (Jekyll: there a draft has the scopes of posts.)
+    // A draft has the scopes of posts, too; one of drafts is for drafts alone.
     Row {
         given: Scenario {
             words: &["once", "--drafts"],
             sources: &[
                 (
                     "_config.yml",
-                    "defaults:\n- scope: {path: \"\", type: posts}\n  values: {v: P}\n- scope: {path: \"\", type: drafts}\n  values: {v: D}\n",
+                    "defaults:\n- scope: {path: \"\", type: posts}\n  values: {v: P, w: p}\n- scope: {path: \"\", type: drafts}\n  values: {v: D}\n",
                 ),
                 ("_drafts/a.html", "---\n---\n{{ page.v }}{{ page.w }}"),
                 (
@@ -535,7 +535,7 @@ const DEFAULTS_ARE_GIVEN: &[Row] = &[
         },
         status: 0,
         replies: "scanned 3\nbuilt rendered=2 reused=0 written=2 removed=0\n",
-        outputs: &[("2024/01/01/a.html", "D"), ("2020/01/01/b.html", "P")],
+        outputs: &[("2024/01/01/a.html", "Dp"), ("2020/01/01/b.html", "Pp")],
     },
 ];
 

@@ -25,7 +25,7 @@ const CONDITIONS: &[(&str, &str)] = &[
     ),
     (
         "{% if empty == empty %}a{% endif %}{% if empty == \"\" %}b{% endif %}{% if empty == nil %}c{% endif %}{% if \"\" != empty %}d{% endif %}{% if site.none <> empty %}e{% endif %}{% if nil != empty %}f{% endif %}",
-        "cde",
+        "cf",
     ),
     (
         "{% if \"\" == blank %}a{% endif %}{% if \" \n\t\" == blank %}b{% endif %}{% if nil == blank %}c{% endif %}{% if false == blank %}d{% endif %}{% if site.none == blank %}e{% endif %}{% if site.void == blank %}f{% endif %}{% if 0 == blank %}g{% endif %}{% if \"a\" == blank %}h{% endif %}{% if true == blank %}i{% endif %}",
@@ -33,7 +33,7 @@ const CONDITIONS: &[(&str, &str)] = &[
     ),
     (
         "{% if blank == blank %}a{% endif %}{% if blank == nil %}b{% endif %}{% if blank == \"\" %}c{% endif %}{% if \"\" != blank %}d{% endif %}{% if nil != blank %}e{% endif %}",
-        "abd",
+        "ab",
     ),
     (
         "{% if 1 < 2 %}a{% endif %}{% if 1 <= 1 %}b{% endif %}{% if 2 > 1 %}c{% endif %}{% if 2 >= 3 %}d{% endif %}{% if \"a\" < \"b\" %}e{% endif %}{% if \"Z\" < \"a\" %}f{% endif %}{% if \"10\" < \"9\" %}g{% endif %}{% if \"é\" > \"z\" %}h{% endif %}{% if -1 < 0 %}i{% endif %}{% if \"a\" < \"ab\" %}j{% endif %}",

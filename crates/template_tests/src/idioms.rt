@@ -152,7 +152,7 @@ const CORNERS: &[(&str, &str)] = &[
     ),
     (
         "{%cycle 1, 2%}{% cycle 1, 2 %}{%- cycle 1, 2 -%}{% cycle 1, 2 %}",
-        "1121",
+        "1212",
     ),
     (
         "{{ page.title | append: page.num | append: page.nope | append: page.flag }}{{ page.list | append: page.hash }}{{ \"a\" | append: -1 }}",

@@ -5,4 +5,4 @@ use Rattle.site_items.specs.Defaults.{with_scope}
 use Rattle.site_items.proofs.defaults.variables.Given as goal
 
 abbrev pub invariant-loop-scope : goal.invariant-loop-scope
-invariant-loop-scope l = fold (with_scope l.path l.type_name) l.made (map (λ s. s.now) (drop l.scope-index l.ordered)) ≡ fold (with_scope l.path l.type_name) no_pairs (map (λ s. s.now) l.ordered)
+invariant-loop-scope l = fold (with_scope l.config l.kind l.path) l.made (map (λ s. s.now) (drop l.scope-index l.ordered)) ≡ fold (with_scope l.config l.kind l.path) no_pairs (map (λ s. s.now) l.ordered)
