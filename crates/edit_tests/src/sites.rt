@@ -214,7 +214,7 @@ hidden: <false^false^true>
 @index.html
 ---
 ---
-{{ paginator.page }}/{{ paginator.total_pages }} {% for p in paginator.posts %}{{ p.title }} {% endfor %}
+{{ page.url }} {{ paginator.page }}/{{ paginator.total_pages }} {% for p in paginator.posts %}{{ p.title }} {% endfor %}
 {{ paginator.next_page_path }} {{ paginator.previous_page_path }} <m^n>
 @blog/index.html
 ---
@@ -225,6 +225,10 @@ title: <B^C>
 ---
 ---
 {{ site.pages.size }} {{ site.html_pages.size }} {{ paginator.page }}
+@menu.html
+---
+---
+{% for p in site.pages %}{{ p.url }} {{ p.dir }} {% endfor %}
 ";
 
 /// Permalinks, defaults, links, and outputs that stand in one another's way.
