@@ -224,11 +224,7 @@ title: <B^C>
 @count.html
 ---
 ---
-{{ site.pages.size }} {{ site.html_pages.size }} {{ paginator.page }}
-@menu.html
----
----
-{% for p in site.pages %}{{ p.url }} {{ p.dir }} {% endfor %}
+{{ site.pages.size }} {{ site.html_pages.size }} {{ paginator.page }} {% for p in site.pages %}{{ p.url }} {{ p.dir }} {% endfor %}
 ";
 
 /// Permalinks, defaults, links, and outputs that stand in one another's way.
