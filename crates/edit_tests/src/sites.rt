@@ -214,7 +214,7 @@ hidden: <false^false^true>
 @index.html
 ---
 ---
-{{ paginator.page }}/{{ paginator.total_pages }} {% for p in paginator.posts %}{{ p.title }} {% endfor %}
+{{ page.url }} {{ paginator.page }}/{{ paginator.total_pages }} {% for p in paginator.posts %}{{ p.title }} {% endfor %}
 {{ paginator.next_page_path }} {{ paginator.previous_page_path }} <m^n>
 @blog/index.html
 ---
@@ -224,7 +224,7 @@ title: <B^C>
 @count.html
 ---
 ---
-{{ site.pages.size }} {{ site.html_pages.size }} {{ paginator.page }}
+{{ site.pages.size }} {{ site.html_pages.size }} {{ paginator.page }} {% for p in site.pages %}{{ p.url }} {{ p.dir }} {% endfor %}
 ";
 
 /// Permalinks, defaults, links, and outputs that stand in one another's way.

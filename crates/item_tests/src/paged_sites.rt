@@ -176,9 +176,11 @@ fn a_blog_has_a_page_for_each_two_posts(rt: HostRuntime) {
 }
 
 // The variables of the template, and those of the page that is generated: but for `url` and `dir` the same.
-const OF_TEMPLATE: &str = "h7:s6:layouts7:defaults4:paths10:index.htmls13:relative_paths10:index.htmls3:urls1:/s3:exts5:.htmls4:names10:index.htmls3:dirs1:/";
+const OF_TEMPLATE: &str =
+    "h7:s6:layouts7:defaults4:paths10:index.htmls13:relative_paths10:index.htmls3:urls1:/s3:exts5:.htmls4:names10:index.htmls3:dirs1:/";
 
-const OF_PAGE: &str = "h7:s6:layouts7:defaults4:paths10:index.htmls13:relative_paths10:index.htmls3:urls7:/page2/s3:exts5:.htmls4:names10:index.htmls3:dirs7:/page2/";
+const OF_PAGE: &str =
+    "h7:s6:layouts7:defaults4:paths10:index.htmls13:relative_paths10:index.htmls3:urls7:/page2/s3:exts5:.htmls4:names10:index.htmls3:dirs7:/page2/";
 
 fn has_address_of_its_own(alloc: Global) -> bool {
     match site_of(alloc, BLOG) {

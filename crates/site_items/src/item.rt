@@ -93,14 +93,7 @@ fn text_item(
         MatchResult result (λ made. found ≡ Ok made) (IsFault found) }
 {
     let own = own_variables(alloc, content, text)?;
-    let vars = variables(
-        alloc,
-        rules.config,
-        rules.scopes,
-        kind,
-        path.text(),
-        &own,
-    )?;
+    let vars = variables(alloc, rules.config, rules.scopes, kind, path.text(), &own)?;
     let body = body(alloc, content, text)?;
     item_with(alloc, rules, kind, path, body, vars)
 }

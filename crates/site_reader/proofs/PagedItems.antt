@@ -70,7 +70,7 @@ variables_above zero address vars least = absurd (omega (arith, least))
 variables_above (suc part) address vars least = refl
 
 with_address_is : (v : Value) (ps : Pairs) (address : List ℕ) → plain v ≡ hash ps → plain (paged.with_address address v) ≡ hash (addressed address ps)
-with_address_is (value.Hash qs) ps address are = ap (λ vars. hash (addressed address vars)) (cc (are))
+with_address_is (value.Hash qs) ps address are = let same : qs ≡ ps = cc (are) in ap (λ (vars : Pairs). hash (addressed address vars)) same
 with_address_is v ps address are = absurd (cc (are))
 
 -- what the variables of a page with another address still tell, and what they tell of that

@@ -2328,7 +2328,7 @@ const PAGES_ARE_MADE_WHERE_THERE_ARE_POSTS: &[Row] = &[
             ("z.html", "3"),
         ],
     },
-    // A generated page has the variables of its template. (Jekyll: there it has an address of its own.)
+    // A generated page has the variables of its template, but an address of its own.
     Row {
         given: Scenario {
             sources: &[
@@ -2350,7 +2350,7 @@ const PAGES_ARE_MADE_WHERE_THERE_ARE_POSTS: &[Row] = &[
             ("2020/01/02/b.html", ""),
             ("2020/01/03/c.html", ""),
             ("index.html", "T/"),
-            ("page2/index.html", "T/"),
+            ("page2/index.html", "T/page2/"),
         ],
     },
     // A page stands before the one that is generated at its path.
