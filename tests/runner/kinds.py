@@ -76,7 +76,7 @@ def answer_in_session(row, session):
         files, output = {b"it.md": FRONT + b"{% raw %}" + row.text + b"{% endraw %}"}, b"it.html"
     elif row.kind == "liquid":
         page = row.words.get("page", "p.html").encode()
-        files = {page: front_matter(session.files.get(page, b"")) + row.text}
+        files = {page: front_matter(session.files.get(page, FRONT)) + row.text}
         output = row.words["output"].encode() if "output" in row.words else page
     else:
         files, output = {DATA[row.kind]: row.text}, b"it.html"
@@ -85,9 +85,9 @@ def answer_in_session(row, session):
 
 
 def front_matter(page):
-    """The front matter of a file of the sample site."""
+    """The front matter of a file, empty where it has none."""
     if not page.startswith(b"---\n"):
-        return FRONT
+        return b""
     return page[: page.index(b"\n---\n") + 5]
 
 

@@ -48,17 +48,19 @@ def run_group(group, program, folder):
 
 
 def run_rows(rows, program):
-    """Each row with what the program answered, in the rows' order."""
+    """Each row with what the program answered, as the groups are done, in the rows' order."""
+    for row in rows:
+        if row.wrong:
+            yield row, row.wrong
     groups = group_rows(rows, read_files(SAMPLE), GROUP)
     work = tempfile.mkdtemp(prefix="sitebuild-tests-")
     try:
         with ThreadPoolExecutor(os.cpu_count()) as pool:
             folders = [os.path.join(work, str(place)) for place in range(len(groups))]
-            done = pool.map(run_group, groups, [program] * len(groups), folders)
-            answered = {id(row): answer for pairs in done for row, answer in pairs}
+            for done in pool.map(run_group, groups, [program] * len(groups), folders):
+                yield from done
     finally:
         shutil.rmtree(work, ignore_errors=True)
-    return [(row, row.wrong or answered[id(row)]) for row in rows]
 
 
 def main(program, names):
@@ -76,7 +78,7 @@ def main(program, names):
             passed.append((row, answer))
         else:
             failed += 1
-            print("\n".join(difference(row, answer)))
+            print("\n".join(difference(row, answer)), flush=True)
     found = True
     if is_self:
         lines, found = damages_found(passed)

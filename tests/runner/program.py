@@ -5,6 +5,8 @@ import threading
 
 # No run of a row takes so many seconds.
 PATIENCE = 120
+# The moment of each session's builds: the first of 2024.
+MOMENT = 1_704_067_200
 
 
 class Ended(Exception):
@@ -57,7 +59,7 @@ class Session:
         self.process = subprocess.Popen(
             [program, "session"], cwd=folder, stdin=subprocess.PIPE, stdout=subprocess.PIPE, stderr=subprocess.DEVNULL
         )
-        self.say(b"".join(put(name, data) for name, data in files.items()), len(files))
+        self.say(b"time %d\n" % MOMENT + puts(files), 1 + len(files))
 
     def close(self):
         self.process.stdin.close()
@@ -77,13 +79,12 @@ class Session:
         finally:
             watch.cancel()
         if b"" in found or not all(found):
-            raise Ended("the session ended")
+            raise Ended(f"the session ended; its last reply is {found}")
         return found
 
     def build(self, files, output):
         """Builds with these files in place of those that are there, and gives the text of an output and the reply; afterwards all is as it was."""
-        lines = b"".join(put(name, data) for name, data in files.items())
-        reply = self.say(lines + b"build\n", len(files) + 1)[-1].decode("utf-8", "replace").rstrip("\n")
+        reply = self.say(puts(files) + b"build\n", len(files) + 1)[-1].decode("utf-8", "replace").rstrip("\n")
         text = None
         if reply.startswith("built "):
             try:
@@ -91,10 +92,12 @@ class Session:
                     text = file.read()
             except OSError:
                 reply = f"no output {output.decode()}: {reply}"
-        back = b"".join(put(name, self.files[name]) if name in self.files else b"delete %s\n" % name for name in files)
-        self.say(back, len(files))
+        self.say(b"".join(b"delete %s\n" % name for name in files), len(files))
+        there = {name: self.files[name] for name in files if name in self.files}
+        self.say(puts(there), len(there))
         return text, reply
 
 
-def put(name, data):
-    return b"put %s %d\n" % (name, len(data)) + data
+def puts(files):
+    """The lines that put these files."""
+    return b"".join(b"put %s %d\n" % (name, len(data)) + data for name, data in files.items())
