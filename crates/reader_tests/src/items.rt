@@ -1,4 +1,4 @@
-// Items, by the rows of Jekyll's manual and the rules of this project.
+// Items, layouts, includes and copied files: each call once where it is done, with the codes of the values, which no template shows.
 ghost use Rattle.site_dates.specs.Offset.{IsOffset};
 
 use site_base::{FaultKind, Memory, SharedBytes, SitePath, YamlKind, same_code};
@@ -106,7 +106,9 @@ fn check_addresses(rt: &impl Abort, alloc: Global, rows: &[AddressRow]) {
 
 const POST: &str = "cat/dog/_posts/2009-04-29-Slap-Chop.md";
 
-const POSTS: &[AddressRow] = &[
+const RECIPES: &str = "collections:\n  recipes:\n    output: true\n  notes:\n";
+
+const ADDRESSES: &[AddressRow] = &[
     (
         "",
         Kind::Post,
@@ -118,86 +120,6 @@ const POSTS: &[AddressRow] = &[
         ),
     ),
     (
-        "permalink: pretty\n",
-        Kind::Post,
-        POST,
-        "---\ncategories: Fun Dog\n---\n",
-        (
-            "/cat/dog/fun/dog/2009/04/29/Slap-Chop/",
-            "cat/dog/fun/dog/2009/04/29/Slap-Chop/index.html",
-        ),
-    ),
-    (
-        "permalink: ordinal\n",
-        Kind::Post,
-        POST,
-        "---\n---\n",
-        (
-            "/cat/dog/2009/119/Slap-Chop.html",
-            "cat/dog/2009/119/Slap-Chop.html",
-        ),
-    ),
-    (
-        "permalink: none\n",
-        Kind::Post,
-        POST,
-        "---\n---\n",
-        ("/cat/dog/Slap-Chop.html", "cat/dog/Slap-Chop.html"),
-    ),
-    (
-        "permalink: /:short_year/:i_month/:i_day/:slug\n",
-        Kind::Post,
-        POST,
-        "---\n---\n",
-        ("/09/4/29/slap-chop", "09/4/29/slap-chop.html"),
-    ),
-    (
-        "timezone: +0530\npermalink: /:year/:month/:day/:hour:minute:second/:path/\n",
-        Kind::Post,
-        POST,
-        "---\ndate: 2009-04-28 20:00:30Z\n---\n",
-        (
-            "/2009/04/29/013030/2009-04-29-Slap-Chop/",
-            "2009/04/29/013030/2009-04-29-Slap-Chop/index.html",
-        ),
-    ),
-    (
-        "permalink: none\n",
-        Kind::Post,
-        POST,
-        "---\npermalink: /a.html/\n---\n",
-        ("/a.html/", "a.html/index.html"),
-    ),
-    (
-        "permalink: none\n",
-        Kind::Post,
-        POST,
-        "---\npermalink: pretty\n---\n",
-        ("/pretty", "pretty.html"),
-    ),
-    (
-        "collections:\n  posts:\n    permalink: /:collection/:name\n",
-        Kind::Post,
-        POST,
-        "---\n---\n",
-        (
-            "/posts/2009-04-29-slap-chop",
-            "posts/2009-04-29-slap-chop.html",
-        ),
-    ),
-];
-
-const RECIPES: &str = "collections:\n  recipes:\n    output: true\n  notes:\n";
-
-const DOCUMENTS: &[AddressRow] = &[
-    (
-        RECIPES,
-        Kind::Document(1),
-        "_recipes/warm/soup.txt",
-        "---\n---\n",
-        ("/recipes/warm/soup.txt", "recipes/warm/soup.txt"),
-    ),
-    (
         RECIPES,
         Kind::Document(2),
         "_notes/a.md",
@@ -206,82 +128,16 @@ const DOCUMENTS: &[AddressRow] = &[
     ),
     (
         "",
-        Kind::Draft,
-        "_drafts/x/d.md",
-        "---\n---\n",
-        ("/2024/01/01/d.html", "2024/01/01/d.html"),
-    ),
-];
-
-const PAGES: &[AddressRow] = &[
-    (
-        "",
-        Kind::Page,
-        "index.html",
-        "---\n---\n",
-        ("/", "index.html"),
-    ),
-    (
-        "",
         Kind::Page,
         "a/b/index.md",
         "---\n---\n",
         ("/a/b/", "a/b/index.html"),
     ),
-    (
-        "",
-        Kind::Page,
-        "a/b.md",
-        "---\n---\n",
-        ("/a/b.html", "a/b.html"),
-    ),
-    (
-        "permalink: pretty\n",
-        Kind::Page,
-        "a/b.md",
-        "---\n---\n",
-        ("/a/b/", "a/b/index.html"),
-    ),
-    (
-        "permalink: /x/:title\n",
-        Kind::Page,
-        "a/b.md",
-        "---\n---\n",
-        ("/a/b", "a/b.html"),
-    ),
-    (
-        "permalink: pretty\n",
-        Kind::Page,
-        "feed.xml",
-        "---\n---\n",
-        ("/feed.xml", "feed.xml"),
-    ),
-    ("", Kind::Page, "a.htm", "---\n---\n", ("/a.htm", "a.htm")),
-    (
-        "markdown_ext: txt,md\n",
-        Kind::Page,
-        "a.txt",
-        "---\npermalink: /:basename/:output_ext\n---\n",
-        ("/a/.html", "a/.html"),
-    ),
-    (
-        "",
-        Kind::Page,
-        "404.html",
-        "---\npermalink: /404.html\n---\n",
-        ("/404.html", "404.html"),
-    ),
 ];
 
 #[test]
-fn documents_have_addresses(rt: HostRuntime) {
-    check_addresses(&rt, rt.alloc(), POSTS);
-    check_addresses(&rt, rt.alloc(), DOCUMENTS);
-}
-
-#[test]
-fn pages_have_addresses(rt: HostRuntime) {
-    check_addresses(&rt, rt.alloc(), PAGES);
+fn items_have_addresses(rt: HostRuntime) {
+    check_addresses(&rt, rt.alloc(), ADDRESSES);
 }
 
 fn has_variable(item: &Item, name: &str, want: &str) -> bool {
@@ -349,88 +205,6 @@ fn posts_have_variables(rt: HostRuntime) {
     );
 }
 
-const OF_DRAFT: &[(&str, &str)] = &[
-    ("collection", "s5:posts"),
-    ("draft", "t"),
-    ("date", "s25:2020-01-02 00:00:00 +0000"),
-    ("slug", "s12:2020-01-02-x"),
-    ("title", "s12:2020 01 02 X"),
-    ("categories", "l0:"),
-];
-
-const OF_PAGE: &[(&str, &str)] = &[
-    ("url", "s13:/docs/a.html/"),
-    ("name", "s6:a.html"),
-    ("dir", "s13:/docs/a.html/"),
-    ("date", "absent"),
-    ("title", "absent"),
-    ("tags", "absent"),
-];
-
-// A file whose front matter is not closed has no variables of its own.
-const OF_OPEN_PAGE: &[(&str, &str)] = &[("title", "absent"), ("url", "s7:/x.html")];
-
-#[test]
-fn drafts_and_pages_have_variables(rt: HostRuntime) {
-    let alloc = rt.alloc();
-    let path = "_drafts/2020-01-02-x.md";
-    assert!(rt; has_variables(alloc, "", Kind::Draft, path, "---\n---\n", OF_DRAFT));
-    let configuration = "permalink: /:title/\n";
-    let file = "---\npermalink: /docs/a.html/\n---\n";
-    assert!(rt;
-        has_variables(
-            alloc,
-            configuration,
-            Kind::Page,
-            "docs/a.html",
-            file,
-            OF_PAGE
-        )
-    );
-    let open = "---\ntitle: x";
-    assert!(rt; has_variables(alloc, "", Kind::Page, "x.html", open, OF_OPEN_PAGE));
-}
-
-const DEFAULTS: &str = "defaults:
-  - scope: {path: '', type: pages}
-    values: {layout: typed, a: 1, b: 1, c: 1}
-  - scope: {path: docs/}
-    values: {layout: docs, b: 2, c: 2}
-  - scope: {path: ''}
-    values: {layout: all, d: 3}
-  - scope: {path: docs, type: pages}
-    values: {c: 4}
-  - scope: {path: docs, type: pages}
-    values: {c: 5}
-  - scope: {path: doc}
-    values: {layout: doc}
-  - scope: {path: '', type: posts}
-    values: {layout: post}
-";
-
-const WITH_DEFAULTS: &[(&str, &str)] = &[
-    ("layout", "s4:docs"),
-    ("a", "i1;"),
-    ("b", "n"),
-    ("c", "i5;"),
-    ("d", "i3;"),
-];
-
-#[test]
-fn defaults_stand_below(rt: HostRuntime) {
-    let file = "---\nb: ~\n---\n";
-    assert!(rt;
-        has_variables(
-            rt.alloc(),
-            DEFAULTS,
-            Kind::Page,
-            "docs/a.html",
-            file,
-            WITH_DEFAULTS
-        )
-    );
-}
-
 fn has_fault(alloc: Global, configuration: &str, file: &[u8], line: u64, kind: FaultKind) -> bool {
     let path = "a/_posts/2020-01-01-x.md";
     match reading(alloc, configuration, Kind::Post, path, file) {
@@ -443,44 +217,9 @@ const FAULTS: &[(&str, &[u8], u64, FaultKind)] = &[
     ("", b"---\na: 1\n---\n\xff", 0, FaultKind::NotUtf8),
     (
         "",
-        b"---\na: &x 1\n---\n",
-        2,
-        FaultKind::Yaml(YamlKind::Outside),
-    ),
-    (
-        "",
         b"---\na: 1\n  b: 2\n---\n",
         3,
         FaultKind::Yaml(YamlKind::NoKey),
-    ),
-    (
-        "",
-        b"---\n- a\n---\n",
-        1,
-        FaultKind::Yaml(YamlKind::NotMapping),
-    ),
-    (
-        "",
-        b"---\npublished: 1\ndate: x\n---\n",
-        0,
-        FaultKind::Config,
-    ),
-    ("", b"---\ndate: 2020-02-30\n---\n", 0, FaultKind::BadDate),
-    (
-        "",
-        b"---\ndate: 5\npermalink: 5\n---\n",
-        0,
-        FaultKind::BadDate,
-    ),
-    ("", b"---\npermalink: [a]\n---\n", 0, FaultKind::Config),
-    ("", b"---\npermalink: /:nope/\n---\n", 0, FaultKind::Config),
-    ("", b"---\npermalink: /../x\n---\n", 0, FaultKind::Config),
-    ("permalink: /:week/\n", b"---\n---\n", 0, FaultKind::Config),
-    (
-        "unpublished: true\n",
-        b"---\npublished: false\ndate: x\n---\n",
-        0,
-        FaultKind::BadDate,
     ),
 ];
 
@@ -511,20 +250,6 @@ const LEFT_OUT: &[(&str, &str, bool)] = &[
         "---\npublished: false\ndate: x\npermalink: 5\n---\n",
         true,
     ),
-    ("unpublished: true\n", "---\npublished: false\n---\n", false),
-    (
-        "",
-        "---\ndate: 2024-01-01 00:00:01\npermalink: 5\n---\n",
-        true,
-    ),
-    ("", "---\ndate: 2024-01-01 00:00:00\n---\n", false),
-    ("future: true\n", "---\ndate: 2030-01-01\n---\n", false),
-    (
-        "timezone: +01:00\n",
-        "---\ndate: 2024-01-01 01:00\n---\n",
-        false,
-    ),
-    ("timezone: -01:00\n", "---\ndate: 2024-01-01\n---\n", true),
 ];
 
 #[test]
@@ -544,13 +269,7 @@ fn has_title(alloc: Global, name: &str, want: &str) -> bool {
     }
 }
 
-const TITLES: &[(&str, &str)] = &[
-    ("first-note", "First Note"),
-    ("TWO", "Two"),
-    ("2nd--try-", "2nd  Try "),
-    ("", ""),
-    ("über-öl", "über öl"),
-];
+const TITLES: &[(&str, &str)] = &[("first-note", "First Note"), ("", "")];
 
 #[test]
 fn names_make_titles(rt: HostRuntime) {
@@ -574,12 +293,6 @@ fn has_place(alloc: Global, kind: Kind, path: &str, url: &str, dest: &str) -> bo
 
 const PLACES: &[(Kind, &str, &str, &str)] = &[
     (Kind::Page, "a/b.png", "/a/b.png", "a/b.png"),
-    (
-        Kind::Document(1),
-        "_recipes/x/b.png",
-        "/recipes/x/b.png",
-        "recipes/x/b.png",
-    ),
     (Kind::Document(2), "_notes/b.png", "/notes/b.png", ""),
 ];
 
@@ -601,21 +314,12 @@ fn is_layout(alloc: Global, path: &str, file: &str, name: &str, body: &str) -> b
     }
 }
 
-const LAYOUTS: &[(&str, &str, &str, &str)] = &[
-    (
-        "_layouts/a/post.old.html",
-        "---\nlayout: default\n---\n\n<h1>\n",
-        "a/post.old",
-        "<h1>\n",
-    ),
-    (
-        "_layouts/gone",
-        "[{{ content }}]",
-        "gone",
-        "[{{ content }}]",
-    ),
-    ("_layouts/x.html", "---\na: 1", "x", "---\na: 1"),
-];
+const LAYOUTS: &[(&str, &str, &str, &str)] = &[(
+    "_layouts/a/post.old.html",
+    "---\nlayout: default\n---\n\n<h1>\n",
+    "a/post.old",
+    "<h1>\n",
+)];
 
 // Whether an include has this body, or none.
 fn is_include(alloc: Global, file: &[u8], want: Option<&str>) -> bool {
@@ -632,10 +336,6 @@ fn is_include(alloc: Global, file: &[u8], want: Option<&str>) -> bool {
 
 const INCLUDES: &[(&[u8], Option<&str>)] = &[
     (b"---\n---\nx", Some("---\n---\nx")),
-    (
-        b"some more than fourteen bytes",
-        Some("some more than fourteen bytes"),
-    ),
     (b"\xff", None),
 ];
 
