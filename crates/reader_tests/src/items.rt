@@ -205,18 +205,17 @@ fn posts_have_variables(rt: HostRuntime) {
     );
 }
 
-fn has_fault(alloc: Global, configuration: &str, file: &[u8], line: u64, kind: FaultKind) -> bool {
+fn has_fault(alloc: Global, file: &[u8], line: u64, kind: FaultKind) -> bool {
     let path = "a/_posts/2020-01-01-x.md";
-    match reading(alloc, configuration, Kind::Post, path, file) {
+    match reading(alloc, "", Kind::Post, path, file) {
         Err(ItemError::Fault(fault)) => fault.line == line && fault.kind == kind,
         _ => false,
     }
 }
 
-const FAULTS: &[(&str, &[u8], u64, FaultKind)] = &[
-    ("", b"---\na: 1\n---\n\xff", 0, FaultKind::NotUtf8),
+const FAULTS: &[(&[u8], u64, FaultKind)] = &[
+    (b"---\na: 1\n---\n\xff", 0, FaultKind::NotUtf8),
     (
-        "",
         b"---\na: 1\n  b: 2\n---\n",
         3,
         FaultKind::Yaml(YamlKind::NoKey),
@@ -225,40 +224,27 @@ const FAULTS: &[(&str, &[u8], u64, FaultKind)] = &[
 
 #[test]
 fn files_have_faults(rt: HostRuntime) {
-    for (configuration, file, line, kind) in FAULTS {
-        assert!(rt; has_fault(rt.alloc(), configuration, file, *line, *kind));
+    for (file, line, kind) in FAULTS {
+        assert!(rt; has_fault(rt.alloc(), file, *line, *kind));
     }
 }
 
-fn is_left_out(alloc: Global, configuration: &str, file: &str) -> Option<bool> {
-    match reading(
-        alloc,
-        configuration,
-        Kind::Draft,
-        "_drafts/d.md",
-        file.as_bytes(),
-    ) {
+fn is_left_out(alloc: Global, file: &str) -> Option<bool> {
+    match reading(alloc, "", Kind::Draft, "_drafts/d.md", file.as_bytes()) {
         Ok(item) => Some(item.is_none()),
         Err(_) => None,
     }
 }
 
-const LEFT_OUT: &[(&str, &str, bool)] = &[
-    ("", "---\n---\n", false),
-    (
-        "",
-        "---\npublished: false\ndate: x\npermalink: 5\n---\n",
-        true,
-    ),
+const LEFT_OUT: &[(&str, bool)] = &[
+    ("---\n---\n", false),
+    ("---\npublished: false\ndate: x\npermalink: 5\n---\n", true),
 ];
 
 #[test]
 fn documents_are_left_out(rt: HostRuntime) {
-    for (configuration, file, want) in LEFT_OUT {
-        assert!(rt;
-            is_left_out(rt.alloc(), configuration, file) == Some(*want),
-            "at {file}"
-        );
+    for (file, want) in LEFT_OUT {
+        assert!(rt; is_left_out(rt.alloc(), file) == Some(*want), "at {file}");
     }
 }
 
