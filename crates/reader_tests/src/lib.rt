@@ -27,6 +27,4 @@ mod paged_sites;
 #[cfg(test)]
 mod sites;
 #[cfg(test)]
-mod standard_examples;
-#[cfg(test)]
 mod yaml;
