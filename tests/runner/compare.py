@@ -1,7 +1,7 @@
 """Compares what a row states with what the program answers."""
 import difflib
 
-from texts import UNENDED, is_plain, show_text
+from texts import is_plain, show_text
 
 LONGEST = 300
 MOST_LINES = 4000
@@ -11,30 +11,35 @@ def is_as_stated(row, answer):
     return answer == row.expected
 
 
+def show_text_row(outcome, row, with_escapes):
+    """The lines of a text or a fault, with a line above it where the row has the other."""
+    lines = []
+    for name, data in outcome.items():
+        if (name == "fault") != ("fault" in row.words):
+            lines.append("(a fault, where a text has to come out)" if name == "fault" else "(a text, where a fault has to come out)")
+        lines += show_text(data if row.kind == "example" else data + b"\n", with_escapes)
+    return lines
+
+
+def show_step(outcome, with_escapes):
+    """The lines of what comes out of a step."""
+    lines = show_text(outcome["replies"], with_escapes)
+    for name in sorted(set(outcome) - {"replies"}):
+        if name == "status" and outcome[name] != b"0":
+            lines.append(f"-- status {outcome[name].decode()} --")
+        elif name != "status" and (name != "standard error" or outcome[name]):
+            lines.append(f"-- {name} --")
+            lines += show_text(outcome[name], with_escapes)
+    return lines
+
+
 def show(outcomes, row, with_escapes):
     """The lines of what comes out, as a row has them."""
     lines = []
     for place, outcome in enumerate(outcomes):
         if place:
             lines.append(".")
-        if row.kind != "site":
-            for name, data in outcome.items():
-                if name == "fault" and "fault" not in row.words:
-                    lines.append("(a fault, where a text has to come out)")
-                if name == "text" and "fault" in row.words:
-                    lines.append("(a text, where a fault has to come out)")
-                if row.kind != "example":
-                    data += b"\n"
-                lines += show_text(data, with_escapes)
-            continue
-        lines += show_text(outcome["replies"], with_escapes)
-        for name in sorted(outcome):
-            if name == "status":
-                if outcome[name] != b"0":
-                    lines.append(f"-- status {outcome[name].decode()} --")
-            elif name != "replies" and (name != "standard error" or outcome[name]):
-                lines.append(f"-- {name} --")
-                lines += show_text(outcome[name], with_escapes)
+        lines += show_step(outcome, with_escapes) if row.kind == "site" else show_text_row(outcome, row, with_escapes)
     return lines
 
 

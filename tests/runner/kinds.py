@@ -50,22 +50,22 @@ def answers(group, program, folder):
             try:
                 session = session or Session(program, os.path.join(folder, str(place)), group.site)
                 yield row, answer_in_session(row, session)
-            except Ended as end:
+            except (Ended, OSError) as failure:
                 if session:
-                    session.process.kill()
-                    session.process.wait()
+                    session.end()
                     session = None
-                yield row, str(end)
+                yield row, str(failure)
     finally:
         if session:
             session.close()
 
 
 def attempt(call, *given):
+    """What a call gives, or why it could not be done."""
     try:
         return call(*given)
-    except Ended as end:
-        return str(end)
+    except (Ended, OSError) as failure:
+        return str(failure)
 
 
 def answer_in_session(row, session):

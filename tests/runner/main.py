@@ -9,7 +9,7 @@ from compare import difference, is_as_stated
 from kinds import answers, group_rows
 from program import read_files
 from rows import read_rows
-from self_test import damages_found
+from self_test import damages_found, no_rows_found
 
 TESTS = os.path.dirname(os.path.dirname(os.path.abspath(__file__)))
 SAMPLE = os.path.join(TESTS, "liquid", "site")
@@ -48,7 +48,7 @@ def run_group(group, program, folder):
 
 
 def run_rows(rows, program):
-    """Each row with what the program answered, as the groups are done, in the rows' order."""
+    """Each row with what the program answered, in order, as it is done; but first those that cannot be read."""
     for row in rows:
         if row.wrong:
             yield row, row.wrong
@@ -64,6 +64,8 @@ def run_rows(rows, program):
 
 
 def main(program, names):
+    if not os.access(program, os.X_OK):
+        raise SystemExit(f"sitebuild: no program stands at {program}")
     is_self = "--self" in names
     names = [name for name in names if name != "--self"]
     rows = []
@@ -82,6 +84,9 @@ def main(program, names):
     found = True
     if is_self:
         lines, found = damages_found(passed)
+        missed = no_rows_found()
+        lines += [f"no row, and read as one or told at another line: {name}" for name in missed]
+        found = found and not missed
         print("\n".join(lines))
     print(f"{len(passed)} passed, {failed} failed")
     return 0 if passed and not failed and found else 1

@@ -59,7 +59,7 @@ class Row:
 
 def read_kind(text, line):
     """The kind behind a fence, and its words."""
-    kind, *words = text.split()
+    kind, *words = text.split() or [""]
     if kind not in WORDS:
         raise BadRow(line, f"there is no kind {kind!r}")
     found = {}
@@ -71,11 +71,19 @@ def read_kind(text, line):
     return kind, found
 
 
-def sections(lines, line, has_escapes):
+def is_heading(text):
+    return bool(HEADING.match(text)) or is_command(text)
+
+
+def is_command(text):
+    return text == COMMAND or text.startswith(COMMAND + " ")
+
+
+def sections(lines, line):
     """The lines in front of the first heading, and each heading with its lines: (heading, first line, lines)."""
     parts = [(None, line, [])]
     for place, text in enumerate(lines, line):
-        if HEADING.match(text) or text.startswith(COMMAND):
+        if is_heading(text):
             parts.append((text, place + 1, []))
         else:
             parts[-1][2].append(text)
@@ -91,15 +99,16 @@ def read_files(lines, line, has_escapes):
 
 
 def read_step(lines, line, has_escapes):
+    """What is given to a step."""
     step = Step()
-    for heading, first, text in sections(lines, line, has_escapes):
+    for heading, first, text in sections(lines, line):
         if heading is None:
             if text:
                 raise BadRow(first, "a file begins with a line -- PATH --")
             continue
         if step.words is not None:
             raise BadRow(first - 1, "the command is the last that is given")
-        if heading.startswith(COMMAND):
+        if is_command(heading):
             step.words = read_command(heading, first - 1, has_escapes)
             step.input = read_text(text, first, has_escapes)
             continue
@@ -128,7 +137,7 @@ def read_command(text, line, has_escapes):
 def read_outcome(lines, line, has_escapes):
     """The sections that come out of a step."""
     outcome = {}
-    for heading, first, text in sections(lines, line, has_escapes):
+    for heading, first, text in sections(lines, line):
         if heading is None:
             outcome["replies"] = read_text(text, first, has_escapes)
             continue
@@ -154,18 +163,20 @@ def without_last_end(data):
     return data[:-1] if data.endswith(b"\n") else data
 
 
-def read_parts(row, parts):
-    """Reads the parts of a row, (first line, lines) each, into the row."""
-    if row.kind == "site":
-        if len(parts) % 2:
-            raise BadRow(row.line, "a step lacks the line . and what comes out")
-        for given, wanted in zip(parts[::2], parts[1::2]):
-            step = read_step(given[1], given[0], row.has_escapes)
-            if step.words is None:
-                raise BadRow(given[0], "a step lacks its command, as $ sitebuild once")
-            row.steps.append(step)
-            row.expected.append(read_outcome(wanted[1], wanted[0], row.has_escapes))
-        return
+def read_steps(row, parts):
+    """Reads the parts of a row of a site, (first line, lines) each, into the row."""
+    if len(parts) % 2:
+        raise BadRow(row.line, "a step lacks the line . and what comes out")
+    for given, wanted in zip(parts[::2], parts[1::2]):
+        step = read_step(given[1], given[0], row.has_escapes)
+        if step.words is None:
+            raise BadRow(given[0], "a step lacks its command, as $ sitebuild once")
+        row.steps.append(step)
+        row.expected.append(read_outcome(wanted[1], wanted[0], row.has_escapes))
+
+
+def read_texts(row, parts):
+    """Reads the parts of another row into it."""
     if len(parts) != 2:
         raise BadRow(row.line, "a row has one line . between what is given and what comes out")
     row.text, wanted = (read_text(lines, line, row.has_escapes) for line, lines in parts)
@@ -177,6 +188,7 @@ def read_parts(row, parts):
 
 
 def split_parts(lines, line):
+    """The parts between lines with a dot alone: (first line, lines) each."""
     parts = [(line, [])]
     for place, text in enumerate(lines, line):
         if text == ".":
@@ -184,6 +196,25 @@ def split_parts(lines, line):
         else:
             parts[-1][1].append(text)
     return parts
+
+
+def read_fence(path, line, opening, body, site):
+    """The row of a fence, or the files of one, of which the first line is `opening`."""
+    row = Row(path, line, "", {}, site)
+    files = None
+    try:
+        row.kind, row.words = read_kind(opening[len(FENCE) :], line)
+        if body is None:
+            raise BadRow(line, "a fence of 32 backticks is not closed by one")
+        if row.kind == "files":
+            files = read_files(body, line + 1, row.has_escapes)
+        else:
+            parts = split_parts(body, line + 1)
+            read = read_steps if row.kind == "site" else read_texts
+            read(row, parts)
+    except BadRow as wrong:
+        return wrong_row(path, wrong.line, wrong.reason), None
+    return row, files
 
 
 def read_rows(path):
@@ -196,35 +227,18 @@ def read_rows(path):
         return [wrong_row(path, data[: wrong.start].count(b"\n") + 1, "the file is not UTF-8")]
     rows = []
     site = None
-    place = 0
-    while place < len(lines):
-        text = lines[place]
-        place += 1
-        if not text.startswith(FENCE):
-            continue
-        line = place
-        end = next((other for other in range(place, len(lines)) if lines[other].startswith(FENCE)), len(lines))
-        row = Row(path, line, "", {}, site)
-        rows.append(row)
-        try:
-            if end == len(lines) or lines[end] != FENCE:
-                raise BadRow(line, "a fence of 32 backticks is not closed by one")
-            row.kind, row.words = read_kind(text[len(FENCE):] or " ?", line)
-            body = lines[place:end]
-            if row.kind == "files":
-                rows.pop()
-                site = read_files(body, line + 1, row.has_escapes)
-            else:
-                read_parts(row, split_parts(body, line + 1))
-        except BadRow as wrong:
-            if row not in rows:
-                rows.append(row)
-            row.line = wrong.line
-            row.wrong = wrong.reason
-        place = end + 1
-    if not rows:
-        return [wrong_row(path, 1, "the file has no row")]
-    return rows
+    fences = [place for place, text in enumerate(lines) if text.startswith(FENCE)]
+    while fences:
+        first = fences.pop(0)
+        body = None
+        if fences and lines[fences[0]] == FENCE:
+            body = lines[first + 1 : fences.pop(0)]
+        row, files = read_fence(path, first + 1, lines[first], body, site)
+        if files is None:
+            rows.append(row)
+        else:
+            site = files
+    return rows or [wrong_row(path, 1, "the file has no row")]
 
 
 def wrong_row(path, line, reason):

@@ -1,7 +1,10 @@
-"""Damages what the program answered, and sees that each damage is found."""
+"""Damages what the program answered, and sees that each damage is found; and reads rows that are none."""
 import copy
+import os
+import tempfile
 
 from compare import difference, is_as_stated
+from rows import FENCE, read_rows
 
 
 def changed(data):
@@ -102,3 +105,36 @@ def damages_found(done):
                 missed.append((kind, name))
                 lines.append(f"{kind}: {name}: no row that it could damage")
     return lines, bool(done) and not missed
+
+
+# Texts that are no row, with the line at which each is wrong.
+NO_ROWS = {
+    "a text without a row": ("Prose.\n", 1),
+    "an unknown kind": (f"\n{FENCE} nope\na\n.\na\n{FENCE}\n", 2),
+    "no kind": (f"{FENCE}\na\n.\na\n{FENCE}\n", 1),
+    "an unknown word": (f"{FENCE} yaml page=a\na\n.\na\n{FENCE}\n", 1),
+    "no end": (f"{FENCE} example\na\n.\na\n", 1),
+    "another fence within": (f"{FENCE} example\na\n{FENCE} example\n.\na\n{FENCE}\n", 1),
+    "no dot": (f"{FENCE} example\na\n{FENCE}\n", 1),
+    "a dot too many": (f"{FENCE} example\na\n.\na\n.\n{FENCE}\n", 1),
+    "no escape": (f"{FENCE} example escapes\na\n\\q\n.\na\n{FENCE}\n", 3),
+    "a repeated text without its end": (f"{FENCE} example escapes\n\\3(a\n.\na\n{FENCE}\n", 2),
+    "a site without a command": (f"{FENCE} site\n-- a --\n.\n{FENCE}\n", 2),
+    "a text in front of the files": (f"{FENCE} site\na\n$ sitebuild once\n.\n{FENCE}\n", 2),
+    "a file twice": (f"{FENCE} site\n-- a --\n-- a --\n$ sitebuild once\n.\n{FENCE}\n", 3),
+    "another section": (f"{FENCE} site\n$ sitebuild once\n.\n-- nope --\n{FENCE}\n", 4),
+    "a command among files": (f"{FENCE} files\n$ sitebuild once\n{FENCE}\n", 2),
+}
+
+
+def no_rows_found():
+    """The names of the texts that are no row, where they are read as one or told at another line."""
+    missed = []
+    with tempfile.TemporaryDirectory() as work:
+        path = os.path.join(work, "rows.txt")
+        for name, (text, line) in NO_ROWS.items():
+            with open(path, "w", encoding="utf-8") as file:
+                file.write(text)
+            if not any(row.wrong and row.line == line for row in read_rows(path)):
+                missed.append(name)
+    return missed
