@@ -1,4 +1,4 @@
-// What a row says: a template, and what it comes to.
+// What a row says: a template, and what it comes to over a site in memory, or the keys that it asks for.
 use crate::shelf::{Shelf, item};
 use cm_print::CommonMark;
 use front_yaml::read_yaml;
@@ -27,20 +27,6 @@ pub(crate) struct Setting {
 const PAGE: &Setting = &Setting {
     page: "p.html",
     file: "p.html",
-    manner: Manner::Body,
-};
-
-/// A post.
-pub(crate) const POST: &Setting = &Setting {
-    page: "_posts/2024-01-02-second.md",
-    file: "_posts/2024-01-02-second.md",
-    manner: Manner::Body,
-};
-
-/// A page that stands later, in a folder, without a paginator.
-pub(crate) const LATER: &Setting = &Setting {
-    page: "sub/q.html",
-    file: "sub/q.html",
     manner: Manner::Body,
 };
 

@@ -3,7 +3,7 @@ ghost use Rattle.std.specs.Prelude.{◌≡◌, IfOk, codes};
 ghost use Rattle.std.specs.Option.{option_copied, option_map};
 ghost use Rattle.site_base.specs.View.{plain};
 ghost use Rattle.liquid_filters.specs.Properties.{or_nil};
-ghost use Rattle.template_tests.specs.Shelves as definitions;
+ghost use Rattle.text_tests.specs.Shelves as definitions;
 
 use crate::site::SITE;
 use front_yaml::read_mapping;
@@ -45,7 +45,7 @@ impl Shelf {
 
 impl Look for Shelf {
     ghost use Rattle.std.specs.Prelude.{None};
-    ghost use Rattle.template_tests.specs.Shelves.{shelf_view, shelf-formed};
+    ghost use Rattle.text_tests.specs.Shelves.{shelf_view, shelf-formed};
 
     ghost view = { λ s. shelf_view s.held };
 
