@@ -61,18 +61,7 @@ fn definitions_are_read(rt: HostRuntime) {
     }
 }
 
-const OTHERS: &[&str] = &[
-    "",
-    "a",
-    "[a] : /u",
-    "[a]:",
-    "[a]:\n\n/u",
-    "[ ]: /u",
-    "[a]: /u 't' x",
-    "[a]: <b>(c)",
-    "[a]: (b",
-    " [a]: /u",
-];
+const OTHERS: &[&str] = &["", "[a]: /u 't' x"];
 
 fn defines_nothing(alloc: Global, text: &str) -> bool {
     match definition(alloc, text) {

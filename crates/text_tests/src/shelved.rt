@@ -34,7 +34,10 @@ const OF_A_LAYOUT: &[(&str, &str)] = &[
         "{{ layout.size }} {{ page.content }} {{ site.pages | map: \"content\" | join: \";\" }} {{ paginator.page }}",
         "2 <own> body\n;{{ page.title }} 1",
     ),
-    ("\n{{ 1 | divided_by: 0 }}", "!_layouts/base.html:2:DividedByZero"),
+    (
+        "\n{{ 1 | divided_by: 0 }}",
+        "!_layouts/base.html:2:DividedByZero",
+    ),
 ];
 
 #[test]

@@ -1,4 +1,4 @@
-// What lines start, by the standard's examples.
+// What lines start, each kind once; tests/markdown has the rows.
 use cm_starts::{
     HeadingLevel, ListMark, Place, Start, closes_fence, fence, heading, html_block,
     is_thematic_break, line_start, list_mark, underline,
@@ -10,16 +10,7 @@ const PARAGRAPH: Place = Place::Paragraph { has_text: true };
 
 #[test]
 fn breaks_are_told(rt: HostRuntime) -> Result<(), Fail> {
-    let rows = [
-        ("***", true),
-        ("_ _\t_", true),
-        ("- - - -    ", true),
-        ("--", false),
-        ("+++", false),
-        ("*-*", false),
-        ("--- a", false),
-        ("", false),
-    ];
+    let rows = [("***", true), ("--", false)];
     for (text, is_break) in rows {
         assert_eq!(rt; is_thematic_break(text), is_break, "{text}");
     }
@@ -37,19 +28,7 @@ fn headed(text: &str) -> (char, &str) {
 
 #[test]
 fn headings_are_told(rt: HostRuntime) -> Result<(), Fail> {
-    let rows = [
-        ("# foo", ('1', "foo")),
-        ("###### foo \t", ('6', "foo")),
-        ("####### foo", (' ', "")),
-        ("#5 bolt", (' ', "")),
-        ("## foo ##    ", ('2', "foo")),
-        ("### foo ### b", ('3', "foo ### b")),
-        ("# foo#", ('1', "foo#")),
-        ("#", ('1', "")),
-        ("### ###", ('3', "")),
-        ("a", (' ', "")),
-        ("", (' ', "")),
-    ];
+    let rows = [("## foo ##    ", ('2', "foo")), ("####### foo", (' ', ""))];
     for (text, wanted) in rows {
         assert_eq!(rt; headed(text), wanted, "{text}");
     }
@@ -70,7 +49,6 @@ fn underlines_are_told(rt: HostRuntime) -> Result<(), Fail> {
     let rows = [
         (PARAGRAPH, "=== ", '1'),
         (PARAGRAPH, "-", '2'),
-        (PARAGRAPH, "= =", ' '),
         (Place::Paragraph { has_text: false }, "===", ' '),
         (Place::Beside, "---", ' '),
     ];
@@ -97,15 +75,11 @@ fn fenced(text: &str) -> (char, usize, &str) {
 #[test]
 fn fences_are_told(rt: HostRuntime) -> Result<(), Fail> {
     let rows = [
-        ("```", ('`', 3, "")),
         (
             "~~~~    ruby startline=3 $%@#$",
             ('~', 4, "ruby startline=3 $%@#$"),
         ),
-        ("~~~ aa ``` ~~~", ('~', 3, "aa ``` ~~~")),
         ("``` aa ```", (' ', 0, "")),
-        ("``", (' ', 0, "")),
-        ("", (' ', 0, "")),
     ];
     for (text, wanted) in rows {
         assert_eq!(rt; fenced(text), wanted, "{text}");
@@ -115,13 +89,7 @@ fn fences_are_told(rt: HostRuntime) -> Result<(), Fail> {
 
 #[test]
 fn closing_fences_are_told(rt: HostRuntime) -> Result<(), Fail> {
-    let rows = [
-        (3, "```` ", true),
-        (4, "```", false),
-        (0, "``", false),
-        (0, "``` a", false),
-        (0, "~~~", false),
-    ];
+    let rows = [(3, "```` ", true), (4, "```", false)];
     for (indent, text, closes) in rows {
         assert_eq!(rt; closes_fence('`', 3, indent, text), closes, "{text}");
     }
@@ -145,17 +113,8 @@ fn numbered(place: Place, text: &str) -> (char, u32, usize) {
 fn items_are_told(rt: HostRuntime) -> Result<(), Fail> {
     let rows = [
         (Place::Fresh, "- a", ('-', 1, 0)),
-        (Place::Beside, "*", ('*', 1, 0)),
-        (PARAGRAPH, "*", (' ', 0, 0)),
-        (Place::Fresh, "-a", (' ', 0, 0)),
-        (Place::Fresh, "123456789. ok", ('.', 123_456_789, 9)),
-        (Place::Fresh, "1234567890. not ok", (' ', 0, 0)),
         (Place::Fresh, "003) ok", (')', 3, 3)),
-        (Place::Fresh, "-1. not ok", (' ', 0, 0)),
-        (PARAGRAPH, "14. a", (' ', 0, 0)),
-        (PARAGRAPH, "1. a", ('.', 1, 1)),
-        (Place::Fresh, "1", (' ', 0, 0)),
-        (Place::Fresh, "", (' ', 0, 0)),
+        (PARAGRAPH, "*", (' ', 0, 0)),
     ];
     for (place, text, wanted) in rows {
         assert_eq!(rt; numbered(place, text), wanted, "{text}");
@@ -166,37 +125,18 @@ fn items_are_told(rt: HostRuntime) -> Result<(), Fail> {
 #[test]
 fn html_is_told(rt: HostRuntime) -> Result<(), Fail> {
     let rows = [
-        (Place::Fresh, "<script>", HtmlKind::Verbatim),
         (Place::Fresh, "<PRE", HtmlKind::Verbatim),
         (PARAGRAPH, "<!-- a", HtmlKind::Comment),
         (PARAGRAPH, "<?php", HtmlKind::Instruction),
         (PARAGRAPH, "<!DOCTYPE html>", HtmlKind::Declaration),
         (PARAGRAPH, "<![CDATA[", HtmlKind::Cdata),
         (PARAGRAPH, "<dIV>", HtmlKind::Listed),
-        (PARAGRAPH, "</td/>", HtmlKind::Listed),
-        (PARAGRAPH, "<h1 ", HtmlKind::Listed),
-        (Place::Fresh, "<a href='b' c=\"d\" e=f g>  ", HtmlKind::Lone),
         (Place::Fresh, "<i />", HtmlKind::Lone),
-        (Place::Fresh, "</ins >", HtmlKind::Lone),
-        (Place::Fresh, "<pre-a>", HtmlKind::Lone),
     ];
     for (place, text, kind) in rows {
         assert_eq!(rt; html_block(place, text), Start::Html { kind }, "{text}");
     }
-    let others = [
-        (PARAGRAPH, "<a>"),
-        (Place::Beside, "<a>"),
-        (Place::Fresh, "<a> b"),
-        (Place::Fresh, "<a b=>"),
-        (Place::Fresh, "<a b='c'd>"),
-        (Place::Fresh, "</pre>"),
-        (Place::Fresh, "<pre/>"),
-        (Place::Fresh, "</a b>"),
-        (Place::Fresh, "<divs"),
-        (Place::Fresh, "<33>"),
-        (Place::Fresh, "a"),
-        (Place::Fresh, ""),
-    ];
+    let others = [(Place::Beside, "<a>"), (PARAGRAPH, "<a>")];
     for (place, text) in others {
         assert_eq!(rt; html_block(place, text), Start::Text, "{text}");
     }
