@@ -1,12 +1,13 @@
-# What Jekyll makes of templates: reads lines of JSON, {t, page}, and writes {o}, a text, or {e}, an error.
+# What Jekyll makes of templates over a site: reads lines of JSON, {t, page}, and writes {o}, a text, or {e}, an error.
+# usage: ruby oracle.rb SITE OUTPUT
 ENV["TZ"] = "Etc/GMT-2"
 require "json"
-require "tmpdir"
 require "jekyll"
 Jekyll.logger.log_level = :error
-site = File.join(__dir__, "site")
+site, output = ARGV.map { |name| File.expand_path(name) }
 Dir.chdir(site)
-config = Jekyll.configuration("source" => site, "destination" => File.join(Dir.tmpdir, "templates-out"), "quiet" => true,
+config = Jekyll.configuration("source" => site, "destination" => output, "quiet" => true,
+  "timezone" => "Etc/GMT-2",
   "liquid" => {"error_mode" => "strict"}, "permalink" => "date", "disable_disk_cache" => true)
 $site = Jekyll::Site.new(config)
 $site.reset; $site.read; $site.generate

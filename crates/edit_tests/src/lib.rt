@@ -1,5 +1,5 @@
 //! Random edits of small sites: after each, what a session builds is what a build from nothing gives, and what it renders is what
-//! has to be rendered. And the first fault of a session's files, which needs a session too.
+//! has to be rendered. The edits are drawn, and writes fail between them, so no row of text can say them. And the first fault of a session's files, which needs a session too.
 #![tactic(auto)]
 
 #[cfg(test)]

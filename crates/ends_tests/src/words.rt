@@ -1,4 +1,4 @@
-// Command lines, each with what it orders.
+// Command lines, each with what it orders. How many threads it orders, and the number of a site that is made up, no reply shows.
 use site_base::{Settings, Words};
 use site_words::{Options, Order, UsageKind, WordsError, read_words};
 use std::alloc::Global;
@@ -40,17 +40,6 @@ fn options(jobs: u32, settings: Settings, why: bool) -> Options {
         settings,
         why,
     }
-}
-
-// How many of the lines have another kind of fault than this.
-fn others(alloc: Global, lines: &[&str], kind: UsageKind) -> u32 {
-    let mut others: u32 = 0;
-    for line in lines.iter() {
-        if order_of(alloc, line) != Err(WordsError::Usage(kind)) {
-            others = others.saturating_add(1);
-        }
-    }
-    others
 }
 
 // How many of the lines order something else than this.
@@ -148,114 +137,25 @@ fn makes_a_site(rt: HostRuntime) {
     );
 }
 
+// A line of each kind of fault that words can have.
+const WRONG: &[(&str, UsageKind)] = &[
+    ("builds", UsageKind::Command),
+    ("once --jobs 2", UsageKind::Option),
+    ("make 1 1001", UsageKind::Number),
+];
+
 #[test]
-fn no_command(rt: HostRuntime) {
+fn wrong_lines(rt: HostRuntime) {
     let alloc = rt.alloc();
     assert!(rt;
         read_words(alloc, &Words::new(alloc)) == Err(WordsError::Usage(UsageKind::Missing))
     );
-    let lines = [
-        "",
-        "-",
-        "--",
-        "--jobs",
-        "--help",
-        "help",
-        "Build",
-        "builds",
-        "make1",
-        "--drafts build",
-    ];
-    assert!(rt; others(alloc, lines.as_slice(), UsageKind::Command) == 0);
-}
-
-#[test]
-fn wrong_options(rt: HostRuntime) {
-    let alloc = rt.alloc();
-    let twice = [
-        "build --drafts --drafts",
-        "session --future --why --future",
-        "build --why --why",
-        "build --jobs 2 --jobs 2",
-        "build --jobs=2 --jobs=3",
-        "once --drafts --future --drafts",
-    ];
-    assert!(rt; others(alloc, twice.as_slice(), UsageKind::Option) == 0);
-    let numbers = [
-        "build --jobs",
-        "build --why --jobs",
-        "build --jobs --why",
-        "build --jobs=",
-        "build --jobs ",
-        "build --jobs 0",
-        "build --jobs 65",
-        "build --jobs=065",
-        "build --jobs -1",
-        "build --jobs=-1",
-        "build --jobs ++1",
-        "build --jobs +",
-        "build --jobs 1x",
-        "build --jobs 18446744073709551617",
-        "build --jobs - --why",
-        "build --jobs =4",
-    ];
-    assert!(rt; others(alloc, numbers.as_slice(), UsageKind::Option) == 0);
-    let words = [
-        "build ",
-        "build x",
-        "build -",
-        "build --",
-        "build -- --drafts",
-        "build --drafts --",
-        "build --jobs --",
-        "build --jobs -- 4",
-        "build -j 4",
-        "build --job 4",
-        "build --draft",
-        "build --drafts=true",
-        "build --drafts=",
-        "build --help",
-        "session --version",
-        "build build",
-        "once --jobs 2",
-        "once --jobs=2",
-        "check --why",
-        "check --",
-        "once 1",
-    ];
-    assert!(rt; others(alloc, words.as_slice(), UsageKind::Option) == 0);
-    let hyphens = [
-        "make -1 5",
-        "make 1 -5",
-        "make - 5",
-        "make -- 1 5",
-        "make 1 5 --",
-        "make --drafts 1 5",
-        "make x --why",
-    ];
-    assert!(rt; others(alloc, hyphens.as_slice(), UsageKind::Option) == 0);
-}
-
-#[test]
-fn wrong_numbers(rt: HostRuntime) {
-    let alloc = rt.alloc();
-    let lines = [
-        "make",
-        "make 1",
-        "make 1 2 3",
-        "make  1",
-        "make 1 ",
-        "make 1 0",
-        "make 1 1001",
-        "make 1 +1001",
-        "make x 1",
-        "make 1 x",
-        "make 18446744073709551616 1",
-        "make 1 18446744073709551617",
-        "make + 1",
-        "make 1.0 1",
-    ];
-    assert!(rt; others(alloc, lines.as_slice(), UsageKind::Number) == 0);
+    for (line, kind) in WRONG {
+        assert!(rt;
+            order_of(alloc, line) == Err(WordsError::Usage(*kind)),
+            "at {line}"
+        );
+    }
 }
 
 #[test]

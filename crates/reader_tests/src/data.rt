@@ -1,4 +1,4 @@
-// The values of texts: the examples of RFC 8259, section 13, and of RFC 4180, section 2.
+// Each call over a text or two; tests/data has the rows.
 use data_files::{DataError, Refusal, read_csv, read_data, read_json, read_tsv};
 use front_yaml::YamlFault;
 use site_base::{SitePath, Value, YamlKind, same_code};
@@ -22,89 +22,14 @@ fn is_refused(read: Result<Value, Refusal>) -> bool {
     }
 }
 
-const JSON: &[(&str, &str)] = &[
-    ("\"Hello world!\"", "s12:Hello world!"),
-    ("42", "i42;"),
-    (" [true , null,false]\n", "l3:tnf"),
-    ("-9223372036854775808", "i-9223372036854775808;"),
-    (
-        "{\"Width\": 800, \"Height\": 600, \"Title\": \"View from 15th Floor\", \"IDs\": [116, 943, 234, 38793]}",
-        "h4:s6:Heighti600;s3:IDsl4:i116;i943;i234;i38793;s5:Titles20:View from 15th Floors5:Widthi800;",
-    ),
-    ("{\"a\": 1, \"a\": 2}", "h1:s1:ai2;"),
-    // A number that no value has counts for nothing where its key comes again.
-    ("{\"b\": [1.5], \"a\": {}, \"b\": []}", "h2:s1:ah0:s1:bl0:"),
-    ("\"\\ud834\\udd1e\"", "s4:\u{1d11e}"),
-];
-
 #[test]
-fn reads_json(rt: HostRuntime) {
-    for (text, written) in JSON {
-        assert!(rt; has_code(read_json(rt.alloc(), text), written), "at {text}");
-    }
-}
-
-const REFUSED_JSON: &[&str] = &[
-    "",
-    "1.5",
-    "1e2",
-    "-0",
-    "01",
-    "9223372036854775808",
-    "[1,]",
-    "{\"a\" 1}",
-    "\"\\x\"",
-    "nul",
-    "[37.7668]",
-    "{\"a\": 1, \"a\": 2.5}",
-    "{\"a\": 1e999, \"a\": 2}",
-];
-
-#[test]
-fn refuses_json(rt: HostRuntime) {
-    for text in REFUSED_JSON {
-        assert!(rt; is_refused(read_json(rt.alloc(), text)), "at {text}");
-    }
-}
-
-const TWO_RECORDS: &str =
-    "l2:h3:s3:aaas3:zzzs3:bbbs3:yyys3:cccs3:xxxh3:s3:aaas1:1s3:bbbs0:s3:cccs3:a b";
-
-const TABLES: &[(&str, &str)] = &[
-    ("aaa,bbb,ccc\r\nzzz,yyy,xxx\r\n1,,a b", TWO_RECORDS),
-    (
-        "\"aaa\",cca\r\n\"b\r\nbb\",\"b\"\"b\"\r\n",
-        "l1:h2:s3:aaas5:b\r\nbbs3:ccas3:b\"b",
-    ),
-    ("a,a\n1,2\n", "l1:h1:s1:as1:2"),
-    ("a,b,a\n1,2,3\n", "l1:h2:s1:as1:3s1:bs1:2"),
-    ("", "l0:"),
-    ("a,b\n", "l0:"),
-];
-
-#[test]
-fn reads_tables(rt: HostRuntime) {
-    for (text, written) in TABLES {
-        assert!(rt; has_code(read_csv(rt.alloc(), text), written), "at {text}");
-    }
-}
-
-const TABS: &[(&str, &str)] = &[("aaa\tbbb\tccc\nzzz\tyyy\txxx\n1\t\ta b\n", TWO_RECORDS)];
-
-#[test]
-fn reads_tables_with_tabs(rt: HostRuntime) {
-    for (text, written) in TABS {
-        assert!(rt; has_code(read_tsv(rt.alloc(), text), written), "at {text}");
-    }
-}
-
-const REFUSED_TABLES: &[&str] = &["a,b\n1,2\n3\n", "a,b\n1,2,3\n1,2\n"];
-
-#[test]
-fn refuses_tables(rt: HostRuntime) {
-    for text in REFUSED_TABLES {
-        assert!(rt; is_refused(read_csv(rt.alloc(), text)), "at {text}");
-    }
+fn reads_texts(rt: HostRuntime) {
+    let alloc = rt.alloc();
+    assert!(rt; has_code(read_json(alloc, "{\"b\": [1]}"), "h1:s1:bl1:i1;"));
+    assert!(rt; has_code(read_csv(alloc, "a,b\n1,\n"), "l1:h2:s1:as1:1s1:bs0:"));
+    assert!(rt; has_code(read_tsv(alloc, "a\tb\n1\t\n"), "l1:h2:s1:as1:1s1:bs0:"));
+    assert!(rt; is_refused(read_json(alloc, "1.5")));
+    assert!(rt; is_refused(read_csv(alloc, "a,b\n1\n")));
 }
 
 fn data_at(alloc: Global, path: &str, text: &str) -> Result<Option<Value>, DataError> {

@@ -1,4 +1,5 @@
-//! Scenarios that cross the crates: whole runs over ends in memory, and over real folders.
+//! Whole runs over ends in memory: what rows of text cannot say of them. Calls of the ends that fail, words and moments that the program does not hand on,
+//! how often an end is called, what is rendered, threads that are at work at once, and sites of thousands of items. The other rows of whole sites stand in `tests/`.
 #![tactic(auto)]
 
 mod scenario;
@@ -8,20 +9,16 @@ pub use scenario::{Ends, RunEnd, Scenario};
 pub use scenario_error::ScenarioError;
 
 #[cfg(test)]
-mod faults;
+mod calls;
 #[cfg(test)]
-mod once;
+mod failing;
 #[cfg(test)]
-mod real;
+mod many;
 #[cfg(test)]
-mod rules;
+mod renderers;
+#[cfg(test)]
+mod runs;
 #[cfg(test)]
 mod seen;
 #[cfg(test)]
-mod sessions;
-#[cfg(test)]
-mod sites;
-#[cfg(test)]
-mod trees;
-#[cfg(test)]
-mod worked;
+mod threads;
