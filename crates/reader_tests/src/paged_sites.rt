@@ -1,7 +1,7 @@
 // A site whose posts are spread over pages: its items with their groups and the codes of their paginators, and what a generated page shares with its template.
 ghost use Rattle.site_dates.specs.Moment.{IsMoment};
 
-use site_base::{Settings, SitePath, code, same_code};
+use site_base::{Settings, SitePath, same_code};
 use site_reader::{Site, SiteError, SiteItem, read_site};
 use source_tree::Held;
 use std::alloc::Global;
@@ -160,26 +160,28 @@ fn a_blog_has_a_page_for_each_two_posts(rt: HostRuntime) {
     assert!(rt; builds(rt.alloc(), BLOG, OF_BLOG));
 }
 
-fn shares_with_template(alloc: Global) -> bool {
+// The variables of the template, and those of the page that is generated: but for `url` and `dir` the same.
+const OF_TEMPLATE: &str =
+    "h7:s6:layouts7:defaults4:paths10:index.htmls13:relative_paths10:index.htmls3:urls1:/s3:exts5:.htmls4:names10:index.htmls3:dirs1:/";
+
+const OF_PAGE: &str =
+    "h7:s6:layouts7:defaults4:paths10:index.htmls13:relative_paths10:index.htmls3:urls7:/page2/s3:exts5:.htmls4:names10:index.htmls3:dirs7:/page2/";
+
+fn has_address_of_its_own(alloc: Global) -> bool {
     match site_of(alloc, BLOG) {
         Some(site) => match site.items.as_slice() {
-            [_, _, _, template, made] => is_alike(alloc, template, made),
+            [_, _, _, template, made] => has_own(template, OF_TEMPLATE) && has_own(made, OF_PAGE),
             _ => false,
         },
         None => false,
     }
 }
 
-fn is_alike(alloc: Global, template: &SiteItem, made: &SiteItem) -> bool {
-    match code(alloc, &template.vars) {
-        Ok(code) => {
-            same_code(&made.vars, code.as_slice()) && made.body.as_str() == "{{ paginator.page }}\n"
-        }
-        Err(_) => false,
-    }
+fn has_own(item: &SiteItem, vars: &str) -> bool {
+    same_code(&item.vars, vars.as_bytes()) && item.body.as_str() == "{{ paginator.page }}\n"
 }
 
 #[test]
-fn a_page_that_is_generated_has_the_body_and_the_variables_of_its_template(rt: HostRuntime) {
-    assert!(rt; shares_with_template(rt.alloc()));
+fn a_page_that_is_generated_has_what_its_template_has_but_for_its_address(rt: HostRuntime) {
+    assert!(rt; has_address_of_its_own(rt.alloc()));
 }
