@@ -2,8 +2,9 @@
 ghost use Rattle.std.specs.Prelude.{◌≡◌, None};
 
 use site_base::{ByteSink, Failed};
+use site_script::{Stream, wait_for};
 use std::io;
-use std::io::Write;
+use std::io::{ErrorKind, Write};
 use std::marker::Model;
 
 /// Standard output. It tells nothing of what it took.
@@ -28,6 +29,24 @@ impl<R: Print + Clone + Drop> StdSink<R> {
     {
         StdSink { rt, failures: 0 }
     }
+
+    // Writes all of the bytes, and waits for room where the stream itself does not.
+    fn write_whole(&self, bytes: &[u8]) -> io::Result<()> {
+        let mut left = bytes;
+        for _ in 0..u64::MAX {
+            if left.is_empty() {
+                return Ok(());
+            }
+            match io::writer(&self.rt).write(left) {
+                Ok(0) => return Err(io::Error::from(ErrorKind::WriteZero)),
+                Ok(count) => left = left.get(count..).unwrap_or(&[]),
+                Err(error) if error.kind() == ErrorKind::WouldBlock => wait_for(Stream::Output)?,
+                Err(error) if error.kind() == ErrorKind::Interrupted => {}
+                Err(error) => return Err(error),
+            }
+        }
+        Err(io::Error::from(ErrorKind::TimedOut))
+    }
 }
 
 impl<R: Print + Clone + Drop> ByteSink for StdSink<R> {
@@ -36,7 +55,7 @@ impl<R: Print + Clone + Drop> ByteSink for StdSink<R> {
     ghost failures = { λ s. s };
 
     fn write(&mut self, bytes: &[u8]) -> Result<(), Failed> {
-        if io::writer(&self.rt).write_all(bytes).is_err() {
+        if self.write_whole(bytes).is_err() {
             self.failures = self.failures.saturating_add(1);
             return Err(Failed);
         }

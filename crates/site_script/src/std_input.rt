@@ -2,7 +2,10 @@
 ghost use Rattle.std.specs.Prelude.{◌≡◌, None};
 
 use crate::ahead::Ahead;
+use crate::waiting::{Stream, wait_for};
 use site_base::{ByteSource, Failed};
+use std::io;
+use std::io::ErrorKind;
 use std::marker::Model;
 
 /// Standard input, read in blocks. It tells nothing of its bytes.
@@ -40,10 +43,21 @@ impl<R: Input + Drop> ByteSource for StdInput<R> {
     ghost failures = { λ input. input };
 
     fn read(&mut self, into: &mut [u8]) -> Result<usize, Failed> {
-        if self.ahead.is_empty() && self.ahead.fill(&mut self.rt.reader()).is_err() {
+        if self.ahead.is_empty() && read_block(&self.rt, &mut self.ahead).is_err() {
             self.failures = self.failures.saturating_add(1);
             return Err(Failed);
         }
         Ok(self.ahead.give(into))
     }
+}
+
+// Reads a block, and waits for it where the stream itself does not.
+fn read_block<R: Input>(rt: &R, ahead: &mut Ahead) -> io::Result<()> {
+    for _ in 0..u64::MAX {
+        match ahead.fill(&mut rt.reader()) {
+            Err(error) if error.kind() == ErrorKind::WouldBlock => wait_for(Stream::Input)?,
+            done => return done,
+        }
+    }
+    Err(io::Error::from(ErrorKind::TimedOut))
 }

@@ -1,10 +1,15 @@
 // The lines that a person reads: where something is wrong, the sentence, and its code.
 ghost use Rattle.std.specs.Prelude.{◌≡◌, IfOk};
 ghost use Rattle.std.specs.String.{string_bytes};
-ghost use Rattle.site_sentences.specs.Lines.{FailureSays, FaultSays, ScriptSays, UsageSays, failure_code, fault_code, file_place, input_place, line_of, script_code, usage_code};
+ghost use Rattle.site_sentences.specs.Shown.{shown};
+ghost use Rattle.site_sentences.specs.Lines.{ObstacleSays, FailureSays, FaultSays, ScriptSays, UsageSays, failure_code, fault_code, file_place, input_place, line_of, script_code, usage_code};
 
 use crate::Failure;
-use crate::sentences::{failure_sentence, fault_sentence, script_sentence, usage_sentence};
+use crate::sentences::{
+    failure_sentence, fault_sentence, reason_sentence, script_sentence, usage_sentence,
+};
+use crate::showing::shown;
+use folder_walk::Reason;
 use site_base::SiteFault;
 use site_script::ScriptKind;
 use site_words::UsageKind;
@@ -19,7 +24,8 @@ pub(crate) const COMMANDS: &str =
   sitebuild make NUMBER COUNT                                 builds a made-up site of COUNT posts in memory, twice
 ";
 
-/// The line for a fault: `sitebuild: PATH:LINE: SENTENCE (FK)`, without `:LINE` where the kind has no line.
+/// The line for a fault: `sitebuild: PATH:LINE: SENTENCE (FK)`, without `:LINE` where the kind has no line, and with a question mark for each control character
+/// of the path.
 pub fn fault_line(alloc: Global, fault: &SiteFault) -> Result<String, AllocError>
     ensures { IfOk result (λ text. FaultSays fault.now (string_bytes text)) }
 {
@@ -60,6 +66,25 @@ pub fn failure_line(alloc: Global, failure: Failure) -> Result<String, AllocErro
     line(alloc, "", failure_sentence(failure), code.as_str())
 }
 
+/// The line for a run that was cut short at a place of a folder, when the reason is known.
+pub fn obstacle_line(
+    alloc: Global,
+    failure: Failure,
+    place: &str,
+    reason: Reason,
+) -> Result<String, AllocError>
+    ensures { IfOk result (λ text. ObstacleSays failure place.now (string_bytes text)) }
+{
+    let place = file_place(alloc, place, 0)?;
+    let code = failure_code(alloc, failure)?;
+    line(
+        alloc,
+        place.as_str(),
+        reason_sentence(reason),
+        code.as_str(),
+    )
+}
+
 // A line of its parts; a place that is not empty ends with `: `.
 fn line(alloc: Global, place: &str, sentence: &str, code: &str) -> Result<String, AllocError>
     ensures { IfOk result (λ text. string_bytes text ≡ line_of place.now sentence.now code.now) }
@@ -68,8 +93,9 @@ fn line(alloc: Global, place: &str, sentence: &str, code: &str) -> Result<String
 }
 
 fn file_place(alloc: Global, path: &str, number: u64) -> Result<String, AllocError>
-    ensures { IfOk result (λ text. string_bytes text ≡ file_place path.now number) }
+    ensures { IfOk result (λ text. string_bytes text ≡ file_place (shown path.now) number) }
 {
+    let path = shown(alloc, path)?;
     if number == 0 {
         format!(in alloc; "{path}: ")
     } else {

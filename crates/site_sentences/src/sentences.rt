@@ -3,6 +3,7 @@ ghost use Rattle.std.specs.Prelude.{◌≡◌, true};
 ghost use Rattle.site_sentences.specs.Lines.{is_sentence};
 
 use crate::Failure;
+use folder_walk::Reason;
 use site_base::{FaultKind, YamlKind};
 use site_script::ScriptKind;
 use site_words::UsageKind;
@@ -132,5 +133,34 @@ pub fn failure_sentence(failure: Failure) -> &'static str
         Failure::Input => "standard input cannot be read; look at where it comes from",
         Failure::Sink => "standard output cannot be written; look at where it goes",
         Failure::Memory => "there is too little memory; end other programs, or split the site",
+    }
+}
+
+/// What a call on a folder could not get past.
+pub fn reason_sentence(reason: Reason) -> &'static str
+    ensures { is_sentence result.now ≡ true }
+{
+    match reason {
+        Reason::Unreadable =>
+            "this cannot be read; look at its rights, and at those of the folders around it",
+        Reason::Unwritable =>
+            "this cannot be written or removed; look at its rights and at those of its folder, and build again",
+        Reason::Name =>
+            "this name is no path of a site; rename it, without control characters, and with at most 1,024 bytes in the whole path",
+        Reason::NotUtf8 => "a name in this folder is not UTF-8; rename it",
+        Reason::Crowd =>
+            "there are more than 1,000,000 names in this folder; move some of them elsewhere",
+        Reason::Link =>
+            "this, or a folder around it, is a symbolic link, and nothing is written or removed through one; take the link away",
+        Reason::NoFolder =>
+            "this, or something around it, is no folder where one has to be; move it elsewhere",
+        Reason::Busy =>
+            "another run of sitebuild builds into this folder; wait for its end, or end it",
+        Reason::Git =>
+            "a file with a part .git in its path is not written, since Git would take it for its own; give it another permalink or name",
+        Reason::LongName =>
+            "a part of this path is longer than the file system takes, which is often 255 bytes; give it a shorter permalink or name",
+        Reason::NoRoom =>
+            "there is no room for this file, or it is larger than it may be; make room on the disk, and build again",
     }
 }
