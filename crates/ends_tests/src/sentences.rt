@@ -1,7 +1,8 @@
 // What is said to a person, as rows: the line for each kind of thing that can be wrong.
+use folder_walk::Reason;
 use site_base::{FaultKind, SiteFault, SitePath, YamlKind};
 use site_script::ScriptKind;
-use site_sentences::{Failure, failure_line, fault_line, script_line, usage_lines};
+use site_sentences::{Failure, failure_line, fault_line, obstacle_line, script_line, usage_lines};
 use site_words::UsageKind;
 use std::alloc::Global;
 
@@ -26,6 +27,20 @@ fn is_script_line(alloc: Global, number: u64, kind: ScriptKind, wanted: &str) ->
 
 fn is_failure_line(alloc: Global, failure: Failure, wanted: &str) -> bool {
     match failure_line(alloc, failure) {
+        Ok(text) => text.as_str() == wanted,
+        Err(_) => false,
+    }
+}
+
+// Whether the line for what stopped a call at a place is the wanted one.
+fn is_obstacle_line(
+    alloc: Global,
+    failure: Failure,
+    place: &str,
+    reason: Reason,
+    wanted: &str,
+) -> bool {
+    match obstacle_line(alloc, failure, place, reason) {
         Ok(text) => text.as_str() == wanted,
         Err(_) => false,
     }
@@ -101,6 +116,29 @@ fn runs_that_were_cut_short(rt: HostRuntime) {
             alloc,
             Failure::Input,
             "sitebuild: standard input cannot be read; look at where it comes from (status 5)\n"
+        )
+    );
+}
+
+#[test]
+fn places_that_stopped_a_run(rt: HostRuntime) {
+    let alloc = rt.alloc();
+    assert!(rt;
+        is_obstacle_line(
+            alloc,
+            Failure::Source,
+            "a\tb/\u{9b}31m\u{e9}",
+            Reason::NotUtf8,
+            "sitebuild: a?b/?31m\u{e9}: a name in this folder is not UTF-8; rename it (status 3)\n"
+        )
+    );
+    assert!(rt;
+        is_obstacle_line(
+            alloc,
+            Failure::Writes(3),
+            "_site/a",
+            Reason::Unwritable,
+            "sitebuild: _site/a: this cannot be written or removed; look at its rights and at those of its folder, and build again (status 4, paths: 3)\n"
         )
     );
 }
