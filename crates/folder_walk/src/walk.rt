@@ -26,13 +26,21 @@ pub struct Skips<'a> {
     pub names_at_top: &'a [&'a str],
     /// What is neither a file nor a folder, as a symbolic link.
     pub special: bool,
-    /// Files whose names make no path of a site, when they would be no part of the site by another name either: a part of the path is hidden.
+    /// Files whose names make no path of a site, when they would be no part of the site by another name either: a part of the path is hidden, or the path
+    /// begins with one of `excluded`.
     pub hidden: bool,
+    pub excluded: &'a [&'a str],
 }
 
 impl Skips<'_> {
     fn skips_folder(&self, name: &str, is_top: bool) -> bool {
         holds(self.folders, name) || is_top && holds(self.folders_at_top, name)
+    }
+
+    // Whether a path that is none of a site is passed over.
+    fn skips_path(&self, path: &str) -> bool {
+        self.hidden
+            && (is_hidden(path) || self.excluded.iter().any(|front| path.starts_with(*front)))
     }
 
     fn skips_name(&self, name: &str, is_top: bool) -> bool {
@@ -232,7 +240,7 @@ impl Walk {
             Ok(path) => self.paths.push((path, ()))?,
             Err(PathError::Memory) => return Err(WalkError::Memory),
             Err(_) => {
-                if !(skips.hidden && is_hidden(path.as_str())) {
+                if !skips.skips_path(path.as_str()) {
                     let place = place_of(alloc, root, prefix, name)?;
                     return Err(failed(alloc, place.as_str(), Reason::Name));
                 }
@@ -254,7 +262,7 @@ impl Walk {
         if error.kind() != ErrorKind::InvalidFilename {
             return Err(unreadable(alloc, place, error));
         }
-        if skips.hidden && is_hidden(prefix) {
+        if skips.skips_path(prefix) {
             return Ok(());
         }
         Err(failed(alloc, place, Reason::NotUtf8))

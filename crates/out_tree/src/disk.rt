@@ -21,6 +21,7 @@ const SKIPS: Skips<'static> = Skips {
     names_at_top: &[".git", LEFT],
     special: false,
     hidden: false,
+    excluded: &[],
 };
 
 // The longest place of a file: the destination, a `/`, and the longest path of a site.

@@ -3,9 +3,9 @@
 use folder_walk::Reason;
 use std::alloc::Global;
 use std::fs;
-use std::fs::{File, Metadata, OpenOptions};
+use std::fs::{File, Metadata, OpenOptions, Permissions};
 use std::io::{Error, ErrorKind, Read, Write};
-use std::os::unix::fs::MetadataExt;
+use std::os::unix::fs::{MetadataExt, PermissionsExt, lchown};
 use std::rt::Files;
 
 /// The folder that holds the output, in the current folder.
@@ -21,6 +21,11 @@ const MOST_PARTS: u32 = 1024;
 
 // A folder that is in the way is given up when it has more folders than this.
 const MOST_FOLDERS: usize = 100_000;
+
+// The bits of a mode that let whoever may read, write and run a file do so, and those that let a program run with another's rights (POSIX, chmod).
+const RIGHTS_BITS: u32 = 0o777;
+
+const SPECIAL_BITS: u32 = 0o6000;
 
 // A file of up to so many bytes is written in one call.
 const ONE_CALL: usize = 65_536;
@@ -185,9 +190,12 @@ fn holds<R: Files>(rt: &R, place: &str, bytes: &[u8]) -> bool {
 }
 
 // Whether so many bytes can be written over the file in one call, without a further block of the disk, and are nobody else's: a file with several names may
-// be the copy that somebody keeps.
+// be the copy that somebody keeps. A page is never a program that runs with the rights of its owner.
 fn fits_into(there: &Metadata, len: usize) -> bool {
-    there.nlink() == 1 && len <= ONE_CALL && len as u64 <= there.blocks().saturating_mul(512)
+    there.nlink() == 1
+        && there.mode() & SPECIAL_BITS == 0
+        && len <= ONE_CALL
+        && len as u64 <= there.blocks().saturating_mul(512)
 }
 
 fn write_over(mut file: File, there: &Metadata, bytes: &[u8]) -> Result<(), Reason> {
@@ -210,16 +218,27 @@ fn write_beside<R: Files<File = File>>(
     there: &Metadata,
     bytes: &[u8],
 ) -> Result<(), Reason> {
-    let written = fill_beside(rt, place, there, bytes);
-    if written.is_err() {
+    if let Err(reason) = fill_beside(rt, there, bytes) {
         let _ = fs::remove_file(rt, LEFT_PLACE);
+        return Err(reason);
     }
-    written
+    let Err(error) = fs::rename(rt, LEFT_PLACE, place) else {
+        return Ok(());
+    };
+    let _ = fs::remove_file(rt, LEFT_PLACE);
+    if error.kind() == ErrorKind::CrossesDevices {
+        // The folder of the page is on another disk, onto which nothing can be moved.
+        return write_over(
+            OpenOptions::new().write(true).open(rt, place)?,
+            there,
+            bytes,
+        );
+    }
+    Err(Reason::from(error))
 }
 
 fn fill_beside<R: Files<File = File>>(
     rt: &R,
-    place: &str,
     there: &Metadata,
     bytes: &[u8],
 ) -> Result<(), Reason> {
@@ -232,9 +251,9 @@ fn fill_beside<R: Files<File = File>>(
         Err(error) => return Err(Reason::from(error)),
     };
     file.write_all(bytes)?;
-    // The rights that somebody gave the page stay. Where that cannot be, it has those of a new one.
-    let _ = file.set_permissions(there.permissions());
-    fs::rename(rt, LEFT_PLACE, place)?;
+    // The owner and the rights that somebody gave the page stay. Where that cannot be, it has those of a new one.
+    let _ = lchown(rt, LEFT_PLACE, Some(there.uid()), Some(there.gid()));
+    let _ = file.set_permissions(Permissions::from_mode(there.mode() & RIGHTS_BITS));
     Ok(())
 }
 

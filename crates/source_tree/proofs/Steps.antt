@@ -145,10 +145,10 @@ over_at (Some at) is = (at, refl)
 -- when the sum has passed its limit, another file changes nothing
 nothing_added : (old : Reading) (path bytes : List ℕ) → (at : List ℕ) × (old.over ≡ Some at) → Adds old old path bytes
 nothing_added old path bytes over = record {
-    was_over = λ at is. is;
-    passes = λ none long. absurd (cc (none, over.1));
-    fits = λ none short. absurd (cc (none, over.1));
-  }
+  was_over = λ at is. is;
+  passes = λ none long. absurd (cc (none, over.1));
+  fits = λ none short. absurd (cc (none, over.1));
+}
 
 -- a file was measured, and it is not too long
 pub going-measured : (files : Files) (path : List ℕ) (left : List (List ℕ)) (old : Reading) (count : ℕ) (n : Next files path left old) → is_some old.over ≡ true → count ≡ length (take 16777217 n.file.1) → count ≤ most_bytes → Going files left old

@@ -27,6 +27,14 @@ const SKIPS: Skips<'static> = Skips {
     names_at_top: &[],
     special: true,
     hidden: true,
+    // The folders of Ruby that a site excludes always. They hold the files of others, with any names.
+    excluded: &[
+        "gemfiles/",
+        "vendor/bundle/",
+        "vendor/cache/",
+        "vendor/gems/",
+        "vendor/ruby/",
+    ],
 };
 
 /// The files below the current folder, but for the folder `_site` there and the folders of some tools.
