@@ -2,19 +2,20 @@
 ghost use Rattle.std.specs.Prelude.{◌≡◌, None};
 
 use site_base::{ByteSink, Failed};
-use site_script::{Stream, wait_for};
+use site_script::wait_a_moment;
 use std::io;
 use std::io::{ErrorKind, Write};
 use std::marker::Model;
+use std::rt::Clock;
 
 /// Standard output. It tells nothing of what it took.
 #[derive(Drop)]
-pub struct StdSink<R: Print + Clone + Drop> {
+pub struct StdSink<R: Print + Clock + Clone + Drop> {
     rt: R,
     failures: u64,
 }
 
-impl<R: Print + Clone + Drop> Model for StdSink<R> {
+impl<R: Print + Clock + Clone + Drop> Model for StdSink<R> {
     ghost use Rattle.std.specs.Prelude.{ℕ};
 
     ghost Value = { ℕ };
@@ -22,7 +23,7 @@ impl<R: Print + Clone + Drop> Model for StdSink<R> {
     ghost view = { λ sink. sink.failures };
 }
 
-impl<R: Print + Clone + Drop> StdSink<R> {
+impl<R: Print + Clock + Clone + Drop> StdSink<R> {
     /// Standard output, to which nothing is written yet, so that it has never failed.
     pub fn new(rt: R) -> StdSink<R>
         ensures { result ≡ 0 }
@@ -40,7 +41,7 @@ impl<R: Print + Clone + Drop> StdSink<R> {
             match io::writer(&self.rt).write(left) {
                 Ok(0) => return Err(io::Error::from(ErrorKind::WriteZero)),
                 Ok(count) => left = left.get(count..).unwrap_or(&[]),
-                Err(error) if error.kind() == ErrorKind::WouldBlock => wait_for(Stream::Output)?,
+                Err(error) if error.kind() == ErrorKind::WouldBlock => wait_a_moment(&self.rt),
                 Err(error) if error.kind() == ErrorKind::Interrupted => {}
                 Err(error) => return Err(error),
             }
@@ -49,7 +50,7 @@ impl<R: Print + Clone + Drop> StdSink<R> {
     }
 }
 
-impl<R: Print + Clone + Drop> ByteSink for StdSink<R> {
+impl<R: Print + Clock + Clone + Drop> ByteSink for StdSink<R> {
     ghost taken = { λ s. None };
 
     ghost failures = { λ s. s };

@@ -14,4 +14,4 @@ mod waiting;
 pub use line::{Line, ScriptKind};
 pub use reader::{ScriptReader, next_line};
 pub use std_input::StdInput;
-pub use waiting::{Stream, wait_for};
+pub use waiting::wait_a_moment;

@@ -1,39 +1,13 @@
 // Waiting for a stream that does not wait by itself.
-use libc::net::{POLLIN, POLLOUT, poll};
-use libc::types::pollfd;
-use std::io::{Error, ErrorKind, Result};
+use std::rt::Clock;
+use std::thread;
+use std::time::Duration;
 
-/// What is waited for: bytes of standard input, or room of standard output.
-#[derive(Clone, Copy, Debug, PartialEq, Eq)]
-pub enum Stream {
-    Input,
-    Output,
-}
+// How long a stream is left alone before the next try, in milliseconds: too short for a person to notice, and long enough to cost nothing.
+const PAUSE: u64 = 5;
 
-impl Stream {
-    // The stream's descriptor, and what is asked of it (POSIX, poll).
-    fn asked(self) -> pollfd {
-        match self {
-            Stream::Input => pollfd {
-                fd: 0,
-                events: POLLIN,
-                revents: 0,
-            },
-            Stream::Output => pollfd {
-                fd: 1,
-                events: POLLOUT,
-                revents: 0,
-            },
-        }
-    }
-}
-
-/// Waits until the stream can be read or written, or has an error that the next try tells. Another program that has the same stream may have set it so that
-/// a read or a write fails in place of waiting.
-pub fn wait_for(stream: Stream) -> Result<()> {
-    let mut asked = [stream.asked()];
-    if poll(&mut asked, -1) < 0 {
-        return Err(Error::from(ErrorKind::Other));
-    }
-    Ok(())
+/// Waits a moment, since a read or a write failed that would have waited: another program that has the same stream may have set it so. The library has no call
+/// that waits for a descriptor, so the next try has to tell whether it is ready.
+pub fn wait_a_moment(clock: &impl Clock) {
+    thread::sleep(clock, Duration::from_millis(PAUSE));
 }
