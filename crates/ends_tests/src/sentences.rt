@@ -66,7 +66,7 @@ fn faults_with_and_without_lines(rt: HostRuntime) {
             "_posts/2024-01-02-x.md",
             3,
             FaultKind::UnknownTag,
-            "sitebuild: _posts/2024-01-02-x.md:3: no tag has this name; look at its spelling (F11)\n"
+            "sitebuild: _posts/2024-01-02-x.md:3: no tag has this name; check the spelling (F11)\n"
         )
     );
     assert!(rt;
@@ -75,7 +75,7 @@ fn faults_with_and_without_lines(rt: HostRuntime) {
             "big",
             0,
             FaultKind::FileTooLong,
-            "sitebuild: big: the file is longer than 16 MiB; take it out of the site, and serve it from elsewhere (F2)\n"
+            "sitebuild: big: the file is larger than 16 MiB; take it out of the site, and serve it from elsewhere (F2)\n"
         )
     );
     assert!(rt;
@@ -84,7 +84,7 @@ fn faults_with_and_without_lines(rt: HostRuntime) {
             "a b.html",
             18_446_744_073_709_551_615,
             FaultKind::Yaml(YamlKind::Tab),
-            "sitebuild: a b.html:18446744073709551615: a tab stands where YAML indents; use spaces (F5)\n"
+            "sitebuild: a b.html:18446744073709551615: a tab is used for indentation, where YAML allows only spaces; use spaces (F5)\n"
         )
     );
 }
@@ -108,14 +108,14 @@ fn runs_that_were_cut_short(rt: HostRuntime) {
         is_failure_line(
             alloc,
             Failure::Writes(12),
-            "sitebuild: files of _site could not be written or removed; look at their rights and at the room on the disk, and build again (status 4, paths: 12)\n"
+            "sitebuild: files of _site could not be written or removed; check their permissions and the free space on the disk, and build again (status 4, paths: 12)\n"
         )
     );
     assert!(rt;
         is_failure_line(
             alloc,
             Failure::Input,
-            "sitebuild: standard input cannot be read; look at where it comes from (status 5)\n"
+            "sitebuild: standard input cannot be read; check where it comes from (status 5)\n"
         )
     );
 }
@@ -138,7 +138,7 @@ fn places_that_stopped_a_run(rt: HostRuntime) {
             Failure::Writes(3),
             "_site/a",
             Reason::Unwritable,
-            "sitebuild: _site/a: this cannot be written or removed; look at its rights and at those of its folder, and build again (status 4, paths: 3)\n"
+            "sitebuild: _site/a: this cannot be written or removed; check its permissions and those of its folder, and build again (status 4, paths: 3)\n"
         )
     );
 }
@@ -150,14 +150,14 @@ fn commands_behind_a_wrong_command_line(rt: HostRuntime) {
         begins_usage(
             alloc,
             UsageKind::Command,
-            "sitebuild: the first word is no command; give one of the commands below (usage 2)\n  sitebuild once "
+            "sitebuild: the first word is not a command; give one of the commands below (usage 2)\n  sitebuild once "
         )
     );
     assert!(rt;
         begins_usage(
             alloc,
             UsageKind::Moment,
-            "sitebuild: the clock cannot be read, or is before 1970 or after the year 9999; set it (usage 5)\n"
+            "sitebuild: the clock cannot be read, or is before 1970 or after the year 9999; set the clock (usage 5)\n"
         )
     );
 }

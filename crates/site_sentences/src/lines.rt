@@ -18,9 +18,9 @@ use std::alloc::{AllocError, Global};
 // The commands, as a person is told them.
 pub(crate) const COMMANDS: &str =
     "  sitebuild once    [--drafts] [--future]                     builds the site of this folder into _site
-  sitebuild check   [--drafts] [--future]                     tells its first fault, and writes nothing
-  sitebuild build   [--drafts] [--future] [--jobs N] [--why]  as once; N is from 1 to 64, --why tells why a page was made
-  sitebuild session [--drafts] [--future] [--jobs N] [--why]  does the lines of a script on standard input
+  sitebuild check   [--drafts] [--future]                     reports its first fault, and writes nothing
+  sitebuild build   [--drafts] [--future] [--jobs N] [--why]  like once; N is from 1 to 64, --why says why a page was made
+  sitebuild session [--drafts] [--future] [--jobs N] [--why]  carries out the lines of a script on standard input
   sitebuild make NUMBER COUNT                                 builds a made-up site of COUNT posts in memory, twice
 ";
 
