@@ -22,7 +22,7 @@ pub struct Skips<'a> {
     pub folders: &'a [&'a str],
     /// Folders of these names directly in the folder that is listed.
     pub folders_at_top: &'a [&'a str],
-    /// Whatever has one of these names directly in the folder that is listed.
+    /// Whatever has one of these names, in capital letters or not, directly in the folder that is listed.
     pub names_at_top: &'a [&'a str],
     /// What is neither a file nor a folder, as a symbolic link.
     pub special: bool,
@@ -44,7 +44,11 @@ impl Skips<'_> {
     }
 
     fn skips_name(&self, name: &str, is_top: bool) -> bool {
-        is_top && holds(self.names_at_top, name)
+        is_top
+            && self
+                .names_at_top
+                .iter()
+                .any(|other| name.eq_ignore_ascii_case(*other))
     }
 }
 

@@ -13,12 +13,11 @@ use std::fs::{File, TryLockError};
 use std::io::ErrorKind;
 use std::rt::Files;
 
-// Everything that is no folder counts as a file. What Git keeps in a folder that is published by it, and what a write left that was cut off, are no part of
-// the output.
+// Everything that is no folder counts as a file. What Git keeps in a folder that is published by it is no part of the output.
 const SKIPS: Skips<'static> = Skips {
     folders: &[],
     folders_at_top: &[],
-    names_at_top: &[".git", LEFT],
+    names_at_top: &[".git"],
     special: false,
     hidden: false,
     excluded: &[],
@@ -168,15 +167,16 @@ fn hold<R: Files<File = File>>(
     alloc: Global,
     is_held: bool,
 ) -> Result<Option<File>, WalkError> {
+    if is_missing(rt)
+        && let Err(error) = fs::create_dir(rt, DESTINATION)
+        && error.kind() != ErrorKind::AlreadyExists
+    {
+        return Ok(None);
+    }
     match fs::symlink_metadata(rt, DESTINATION) {
         Ok(there) if there.is_dir() => {}
         Ok(there) if there.is_symlink() => return Err(failed(alloc, Reason::Link)),
         Ok(_) => return Err(failed(alloc, Reason::NoFolder)),
-        Err(error) if error.kind() == ErrorKind::NotFound => {
-            if fs::create_dir(rt, DESTINATION).is_err() {
-                return Ok(None);
-            }
-        }
         Err(_) => return Err(failed(alloc, Reason::Unreadable)),
     }
     if is_held {
@@ -189,6 +189,13 @@ fn hold<R: Files<File = File>>(
         Ok(()) => Ok(Some(folder)),
         Err(TryLockError::WouldBlock) => Err(failed(alloc, Reason::Busy)),
         Err(TryLockError::Error(_)) => Ok(None),
+    }
+}
+
+fn is_missing<R: Files>(rt: &R) -> bool {
+    match fs::symlink_metadata(rt, DESTINATION) {
+        Ok(_) => false,
+        Err(error) => error.kind() == ErrorKind::NotFound,
     }
 }
 

@@ -11,10 +11,8 @@ use std::rt::Files;
 /// The folder that holds the output, in the current folder.
 pub(crate) const DESTINATION: &str = "_site";
 
-/// The name, directly in the destination, of a file that is being written. With its control character it is no path of a site.
-pub(crate) const LEFT: &str = "\u{1}sitebuild";
-
-const LEFT_PLACE: &str = "_site/\u{1}sitebuild";
+/// Where a file is written beside the one that it replaces. With its control character it is no path of a site; this one is allowed in names on FAT too.
+pub(crate) const LEFT: &str = "_site/\u{7f}sitebuild";
 
 // A path has fewer parts than this.
 const MOST_PARTS: u32 = 1024;
@@ -189,13 +187,15 @@ fn holds<R: Files>(rt: &R, place: &str, bytes: &[u8]) -> bool {
     false
 }
 
-// Whether so many bytes can be written over the file in one call, without a further block of the disk, and are nobody else's: a file with several names may
-// be the copy that somebody keeps. A page is never a program that runs with the rights of its owner.
+// Whether so many bytes can be written over the file in one call, without a further block of the disk.
 fn fits_into(there: &Metadata, len: usize) -> bool {
-    there.nlink() == 1
-        && there.mode() & SPECIAL_BITS == 0
-        && len <= ONE_CALL
-        && len as u64 <= there.blocks().saturating_mul(512)
+    is_ours_alone(there) && len <= ONE_CALL && len as u64 <= there.blocks().saturating_mul(512)
+}
+
+// Whether the file may be written over: one with several names may be the copy that somebody keeps, and a page is never a program that runs with the rights of
+// its owner.
+fn is_ours_alone(there: &Metadata) -> bool {
+    there.nlink() == 1 && there.mode() & SPECIAL_BITS == 0
 }
 
 fn write_over(mut file: File, there: &Metadata, bytes: &[u8]) -> Result<(), Reason> {
@@ -219,22 +219,32 @@ fn write_beside<R: Files<File = File>>(
     bytes: &[u8],
 ) -> Result<(), Reason> {
     if let Err(reason) = fill_beside(rt, there, bytes) {
-        let _ = fs::remove_file(rt, LEFT_PLACE);
+        let _ = fs::remove_file(rt, LEFT);
         return Err(reason);
     }
-    let Err(error) = fs::rename(rt, LEFT_PLACE, place) else {
+    let Err(error) = fs::rename(rt, LEFT, place) else {
         return Ok(());
     };
-    let _ = fs::remove_file(rt, LEFT_PLACE);
+    let _ = fs::remove_file(rt, LEFT);
     if error.kind() == ErrorKind::CrossesDevices {
-        // The folder of the page is on another disk, onto which nothing can be moved.
-        return write_over(
-            OpenOptions::new().write(true).open(rt, place)?,
-            there,
-            bytes,
-        );
+        return write_across(rt, place, there, bytes);
     }
     Err(Reason::from(error))
+}
+
+// The folder of the page is on another disk, onto which nothing can be moved: the page is written over, or written anew where its file has other names.
+fn write_across<R: Files<File = File>>(
+    rt: &R,
+    place: &str,
+    there: &Metadata,
+    bytes: &[u8],
+) -> Result<(), Reason> {
+    if is_ours_alone(there) {
+        let file = OpenOptions::new().write(true).open(rt, place)?;
+        return write_over(file, there, bytes);
+    }
+    fs::remove_file(rt, place)?;
+    write_new(rt, place, bytes)
 }
 
 fn fill_beside<R: Files<File = File>>(
@@ -242,17 +252,17 @@ fn fill_beside<R: Files<File = File>>(
     there: &Metadata,
     bytes: &[u8],
 ) -> Result<(), Reason> {
-    let mut file = match create(rt, LEFT_PLACE) {
+    let mut file = match create(rt, LEFT) {
         Ok(file) => file,
         Err(error) if error.kind() == ErrorKind::AlreadyExists => {
-            fs::remove_file(rt, LEFT_PLACE)?;
-            create(rt, LEFT_PLACE)?
+            fs::remove_file(rt, LEFT)?;
+            create(rt, LEFT)?
         }
         Err(error) => return Err(Reason::from(error)),
     };
     file.write_all(bytes)?;
     // The owner and the rights that somebody gave the page stay. Where that cannot be, it has those of a new one.
-    let _ = lchown(rt, LEFT_PLACE, Some(there.uid()), Some(there.gid()));
+    let _ = lchown(rt, LEFT, Some(there.uid()), Some(there.gid()));
     let _ = file.set_permissions(Permissions::from_mode(there.mode() & RIGHTS_BITS));
     Ok(())
 }
