@@ -1,0 +1,1 @@
+def last_build(builder, version): return b""
