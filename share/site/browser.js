@@ -11,6 +11,10 @@
     return made;
   }
 
+  function sentence(text) {
+    return `${text.charAt(0).toUpperCase()}${text.slice(1)}.`;
+  }
+
   function hide() {
     panel?.remove();
     panel = null;
@@ -27,16 +31,16 @@
     style.href = new URL("fault.css", own);
     const box = document.createElement("section");
     box.setAttribute("role", "alert");
-    const [wrong, remedy] = fault.sentence.split("; ", 2);
-    box.append(element("h2", wrong.charAt(0).toUpperCase() + wrong.slice(1) + "."));
+    // A sentence says what is wrong, and then what to do.
+    const [wrong, ...remedies] = fault.sentence.split("; ");
+    box.append(element("h2", sentence(wrong)));
     if (fault.file) {
       box.append(element("p", fault.line ? `${fault.file}, line ${fault.line}` : fault.file));
     }
     if (fault.text) {
       box.append(element("pre", fault.text));
     }
-    const last = "This page is as it was built last.";
-    box.append(element("p", remedy ? `${remedy.charAt(0).toUpperCase()}${remedy.slice(1)}. ${last}` : last));
+    box.append(element("p", [...remedies.map(sentence), "This page is as it was built last."].join(" ")));
     tree.append(style, box);
     document.documentElement.append(panel);
   }

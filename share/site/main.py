@@ -19,7 +19,7 @@ def run(program, arguments):
         return 0 if word else 2
     if word not in words.WORDS:
         raise words.Refused(f"there is no word {words.shown(word)}; `site --help` lists them", 2)
-    if importlib.util.find_spec(word) is None:
+    if not words.is_here(word):
         raise words.Refused(f"the part {word}.py is missing; run `bash install` again in a clone of sitebuild")
     return importlib.import_module(word).main(arguments[1:], program)
 

@@ -22,6 +22,8 @@ def main(arguments: list[str], program: str) -> int:
     except OSError as error:
         raise words.Refused(f"{words.shown(os.fspath(error.filename))} cannot be written: {error.strerror}") from error
     name = words.shown(os.fspath(folder))
+    # As a word of a command line, where a dash in front would make it an option.
+    name = f"./{name}" if name.startswith("-") else name
     print(f"{name}: a new site of {count} files")
     print(f"  look at it:  site serve {name}")
     print(f"  write:       in {name}/_posts")

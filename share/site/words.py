@@ -2,6 +2,7 @@
 from __future__ import annotations
 
 import argparse
+import importlib.util
 from dataclasses import dataclass
 from pathlib import Path
 
@@ -45,11 +46,17 @@ WORDS = {
 
 def listing() -> str:
     """All words, with an example each."""
-    lines = ["site: writes, builds and shows Jekyll sites with sitebuild", ""]
+    lines = ["site: begins, builds and shows Jekyll sites with sitebuild", ""]
     for name, word in WORDS.items():
-        lines += [f"  site {name} {word.usage}", f"      {word.does}", f"      {word.example}"]
+        if is_here(name):
+            lines += [f"  site {name} {word.usage}", f"      {word.does}", f"      {word.example}"]
     lines += ["", "Without FOLDER a word takes the current folder. `site WORD --help` tells more."]
     return "\n".join(lines)
+
+
+def is_here(word: str) -> bool:
+    """Whether this copy of the script has the part that does a word."""
+    return importlib.util.find_spec(word) is not None
 
 
 def shown(text: str) -> str:
