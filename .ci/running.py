@@ -103,14 +103,14 @@ def is_alive(number: int) -> bool:
 class Running:
     """`site serve` or `site watch`, while it runs."""
 
-    def __init__(self, word: str, folder, *options, cwd: Path = ROOT, env: dict | None = None, before: tuple = ()):
+    def __init__(self, word: str, folder, *options, cwd: Path = ROOT, env: dict | None = None, before: tuple = (), site: Path = SITE):
         self.port = 0
         if word == "serve" and "--port" not in options:
             self.port = free_port()
             options = (*options, "--port", str(self.port))
         self.lines: list[str] = []
         self.process = subprocess.Popen(
-            [*before, SITE, word, folder, *options], cwd=cwd, env=env, stdin=subprocess.DEVNULL, stdout=subprocess.PIPE, stderr=subprocess.STDOUT, text=True
+            [*before, site, word, folder, *options], cwd=cwd, env=env, stdin=subprocess.DEVNULL, stdout=subprocess.PIPE, stderr=subprocess.STDOUT, text=True
         )
         self.reader = threading.Thread(target=lambda: self.lines.extend(iter(self.process.stdout.readline, "")), daemon=True)
         self.reader.start()

@@ -49,6 +49,7 @@ class Builder:
         self.on_configuration: Callable[[], None] = lambda: None
         self.session: Optional[Session] = None
         self.moment = 0
+        self.making_sure = False
         self.next_scan = 0.0
         # Which folders they are, to tell them from others of these names.
         self.place = mark(folder)
@@ -69,8 +70,11 @@ class Builder:
 
     def run(self) -> None:
         """Builds the site, and then after each save, until the folder has gone."""
-        for line in beside.notes(self.folder, self.program) + beside.styles(self.folder, self.program):
+        for line in beside.notes(self.folder, self.program):
             say(line)
+        self.make_styles()
+        # The first scan finds what that has written.
+        self.take_now()
         self.begin_session()
         while True:
             others = [self.session] if self.session else []
@@ -103,14 +107,21 @@ class Builder:
             say(self.watch.says)
             return Changes(unclear=True)
 
+    def take_now(self) -> Changes:
+        """What has happened up to now, also where that has to be looked for."""
+        return self.take() if self.watch.wait(0) else Changes()
+
+    def make_styles(self) -> None:
+        for line in beside.styles(self.folder, self.program):
+            say(line)
+
     def follow(self, changes: Changes) -> None:
         """Does what changes ask for."""
         changes.paths = {path for path in changes.paths if not is_editors_own(path)}
-        if any(path.endswith(beside.STYLES) for path in changes.paths):
-            for line in beside.styles(self.folder, self.program):
-                say(line)
-            # What that has written is built with what was saved.
-            changes.add(self.take())
+        if changes.unclear or any(path.endswith(beside.STYLES) for path in changes.paths):
+            # What this writes is built with what was saved.
+            self.make_styles()
+            changes.add(self.take_now())
         self.saved = set(changes.paths)
         if changes.output and mark(self.folder, OUTPUT) != self.output:
             self.begin_again("_site was removed or replaced by another program")
@@ -120,7 +131,9 @@ class Builder:
     def make_sure(self) -> None:
         """Scans, in case something was missed. The moment stays, so that nothing changes but for what was missed."""
         self.next_scan = time.monotonic() + AFTER_ALL
+        self.making_sure = True
         self.attempt(lambda: self.session.scan(), Changes(unclear=True), self.moment)
+        self.making_sure = False
 
     def attempt(self, update: Callable[[], Optional[Failed]], changes: Changes, moment: Optional[int] = None) -> None:
         """Builds after an update of what the session holds."""
@@ -218,8 +231,8 @@ class Builder:
         return explain(self.program, self.folder, self.options, failed)
 
     def tell(self, changed: bool, fault: Optional[Fault]) -> None:
-        """Tells those who are served, and says a fault once."""
-        if fault and fault != self.status.fault:
+        """Tells those who are served, and says a fault: after each save, as long as it is there."""
+        if fault and not (self.making_sure and fault == self.status.fault):
             say(fault.told())
             if fault.text:
                 say(f"    {shown(fault.text.strip())}")

@@ -169,6 +169,8 @@ class Pages:
             return answer
         if number is not None:
             os.close(number)
+        if self.output.is_symlink():
+            why = "_site is a link, and no link is followed."
         built = self.output.is_dir()
         title = "No page is here" if built else "Nothing is built yet"
         text = self.empty.substitute(title=title, text=html.escape(why or (NO_PAGE if built else NO_BUILD)))

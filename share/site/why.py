@@ -114,7 +114,10 @@ def try_edits(program: str, site: Path, path: str) -> list[Edit]:
     if data is None:
         raise words.Refused(f"{words.shown(path)} is no file of the site {words.shown(os.fspath(site))}")
     with tempfile.TemporaryDirectory(prefix="site-why-") as room:
-        copy_sources(site, Path(room))
+        try:
+            copy_sources(site, Path(room))
+        except (OSError, LeftToScan) as error:
+            raise words.Refused(f"a file of the site cannot be copied, so `site check` has to be clean first ({error or 'too long'})") from error
         try:
             with closing(Session(program, Path(room), [])) as session:
                 failed = session.scan()

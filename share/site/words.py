@@ -83,15 +83,18 @@ def number(least: int, most: int):
 
 
 def a_folder(text: str) -> Path:
-    path = Path(text)
+    try:
+        path = Path(text).resolve(strict=True)
+    except OSError as error:
+        raise argparse.ArgumentTypeError(f"there is no folder {shown(text)} ({error.strerror})") from error
     if not path.is_dir():
-        raise argparse.ArgumentTypeError(f"there is no folder {shown(text)}")
-    return path.resolve()
+        raise argparse.ArgumentTypeError(f"{shown(text)} is no folder")
+    return path
 
 
 def add_site(of: argparse.ArgumentParser, jobs: bool) -> None:
     """The folder of a site, and the options that are passed on to the program."""
-    of.add_argument("folder", nargs="?", default=Path.cwd(), type=a_folder, metavar="FOLDER", help="the folder of the site")
+    of.add_argument("folder", nargs="?", default=".", type=a_folder, metavar="FOLDER", help="the folder of the site")
     of.add_argument("--drafts", action="store_true", help="builds the drafts too")
     of.add_argument("--future", action="store_true", help="builds what has a later date too")
     if jobs:
