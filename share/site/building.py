@@ -24,6 +24,8 @@ AFTER_SAVES = 10.0
 AFTER_ALL = 300.0
 # So often it is seen whether the folder is still there: nothing tells when it goes, as long as the program is in it.
 BETWEEN_CHECKS = 2.0
+# A program that ends by itself so soon after it was begun is likely to do so again.
+SOON = 2.0
 # What editors write beside a file while they have it open.
 EDITORS_OWN = (".swp", ".swo", ".swx", "~")
 
@@ -51,6 +53,7 @@ class Builder:
         self.moment = 0
         self.making_sure = False
         self.next_scan = 0.0
+        self.begun = 0.0
         # Which folders they are, to tell them from others of these names.
         self.place = mark(folder)
         self.output = mark(folder, OUTPUT)
@@ -83,8 +86,8 @@ class Builder:
                 raise Refused(f"the folder is not there any more: {shown(os.fspath(self.folder))}")
             if noticed:
                 self.follow(self.gather())
-            elif self.session and self.session.process.poll() is not None:
-                self.begin_again(self.session.how_it_ended())
+            elif self.session and self.session.has_ended():
+                self.replace_ended(self.session.how_it_ended())
             elif time.monotonic() >= self.next_scan:
                 self.make_sure()
 
@@ -149,6 +152,19 @@ class Builder:
 
     # ---- the session
 
+    def replace_ended(self, why: str) -> None:
+        """Begins anew after the program has ended by itself; not again and again, if it always does so."""
+        if time.monotonic() - self.begun > SOON:
+            self.begin_again(why)
+        else:
+            self.give_up(why)
+
+    def give_up(self, why: str) -> None:
+        """Goes on without a session until something is saved."""
+        self.end_session()
+        self.next_scan = time.monotonic() + AFTER_ALL
+        self.tell(False, Fault(f"{why}; it is begun anew after the next save"))
+
     def begin_again(self, why: str) -> None:
         say(f"{why}; it is built anew, whole")
         self.end_session()
@@ -157,15 +173,13 @@ class Builder:
 
     def begin_session(self) -> None:
         """A new session, which builds all of the site. Where it ends at once, the next save tries again."""
+        self.begun = time.monotonic()
         try:
             self.session = Session(self.program, self.folder, self.options)
             self.next_scan = time.monotonic() + AFTER_ALL
             self.build(self.session.scan)
         except Ended as ended:
-            self.end_session()
-            self.tell(False, Fault(str(ended)))
-            self.next_scan = time.monotonic() + AFTER_ALL
-            say("it is tried again after the next save")
+            self.give_up(str(ended))
 
     def end_session(self) -> None:
         if self.session:

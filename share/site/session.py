@@ -3,6 +3,7 @@ from __future__ import annotations
 
 import errno
 import os
+import select
 import stat
 import subprocess
 from dataclasses import dataclass, field
@@ -67,6 +68,10 @@ class Session:
         """Between replies, this can be read when the program has ended."""
         return self.process.stdout.fileno()
 
+    def has_ended(self) -> bool:
+        """Whether the program has ended, or has said something that it was not asked: either way it is of no more use."""
+        return bool(select.select([self], [], [], 0)[0])
+
     def scan(self) -> Optional[Failed]:
         """Reads the whole folder; nothing where that is done."""
         reply = self.ask(b"scan\n")
@@ -124,7 +129,7 @@ class Session:
         try:
             status = self.process.wait(PATIENCE)
         except subprocess.TimeoutExpired:
-            return "the program has closed its output"
+            return "the program has said something unasked"
         said = self.process.stderr.read().decode(errors="replace").strip().splitlines()
         if said:
             return f"the program has ended: {shown(said[0])}"
