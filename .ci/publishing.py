@@ -127,7 +127,7 @@ def at_each_push(room: Path) -> None:
     type_in(f'git init --quiet -b main && git remote add origin "{remote}"', site)
 
     def publish(status: int) -> None:
-        # A push is done also where the hook fails; what is shown stays as it was then.
+        # A push is done even if the hook fails. What is shown stays as it was then.
         type_in("git add --all && git commit --quiet -m edit && git push --quiet origin main", site, WEB=str(web))
         run("build", site, status=status)
 

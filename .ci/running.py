@@ -29,7 +29,7 @@ def expect(holds, what: str) -> None:
 
 
 def until(condition, what: str, seconds: float = PATIENCE):
-    """Waits for a condition to hold; what it comes to."""
+    """Waits for a condition to hold, and returns its value."""
     end = time.monotonic() + seconds
     while True:
         value = condition()

@@ -111,7 +111,7 @@ class Builder:
             return Changes(unclear=True)
 
     def take_now(self) -> Changes:
-        """What has happened up to now, also where that has to be looked for."""
+        """What has happened up to now, even if that takes a look at the folder."""
         return self.take() if self.watch.wait(0) else Changes()
 
     def make_styles(self) -> None:
@@ -163,16 +163,16 @@ class Builder:
         """Goes on without a session until something is saved."""
         self.end_session()
         self.next_scan = time.monotonic() + AFTER_ALL
-        self.tell(False, Fault(f"{why}; it is begun anew after the next save"))
+        self.tell(False, Fault(f"{why}; trying again after the next save"))
 
     def begin_again(self, why: str) -> None:
-        say(f"{why}; it is built anew, whole")
+        say(f"{why}; building the whole site again")
         self.end_session()
         self.on_configuration()
         self.begin_session()
 
     def begin_session(self) -> None:
-        """A new session, which builds all of the site. Where it ends at once, the next save tries again."""
+        """Starts a new session, which builds the whole site. If it ends at once, the next save tries again."""
         self.begun = time.monotonic()
         try:
             self.session = Session(self.program, self.folder, self.options)
@@ -187,7 +187,7 @@ class Builder:
         self.session = None
 
     def update(self, changes: Changes) -> Optional[Failed]:
-        """Gives the session what was saved: file by file where lines can take it, and by a scan where not."""
+        """Gives the session what was saved: file by file if lines can take it, and by a scan if not."""
         if self.session.scanned and not changes.unclear and len(changes.paths) <= MOST_PUTS:
             try:
                 self.put(changes.paths)

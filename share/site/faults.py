@@ -58,7 +58,7 @@ def explain(program: str, folder: Path, options: list[str], failed: Failed) -> F
 
 
 def read_sentence(said: str, path: str) -> Optional[tuple[str, str, int]]:
-    """The sentence, the code and the line of what `check` says of a file, or of the folder where the path is empty."""
+    """The sentence, the code and the line of what `check` says of a file, or of the folder if the path is empty."""
     if not said.startswith(FRONT):
         return None
     rest, line = said[len(FRONT) :], 0

@@ -44,7 +44,7 @@ class Server(ThreadingHTTPServer):
         self.places = threading.BoundedSemaphore(MOST_CONNECTIONS)
 
     def configure(self) -> None:
-        """Reads where the site is to be found. Where the configuration cannot be read, it stays where it was."""
+        """Reads the address of the site. If the configuration cannot be read, the address stays as it was."""
         before, self.pages.settings = self.pages.settings, read_settings(self.builder.program, self.builder.folder) or self.pages.settings
         if not self.told or before.baseurl != self.pages.settings.baseurl:
             self.told = True

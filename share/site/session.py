@@ -73,7 +73,7 @@ class Session:
         return bool(select.select([self], [], [], 0)[0])
 
     def scan(self) -> Optional[Failed]:
-        """Reads the whole folder; nothing where that is done."""
+        """Reads the whole folder. Returns nothing if that is done."""
         reply = self.ask(b"scan\n")
         self.scanned = reply.startswith("scanned ")
         return None if self.scanned else Failed(reply)
@@ -85,7 +85,7 @@ class Session:
         self.done(b"delete %s\n" % path.encode())
 
     def build(self, moment: int) -> Union[Built, Failed]:
-        """Makes `_site` what the files stand for. A session without files would empty it, so a scan has to come first."""
+        """Makes `_site` equal to what the files say. A session without files would empty it, so a scan has to be done first."""
         if not self.scanned:
             raise RuntimeError("a build is asked for before a scan was done")
         self.done(b"time %d\n" % moment)
@@ -173,7 +173,7 @@ def can_be_told(path: str) -> bool:
 
 
 def read_source(folder: Path, path: str) -> Optional[bytes]:
-    """The bytes of a file of the site; nothing where a scan would find no file there. Never waits, as a fifo would let it."""
+    """The bytes of a file of the site; nothing if a scan would find no file there. Never waits, as opening a fifo would."""
     try:
         number = os.open(folder / path, os.O_RDONLY | os.O_NOFOLLOW | os.O_NONBLOCK | os.O_CLOEXEC)
     except OSError as error:

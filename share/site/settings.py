@@ -24,13 +24,13 @@ layout: null
 
 @dataclass(frozen=True)
 class Settings:
-    # Without a `/` at the end; `baseurl` has one in front, where it is not empty.
+    # Without a `/` at the end. `baseurl` begins with one unless it is empty.
     url: str = ""
     baseurl: str = ""
 
 
 def read_settings(program: str, folder: Path) -> Optional[Settings]:
-    """Nothing where the configuration cannot be read."""
+    """Returns nothing if the configuration cannot be read."""
     try:
         configuration = read_source(folder, CONFIGURATION)
     except LeftToScan:

@@ -1,4 +1,4 @@
-"""What a build has come to, as far as those who are served have to know it."""
+"""The result of the last build, as far as the server has to know it."""
 from __future__ import annotations
 
 import threading

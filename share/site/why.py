@@ -160,7 +160,7 @@ def copy_sources(site: Path, room: Path) -> None:
 
 def copy_file(site: Path, room: Path, path: str) -> None:
     try:
-        # Nothing writes there, so a second name will do, where both are on one disk.
+        # Nothing writes to it, so a second name will do if both are on one disk.
         os.link(site / path, room / path, follow_symlinks=False)
     except OSError:
         data = read_source(site, path)

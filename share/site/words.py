@@ -26,18 +26,18 @@ class Word:
 
 
 WORDS = {
-    "new": Word("FOLDER", "begins a site in a new folder, with posts, pages, layouts and a style", "site new my-blog"),
+    "new": Word("FOLDER", "starts a new site, with posts, pages, layouts and a style", "site new my-blog"),
     "serve": Word(
         "[FOLDER] [--port N] [--drafts] [--future] [--jobs N]",
-        "builds a site after each save, and shows it in the browser, which reloads by itself",
+        "builds a site after each save and shows it in the browser, which reloads by itself",
         "site serve my-blog",
     ),
     "watch": Word("[FOLDER] [--drafts] [--future] [--jobs N]", "builds a site after each save", "site watch my-blog"),
-    "check": Word("[FOLDER] [--drafts] [--future]", "tells the first fault of a site, and writes nothing", "site check my-blog"),
+    "check": Word("[FOLDER] [--drafts] [--future]", "reports the first fault of a site, and writes nothing", "site check my-blog"),
     "build": Word("[FOLDER] [--drafts] [--future] [--jobs N]", "builds a site into its folder _site", "site build my-blog --jobs 4"),
     "why": Word(
         "FILE [--to PAGE]",
-        "draws which pages an edit of a file touches, and by what they read of it",
+        "shows which pages an edit of a file touches, and why",
         "site why my-blog/_data/menu.yml",
     ),
     "adopt": Word("[FOLDER]", "looks through a site that was written for Jekyll", "site adopt my-jekyll-site"),
@@ -46,11 +46,11 @@ WORDS = {
 
 def listing() -> str:
     """All words, with an example each."""
-    lines = ["site: begins, builds and shows Jekyll sites with sitebuild", ""]
+    lines = ["site: starts, builds and shows Jekyll sites, with sitebuild", ""]
     for name, word in WORDS.items():
         if is_here(name):
             lines += [f"  site {name} {word.usage}", f"      {word.does}", f"      {word.example}"]
-    lines += ["", "Without FOLDER a word takes the current folder. `site WORD --help` tells more."]
+    lines += ["", "Without FOLDER, the current folder is used. `site WORD --help` says more."]
     return "\n".join(lines)
 
 
