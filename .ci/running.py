@@ -161,11 +161,13 @@ class Running:
             until(lambda: is_free(self.port), "its port is free")
         self.reader.join()
 
-    def get(self, path: str, method: str = "GET", host: str = "") -> tuple[int, dict, bytes]:
+    def get(self, path: str, method: str = "GET", host: str = "", **headers: str) -> tuple[int, dict, bytes]:
         connection = http.client.HTTPConnection("127.0.0.1", self.port, timeout=PATIENCE)
         try:
             connection.putrequest(method, path, skip_host=True)
             connection.putheader("Host", host or f"127.0.0.1:{self.port}")
+            for name, value in headers.items():
+                connection.putheader(name, value)
             connection.endheaders()
             reply = connection.getresponse()
             return reply.status, dict(reply.getheaders()), reply.read()
