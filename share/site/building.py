@@ -26,7 +26,6 @@ AFTER_ALL = 300.0
 BETWEEN_CHECKS = 2.0
 # A program that ends by itself so soon after it was begun is likely to do so again.
 SOON = 2.0
-# What editors write beside a file while they have it open.
 EDITORS_OWN = (".swp", ".swo", ".swx", "~")
 
 
@@ -35,8 +34,16 @@ def say(line: str) -> None:
 
 
 def is_editors_own(path: str) -> bool:
+    """Whether an editor has this file beside another, while that is open."""
     name = path.rsplit("/", 1)[-1]
     return name.endswith(EDITORS_OWN) or name.startswith(".#") or name == "4913"
+
+
+def names_in(folder: Path) -> set[str]:
+    try:
+        return set(os.listdir(folder))
+    except OSError:
+        return set()
 
 
 class Builder:
@@ -57,6 +64,8 @@ class Builder:
         # Which folders they are, to tell them from others of these names.
         self.place = mark(folder)
         self.output = mark(folder, OUTPUT)
+        # The names in `_site` itself after the last build.
+        self.names: set[str] = set()
         # The last build that rendered something, for those who ask why.
         self.last: Optional[Built] = None
         self.saved: set[str] = set()
@@ -88,6 +97,8 @@ class Builder:
                 self.follow(self.gather())
             elif self.session and self.session.has_ended():
                 self.replace_ended(self.session.how_it_ended())
+            elif self.loss():
+                self.begin_again(self.loss())
             elif time.monotonic() >= self.next_scan:
                 self.make_sure()
 
@@ -126,8 +137,8 @@ class Builder:
             self.make_styles()
             changes.add(self.take_now())
         self.saved = set(changes.paths)
-        if changes.output and mark(self.folder, OUTPUT) != self.output:
-            self.begin_again("_site was removed or replaced by another program")
+        if self.loss():
+            self.begin_again(self.loss())
         elif changes.paths or changes.unclear:
             self.attempt(lambda: self.update(changes), changes)
 
@@ -168,12 +179,12 @@ class Builder:
     def begin_again(self, why: str) -> None:
         say(f"{why}; building the whole site again")
         self.end_session()
-        self.on_configuration()
         self.begin_session()
 
     def begin_session(self) -> None:
         """Starts a new session, which builds the whole site. If it ends at once, the next save tries again."""
         self.begun = time.monotonic()
+        self.on_configuration()
         try:
             self.session = Session(self.program, self.folder, self.options)
             self.next_scan = time.monotonic() + AFTER_ALL
@@ -182,6 +193,7 @@ class Builder:
             self.give_up(str(ended))
 
     def end_session(self) -> None:
+        self.names = set()
         if self.session:
             self.session.close()
         self.session = None
@@ -220,26 +232,42 @@ class Builder:
         if failed:
             self.tell(False, self.explain(failed))
             return
-        self.moment = int(time.time()) if moment is None else moment
+        self.moment = moment or int(time.time())
+        # A build makes `_site` if it is not there, but puts no other in its place: that somebody else has done.
+        before = mark(self.folder, OUTPUT)
         self.status.begin()
-        changed, fault = False, self.status.fault
         try:
             outcome = self.session.build(self.moment)
-            changed, fault = self.outcome(outcome)
         finally:
-            self.output = mark(self.folder, OUTPUT)
-            self.tell(changed, fault)
-
-    def outcome(self, outcome) -> tuple[bool, Optional[Fault]]:
-        """Whether a build changed `_site`, and the fault that it found."""
+            self.status.done()
+            self.output = before or mark(self.folder, OUTPUT)
         if isinstance(outcome, Failed):
-            return bool(outcome.marked), self.explain(outcome)
-        if outcome.whys:
-            self.last = outcome
-        changed = outcome.written + outcome.removed > 0
+            self.tell(bool(outcome.marked), self.explain(outcome))
+        else:
+            self.note_names(outcome)
+            self.tell_built(outcome)
+
+    def note_names(self, built: Built) -> None:
+        """Notes what has to be in `_site` from now on: also what has gone, if the build has not removed as much."""
+        names = names_in(self.folder / OUTPUT)
+        gone = self.names - names
+        self.names = names if len(gone) <= built.removed else names | gone
+
+    def loss(self) -> str:
+        """What another program has taken away from `_site`, if anything."""
+        if mark(self.folder, OUTPUT) != self.output:
+            return "_site was removed or replaced by another program"
+        if self.names - names_in(self.folder / OUTPUT):
+            return "files in _site were removed by another program"
+        return ""
+
+    def tell_built(self, built: Built) -> None:
+        if built.whys:
+            self.last = built
+        changed = built.written + built.removed > 0
         if changed or self.status.fault or self.status.count == 0:
-            say(f"built: {outcome.written} written, {outcome.removed} removed")
-        return changed, None
+            say(f"built: {built.written} written, {built.removed} removed")
+        self.tell(changed, None)
 
     def explain(self, failed: Failed) -> Fault:
         return explain(self.program, self.folder, self.options, failed)

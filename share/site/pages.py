@@ -96,7 +96,7 @@ def open_below(folder: Path, segments: list[bytes]) -> Optional[int]:
     try:
         number = os.open(folder, os.O_RDONLY | os.O_DIRECTORY | os.O_NOFOLLOW | os.O_CLOEXEC)
         for segment in segments:
-            # A fifo would else be waited for.
+            # Opening a fifo would otherwise wait.
             inner = os.open(segment, os.O_RDONLY | os.O_NOFOLLOW | os.O_NONBLOCK | os.O_CLOEXEC, dir_fd=number)
             os.close(number)
             number = inner
@@ -161,7 +161,7 @@ class Pages:
         return kind == "file"
 
     def missing(self, host: str, version: str, why: str = "") -> Answer:
-        """The site's own page for what it does not have, else one that says so."""
+        """The site's own page for what it does not have, or one that says so."""
         number = None if why else open_below(self.output, [b"404.html"])
         if number is not None and kind_of(number) == "file":
             answer = self.read(number, "404.html", host, version)

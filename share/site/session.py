@@ -51,7 +51,7 @@ class Session:
 
     def __init__(self, program: str, folder: Path, options: list[str]):
         try:
-            # In a group of its own: Ctrl-C in a terminal would else end it in the middle of a page.
+            # In a group of its own: otherwise Ctrl-C in a terminal would end it in the middle of a page.
             self.process = subprocess.Popen(
                 [program, "session", "--why", *options],
                 cwd=folder,
