@@ -136,7 +136,8 @@ class Builder:
             # What this writes is built with what was saved.
             self.make_styles()
             changes.add(self.take_now())
-        self.saved = set(changes.paths)
+        # Many editors save by a file of another name, which has gone by now.
+        self.saved = {path for path in changes.paths if os.path.lexists(self.folder / path)} or changes.paths
         if self.loss():
             self.begin_again(self.loss())
         elif changes.paths or changes.unclear:
