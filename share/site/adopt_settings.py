@@ -1,0 +1,246 @@
+"""What `site adopt` does to `_config.yml`. What must not come out is looked after first."""
+from __future__ import annotations
+
+import datetime
+import os
+import re
+from typing import Optional
+
+from adoption import Adoption
+from kept_back import Replaced, Rules, is_glob, lists_of_paths, shortened
+from kept_back import pattern as fnmatch
+from scopes import mend as mend_scopes
+from settings import Settings
+from site_files import OUTPUT, Fault, list_files, read_text, read_values, write_text
+from words import Refused, shown
+
+CONFIG = "_config.yml"
+OFFSET = re.compile(r"(?:Etc/)?UTC|Z|[+-]\d\d:?\d\d")
+BRACKETS = "a list or mapping in brackets"
+# Folders that Jekyll reads under another name, and the names that the program knows.
+FOLDERS = {"layouts_dir": "_layouts", "includes_dir": "_includes", "data_dir": "_data"}
+
+
+def adopt_configuration(adoption: Adoption) -> dict:
+    """Mends the configuration; what it says in the end."""
+    find_configuration(adoption)
+    path = adoption.folder / CONFIG
+    before = read_text(path) if path.is_file() else ""
+    text, config = readable(adoption, before)
+    settings = Settings(text)
+    refuse_other_source(config)
+    rename_folders(adoption, settings, config)
+    files = adoption.files()
+    mend_lists(adoption, settings, config, files)
+    mend_kept(adoption, settings, config)
+    mend_defaults(adoption, settings, config, files)
+    mend_values(adoption, settings, config)
+    if settings.lines != Settings(before).lines:
+        write_text(path, settings.text())
+    return config
+
+
+def find_configuration(adoption: Adoption) -> None:
+    """Jekyll reads `_config.yaml` and `_config.toml` where there is no `_config.yml`."""
+    if (adoption.folder / CONFIG).is_file():
+        return
+    if (adoption.folder / "_config.yaml").is_file():
+        os.rename(adoption.folder / "_config.yaml", adoption.folder / CONFIG)
+        adoption.done("_config.yaml", "it is called _config.yml now; no other name is read")
+    elif (adoption.folder / "_config.toml").is_file():
+        raise Refused("_config.toml: it is not read; write its settings as _config.yml, and run this again. Nothing was done")
+
+
+def mend_brackets(text: str, line: int) -> Optional[tuple[str, int]]:
+    """Moves the first bracket that is alone in its line in, from this line on; the text, and the bracket's line."""
+    lines = text.splitlines(keepends=True)
+    for at in range(line, len(lines)):
+        match = re.match(r"[ ]*[\]}]", lines[at])
+        if match:
+            lines[at] = "  " + lines[at]
+            return "".join(lines), at + 1
+    return None
+
+
+def read_mended(program: str, name: str, text: str) -> tuple[object, Optional[Fault], str, list[int]]:
+    """What a text says, its fault, the text with brackets moved in, and their lines."""
+    moved: list[int] = []
+    while True:
+        values = read_values(program, {name: text})
+        fault = values.faults.get(name)
+        if fault is None:
+            return values.of[name], None, text, moved
+        mended = mend_brackets(text, fault.line) if fault.sentence.startswith(BRACKETS) else None
+        # A bracket is moved twice at most: its key may be indented itself.
+        if mended is None or moved.count(mended[1]) > 8:
+            return None, fault, text, moved
+        text = mended[0]
+        moved.append(mended[1])
+
+
+def readable(adoption: Adoption, text: str) -> tuple[str, dict]:
+    """The text as the program reads it, and what it says. Of settings that are not read nobody knows what must not come out."""
+    config, fault, text, moved = read_mended(adoption.program, CONFIG, text)
+    if fault:
+        raise Refused(
+            f"{CONFIG}:{fault.line}: {fault.sentence} ({fault.code}); run this again then. Nothing was done, since nobody knows what must not come out"
+        )
+    for line in sorted(set(moved)):
+        adoption.done(f"{CONFIG}:{line}", "the bracket is moved in: at its key's indent it is not read")
+    if config is not None and not isinstance(config, dict):
+        raise Refused(f"{CONFIG}: it is no mapping; write key: value. Nothing was done")
+    return text, config or {}
+
+
+def refuse_other_source(config: dict) -> None:
+    source = str(config.get("source") or ".").strip("/")
+    if source not in (".", ""):
+        raise Refused(
+            f"{CONFIG}: the site is in its folder {shown(source)} (source), which is not read; move _config.yml there, take the key out, "
+            "and adopt that folder. Nothing was done"
+        )
+
+
+def rename_folders(adoption: Adoption, settings: Settings, config: dict) -> None:
+    """Folders that have names of their own get those that the program knows."""
+    for key, name in FOLDERS.items():
+        given = str(config.get(key) or name).strip("/")
+        if given != name:
+            move(adoption, settings, key, given, name)
+            config.pop(key)
+    given = str(config.get("collections_dir") or "").strip("/")
+    if given:
+        if any(path.startswith("_posts/") for path in adoption.files()):
+            raise Refused(f"_posts: Jekyll does not read it, since collections_dir is {shown(given)}; take it out of the folder. Nothing was done")
+        inner = adoption.folder / given
+        for entry in sorted(inner.iterdir()) if inner.is_dir() else []:
+            if entry.name.startswith("_") and entry.is_dir():
+                move(adoption, settings, "collections_dir", f"{given}/{entry.name}", entry.name)
+        settings.comment_out("collections_dir", "its folders are at the top now")
+        config.pop("collections_dir")
+
+
+def move(adoption: Adoption, settings: Settings, key: str, old: str, new: str) -> None:
+    if not (adoption.folder / old).is_dir():
+        return
+    if (adoption.folder / new).exists():
+        raise Refused(f"{CONFIG}:{settings.line(key)}: {shown(old)} has to be called {new}, which is there already; put them together. Nothing was done")
+    os.rename(adoption.folder / old, adoption.folder / new)
+    adoption.done(f"{CONFIG}:{settings.line(key)}", f"{old} is called {new} now; no other name is read ({key})")
+    if key != "collections_dir":
+        settings.comment_out(key, f"the folder is called {new} now")
+
+
+def texts(value: object) -> list[str]:
+    return [one if isinstance(one, str) else str(one) for one in value] if isinstance(value, list) else []
+
+
+def collections_of(config: dict) -> list[str]:
+    given = config.get("collections")
+    return [str(one) for one in given] if isinstance(given, (dict, list)) else []
+
+
+def rules_of(config: dict) -> Rules:
+    rules = Rules(exclude=texts(config.get("exclude")), collections=collections_of(config))
+    if config.get("include") is not None:
+        rules.include = texts(config["include"])
+    destination = str(config.get("destination") or "").strip("/")
+    rules.destination = destination.removeprefix("./") if destination != OUTPUT else ""
+    return rules
+
+
+def mend_lists(adoption: Adoption, settings: Settings, config: dict, files: list[str]) -> None:
+    """`exclude` and `include` get the paths that they name now. The globs stay in a key of their own, for new files."""
+    rules = rules_of(config)
+    excluded, globs = rules.exclude, texts(config.get("exclude_globs"))
+    rules.exclude = excluded + [glob for glob in globs if glob not in excluded]
+    lists = lists_of_paths(rules, files)
+    told = [one for one in lists.replaced_excludes if one.paths or one.entry in excluded]
+    tell(adoption, settings, "exclude", told)
+    tell(adoption, settings, "include", lists.replaced_includes)
+    line = settings.line("destination") if rules.destination else settings.line("exclude")
+    for path in lists.added:
+        adoption.done(f"{CONFIG}:{line}", f"{path} is in exclude now, since Jekyll leaves it out")
+    globs += [one.entry for one in told if is_glob(one.entry) and one.entry not in globs]
+    for key, value in (("exclude", lists.exclude), ("include", lists.include), ("exclude_globs", globs)):
+        if value != (rules.include if key == "include" else texts(config.get(key))):
+            settings.set(key, value)
+            config[key] = value
+
+
+def tell(adoption: Adoption, settings: Settings, key: str, replaced: list[Replaced]) -> None:
+    for one in replaced:
+        what = f'{key} "{one.entry}": {one.reason}; it names now: {shortened(one.paths)}'
+        later = "; a new file of that kind has to be added there (`site check` tells)" if is_glob(one.entry) and key == "exclude" else ""
+        adoption.done(f"{CONFIG}:{settings.line_with(key, one.entry)}", what + later)
+
+
+def mend_kept(adoption: Adoption, settings: Settings, config: dict) -> None:
+    """`keep_files`: Jekyll takes an entry for the front of a path in the output."""
+    entries = texts(config.get("keep_files"))
+    output = adoption.original / OUTPUT
+    if not entries or output.is_symlink() or not output.is_dir():
+        return
+    present = list_files(output).files
+    kept: list[str] = []
+    for entry in entries:
+        plain = entry.strip("/")
+        if plain and not is_glob(entry):
+            kept.append(plain)
+        named = [path for path in present if path.startswith(plain) or fnmatch(plain).fullmatch(path)] if plain else []
+        new = [path for path in named if not any(path == one or path.startswith(one + "/") for one in kept)]
+        kept += new
+        if new or is_glob(entry):
+            tell(adoption, settings, "keep_files", [Replaced(entry, new, "a glob" if is_glob(entry) else "the front of a path")])
+    if kept != entries:
+        settings.set("keep_files", kept)
+        config["keep_files"] = kept
+
+
+def mend_defaults(adoption: Adoption, settings: Settings, config: dict, files: list[str]) -> None:
+    given = config.get("defaults")
+    if not isinstance(given, list):
+        return
+    mended = mend_scopes(given, files, ["posts", "drafts", "pages", *collections_of(config)])
+    for one in mended.differences:
+        adoption.done(f"{CONFIG}:{settings.line_with('defaults', one.part)}", f"{one.otherwise}; {one.now}")
+    if mended.differences:
+        settings.set("defaults", mended.defaults)
+        config["defaults"] = mended.defaults
+
+
+def mend_values(adoption: Adoption, settings: Settings, config: dict) -> None:
+    """Values that Jekyll takes and the program does not."""
+    zone = config.get("timezone")
+    if isinstance(zone, str) and not OFFSET.fullmatch(zone):
+        mend_zone(adoption, settings, config, zone)
+    if config.get("paginate", 1) in (0, False) and config.get("paginate") is not None:
+        adoption.done(f"{CONFIG}:{settings.line('paginate')}", "paginate is taken out: so it is off here")
+        settings.comment_out("paginate", "paginate is off without this key")
+        config.pop("paginate")
+    if config.get("excerpt_separator", "x") == "":
+        adoption.done(f"{CONFIG}:{settings.line('excerpt_separator')}", "posts have an empty excerpt by defaults now, in place of an empty separator")
+        settings.comment_out("excerpt_separator", "an empty excerpt stands in defaults in its place")
+        config.pop("excerpt_separator")
+        defaults = config.get("defaults") if isinstance(config.get("defaults"), list) else []
+        config["defaults"] = [*defaults, {"scope": {"path": "", "type": "posts"}, "values": {"excerpt": ""}}]
+        settings.set("defaults", config["defaults"])
+
+
+def mend_zone(adoption: Adoption, settings: Settings, config: dict, zone: str) -> None:
+    """A named zone becomes its offset today."""
+    place = f"{CONFIG}:{settings.line('timezone')}"
+    try:
+        from zoneinfo import ZoneInfo
+
+        now = datetime.datetime.now(ZoneInfo(zone))
+    except Exception:  # An unknown name is told by many kinds of exceptions.
+        adoption.left(place, f"the zone {shown(zone)} is not known on this machine; write an offset, as \"+01:00\"")
+        return
+    offset = now.strftime("%z")
+    offset = f"{offset[:3]}:{offset[3:5]}"
+    settings.set("timezone", offset)
+    config["timezone"] = offset
+    summer = {ZoneInfo(zone).utcoffset(datetime.datetime(now.year, month, 1)) for month in range(1, 13)}
+    later = "; it holds all year, so give the dates of the other half of the year their own offset" if len(summer) > 1 else ""
+    adoption.done(place, f'timezone {zone} is its offset today now, "{offset}"{later}')

@@ -1,0 +1,118 @@
+"""Notes of `_config.yml`: what its keys mean to Jekyll, and not to the program."""
+from __future__ import annotations
+
+import re
+
+from adopt_settings import rules_of, texts
+from kept_back import is_glob, lists_of_paths
+from scopes import mend
+
+ADOPT = "`site adopt` does that"
+STYLES = ("date", "pretty", "ordinal", "none")
+# Keys that say to Jekyll how a site is made.
+WITHOUT_MEANING = {
+    "theme": ("the theme is not read, and pages without its layouts come out bare", f"its files have to be in the site: {ADOPT}"),
+    "remote_theme": ("the theme is not read, and pages without its layouts come out bare", "`site adopt --theme FOLDER` puts its files in"),
+    "kramdown": ("a key without a meaning: every text is CommonMark", "take it out"),
+    "markdown": ("a key without a meaning: every text is CommonMark", "take it out"),
+    "highlighter": ("a key without a meaning: code comes out without colours", "colour it in the browser by the class language-.."),
+    "liquid": ("a key without a meaning: each fault of a template ends the build", "take it out"),
+    "lsi": ("a key without a meaning: related posts are the newest", "take it out"),
+    "encoding": ("a key without a meaning: all files are UTF-8", "take it out"),
+    "limit_posts": ("a key without a meaning: all posts come out", "take it out, or name the posts in exclude"),
+    "collections_dir": ("a key without a meaning: collections are looked for at the top", f"move their folders there: {ADOPT}"),
+    "layouts_dir": ("a key without a meaning: layouts are in _layouts", f"call the folder so: {ADOPT}"),
+    "includes_dir": ("a key without a meaning: includes are in _includes", f"call the folder so: {ADOPT}"),
+    "data_dir": ("a key without a meaning: data files are in _data", f"call the folder so: {ADOPT}"),
+    "source": ("a key without a meaning: the site is the folder itself", "move _config.yml into the site's folder"),
+    "destination": ("a key without a meaning: the output is _site", "let your server show _site"),
+    "plugins_dir": ("a key without a meaning: no plugins are run", "write what they make as templates"),
+    "sass": None,
+    "plugins": None,
+    "gems": None,
+}
+# What has the value of Jekyll's own default says nothing.
+USUAL = {"markdown": "kramdown", "highlighter": "rouge", "encoding": "utf-8", "lsi": False, "limit_posts": 0, "collections_dir": "",
+         "layouts_dir": "_layouts", "includes_dir": "_includes", "data_dir": "_data", "destination": "_site", "plugins_dir": "_plugins"}
+# Plugins whose work is done by what `site adopt` writes, and the file that shows it.
+DONE_BY = {"jekyll-feed": "feed.xml", "jekyll-sitemap": "sitemap.xml"}
+# Plugins that leave nothing to do: their tags are faults, or the program does their work.
+WITHOUT_WORK = {"jekyll-seo-tag", "jekyll-paginate", "jekyll-include-cache", "jekyll-redirect-from", "jekyll-sass-converter", "jekyll-commonmark",
+                "jekyll-watch", "kramdown-parser-gfm"}
+
+
+def add(notes, site) -> None:
+    config, settings = site.config, site.settings
+    if not settings.lines:
+        for other in ("_config.yaml", "_config.toml"):
+            if other in site.files:
+                notes.add(other, 0, "it is not read: the configuration is _config.yml", "give it this name")
+    for key, said in WITHOUT_MEANING.items():
+        if said and key in config and config[key] != USUAL.get(key, object()) and config[key] is not None:
+            notes.add("_config.yml", settings.line(key), f"{key}: {said[0]}", said[1])
+    add_plugins(notes, site)
+    add_lists(notes, site)
+    add_scopes(notes, site)
+    add_permalinks(notes, site)
+    add_collections(notes, site)
+
+
+def add_plugins(notes, site) -> None:
+    path = str((site.config.get("feed") or {}).get("path") or "feed.xml") if isinstance(site.config.get("feed"), dict) else "feed.xml"
+    made = {**DONE_BY, "jekyll-feed": path.lstrip("/")}
+    for key in ("plugins", "gems"):
+        for name in texts(site.config.get(key)):
+            if name in WITHOUT_WORK or made.get(name) in site.files:
+                continue
+            remedy = f"a template has to make {made[name]}: {ADOPT}" if name in made else "write what it makes as a template"
+            notes.add("_config.yml", site.settings.line_with(key, name), f"the plugin {name} is not run", remedy)
+
+
+def add_lists(notes, site) -> None:
+    """Files that Jekyll leaves out and the program does not, and the other way round."""
+    rules = rules_of(site.config)
+    rules.exclude += texts(site.config.get("exclude_globs"))
+    lists = lists_of_paths(rules, site.files)
+    line = site.settings.line
+    plain = texts(site.config.get("exclude"))
+    for path in [one for one in lists.exclude if one not in plain]:
+        named = next((one.entry for one in lists.replaced_excludes if path in one.paths), "")
+        place = line("exclude_globs") if named in texts(site.config.get("exclude_globs")) else site.settings.line_with("exclude", named)
+        by = f' by "{named}"' if named else ""
+        notes.add("_config.yml", place, f"{path} comes out, and Jekyll leaves it out{by}", f"write it in exclude: {ADOPT}")
+    for one in lists.replaced_excludes:
+        if is_glob(one.entry) and not one.paths and one.entry in plain:
+            notes.add("_config.yml", site.settings.line_with("exclude", one.entry), f'"{one.entry}" of exclude is a glob, and names no file here', f"write paths: {ADOPT}")
+        elif one.entry.partition("/")[0] in ("_layouts", "_includes", "_data"):
+            notes.add("_config.yml", site.settings.line_with("exclude", one.entry), f'"{one.entry}" of exclude takes a file out that Jekyll reads', "take the entry out")
+    for one in lists.replaced_includes:
+        if one.paths or is_glob(one.entry):
+            notes.add("_config.yml", site.settings.line_with("include", one.entry), f'"{one.entry}" of include names other files than in Jekyll', f"write paths: {ADOPT}")
+
+
+def add_scopes(notes, site) -> None:
+    given = site.config.get("defaults")
+    if isinstance(given, list):
+        for one in mend(given, site.files, ["posts", "drafts", "pages", *site.collections()]).differences:
+            notes.add("_config.yml", site.settings.line_with("defaults", one.part), one.otherwise, f"write it out: {ADOPT}")
+
+
+def add_permalinks(notes, site) -> None:
+    given = site.config.get("permalink")
+    if isinstance(given, str) and given not in STYLES and not re.search(r":(title|slug|name|basename|path)", given):
+        notes.add("_config.yml", site.settings.line("permalink"), f'permalink "{given}" is no style, so all posts of a day or more share one address, and one of them comes out', "write date, pretty, ordinal, none, or a template with :title")
+    collections = site.config.get("collections")
+    for name, meta in collections.items() if isinstance(collections, dict) else []:
+        permalink = meta.get("permalink") if isinstance(meta, dict) else None
+        if isinstance(permalink, str) and re.search(r"[^/]:path", permalink):
+            notes.add("_config.yml", site.settings.line_with("collections", permalink), f'permalink "{permalink}": nothing is put between the text and :path (there a /)', "write the / before :path")
+
+
+def add_collections(notes, site) -> None:
+    collections = site.config.get("collections")
+    for name, meta in collections.items() if isinstance(collections, dict) else []:
+        for key in meta if isinstance(meta, dict) else ():
+            if key in ("sort_by", "order"):
+                notes.add("_config.yml", site.settings.line_with("collections", key), f"{key} of the collection {name} has no meaning: documents stand by date and path", "sort them where they are listed")
+            elif key not in ("output", "permalink"):
+                notes.add("_config.yml", site.settings.line_with("collections", key), f"{key} of the collection {name} is nil in templates", "put it into a key of its own, or a data file")

@@ -1,0 +1,112 @@
+"""Notes of templates: filters and forms that the program passes over, or reads otherwise."""
+from __future__ import annotations
+
+import re
+
+from site_files import line_of
+from tags import ENVIRONMENT, PIECE
+
+# The filters that have a meaning: docs/PROFILE.md, "Filters of Liquid" and "Filters of Jekyll".
+FILTERS = set(
+    "abs ceil floor round plus minus times divided_by modulo at_least at_most append prepend replace remove replace_first remove_first slice "
+    "split truncate truncatewords upcase downcase capitalize strip lstrip rstrip escape escape_once newline_to_br strip_newlines strip_html "
+    "url_encode url_decode join first last reverse concat size default compact map where uniq sort sort_natural date relative_url absolute_url "
+    "markdownify jsonify slugify xml_escape cgi_escape uri_escape number_of_words normalize_whitespace array_to_sentence_string group_by push "
+    "unshift pop shift date_to_string date_to_long_string date_to_xmlschema date_to_rfc822".split()
+)
+REMEDIES = {
+    "where_exp": "it lets everything pass; use where, or for with if",
+    "group_by_exp": "use group_by, or for with if",
+    "find": "use where and first",
+    "find_exp": "use for with if",
+    "smartify": "write the signs themselves",
+    "h": "use escape",
+    "replace_last": "use replace",
+    "remove_last": "use remove",
+}
+QUOTED = re.compile(r"\"[^\"]*\"|'[^']*'")
+FILTER = re.compile(r"\|\s*([A-Za-z_]\w*)")
+EMPTY = re.compile(r"(?:!=|<>)\s*(?:empty|blank)\b|\b(?:empty|blank)\s*(?:!=|<>)")
+LIST_OF_LISTS = re.compile(r"\bmap\s*:[^|]*\|\s*join\b[^|]*\|\s*split\b")
+SITE = re.compile(r"\bsite\.(html_files|source|destination|markdown|highlighter|encoding|kramdown|github|plugins_dir|safe)\b")
+STATIC = re.compile(r"\bsite\.static_files\s*\|\s*where(?:_exp)?\s*:\s*[\"'](\w+)[\"']")
+STATIC_HAS = ("path", "name", "basename", "extname")
+# What is looked for in each output and tag; what it means otherwise; the remedy.
+FORMS = [
+    (LIST_OF_LISTS, "a list in a list is one item, so map, join and split make one word of each list", "collect the words with concat in a loop"),
+    (re.compile(r"\.relative_directory\b"), ".relative_directory is nil", "write the path"),
+    (re.compile(r"\.modified_time\b"), ".modified_time is nil", "give a date"),
+    (re.compile(r"\bcollection\.files\b"), "files of a collection is nil", "use site.static_files"),
+    (re.compile(r"\.draft\s*==\s*false"), "draft of a post is nil (there false)", "write draft != true"),
+    (re.compile(r"\bwhere\s*:\s*[\"']\w+\.[\w.]+[\"']"), "a dot in the property of where is a dot (there the way to an inner value)", "use for with if"),
+    (re.compile(r"\b(?:page|post|site|site\.(?:pages|posts|documents))\s*\|\s*jsonify"), "an item as JSON is its address (there all of its variables)", "write the variables that you want"),
+    (re.compile(r"\bjekyll\.version\b"), "jekyll.version is 4", "write the version that you mean"),
+    (re.compile(r"^\{%-?\s*highlight\b"), "code comes out without colours and line numbers", "colour it in the browser by the class language-.."),
+]
+
+
+def add(notes, site, path: str, text: str, start: int) -> None:
+    """Looks through the outputs and tags of a template behind its front matter."""
+    if "{%" not in text and "{{" not in text:
+        return
+    for piece in PIECE.finditer(text, start):
+        if not piece["alone"]:
+            add_piece(notes, site, path, line_of(text, piece.start()), piece)
+
+
+def add_piece(notes, site, path: str, line: int, piece: re.Match) -> None:
+    whole = piece[0]
+    bare = QUOTED.sub("''", whole)
+    for name in FILTER.findall(bare):
+        if name not in FILTERS:
+            notes.add(path, line, f"the filter {name} is not known and leaves its input as it is", REMEDIES.get(name, "do without it"))
+    if EMPTY.search(bare):
+        notes.add(path, line, "a test with != empty or != blank is turned round for nil or an empty value", "write {% unless x == empty %}, or size > 0")
+    for form, what, remedy in FORMS:
+        if form.search(whole):
+            notes.add(path, line, what, remedy)
+    if ENVIRONMENT.search(bare):
+        notes.add(path, line, "jekyll.environment is always development", "ask a key of _config.yml: `site adopt` does that")
+    for name in SITE.findall(bare):
+        if name not in site.config:
+            notes.add(path, line, f"site.{name} is nil", "put it into _config.yml")
+    for name in STATIC.findall(whole):
+        if name not in STATIC_HAS:
+            notes.add(path, line, f"copied files have no {name}: defaults do not reach them", "ask for a part of their path")
+    add_names_of_items(notes, site, path, line, bare)
+    add_sorts(notes, site, path, line, whole)
+    add_table(notes, path, line, piece)
+
+
+def add_names_of_items(notes, site, path: str, line: int, bare: str) -> None:
+    """`page.name` is nil of what is no page."""
+    folder = path.partition("/")[0]
+    shared = folder in ("_layouts", "_includes")
+    if re.search(r"\bpost\.name\b", bare) or (re.search(r"\bpage\.name\b", bare) and (shared or "_posts" in path.split("/") or folder[1:] in site.collections())):
+        notes.add(path, line, "name of a post or document is nil (there its file's name)", "use path")
+
+
+def add_sorts(notes, site, path: str, line: int, whole: str) -> None:
+    for key in re.findall(r"\bsort\s*:\s*[\"'](\w+)[\"']", whole):
+        if key in site.decimals():
+            notes.add(path, line, f"{key} has decimals, which are texts: 10.5 stands before 2.5", "write whole numbers")
+
+
+def add_table(notes, path: str, line: int, piece: re.Match) -> None:
+    if piece["name"] == "tablerow" and "cols" not in piece["words"]:
+        rest = piece.string[piece.end() :]
+        if "col_last" in rest[: max(rest.find("endtablerow"), 0)]:
+            notes.add(path, line, "col_last of a table without cols holds in its last cell (there never)", "give it cols")
+
+
+def add_counters(notes, site) -> None:
+    """A counter goes on from an item to its layouts in Jekyll, and begins anew in each text here."""
+    found: dict[str, list[tuple[str, int]]] = {}
+    for path, text, start in [*((item.path, item.text, item.body) for item in site.items), *((path, text, 0) for path, text in site.plain.items())]:
+        for piece in PIECE.finditer(text, start):
+            if piece["name"] in ("increment", "decrement"):
+                found.setdefault(piece["words"].strip(), []).append((path, line_of(text, piece.start())))
+    for name, places in found.items():
+        layouts = [place for place in places if place[0].startswith("_layouts/")]
+        if layouts and len({path for path, _ in places}) > 1:
+            notes.add(*layouts[0], f"the counter {name} begins anew in each layout (there it goes on)", "give the layout's counter a name of its own")
