@@ -13,7 +13,7 @@ from typing import Optional
 from adopt_files import adopt_templates, adopt_theme, mend_front_matter, write_feeds, write_redirects, write_sitemap, write_styles
 from adopt_settings import adopt_configuration
 from adoption import Adoption
-from faults import all_faults
+from first_faults import all_faults
 from notes import silent_notes
 from site_files import PASSED_OVER, list_files, write_bytes
 from words import Refused, shown

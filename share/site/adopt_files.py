@@ -11,7 +11,7 @@ import sass
 from adopt_settings import CONFIG, collections_of, read_mended, texts
 from adoption import Adoption
 from kept_back import Program
-from settings import Settings
+from configuration import Settings
 from site_files import front_matter, line_of, read_text, read_values, write_text
 from tags import Includes, rewrite
 from theme import find_gem, locked_version, missing_files
@@ -32,7 +32,7 @@ def template(name: str) -> str:
     return (TEMPLATES / name).read_text(encoding="utf-8")
 
 
-def configuration(adoption: Adoption) -> tuple[Settings, dict]:
+def read_configuration(adoption: Adoption) -> tuple[Settings, dict]:
     """The configuration of the copy, and what it says."""
     path = adoption.folder / CONFIG
     text = read_text(path) if path.is_file() else ""
@@ -105,7 +105,7 @@ def adopt_theme(adoption: Adoption, config: dict, given: Optional[Path]) -> None
     """The theme's files go in where the site has none of the name, and the keys of its configuration too."""
     key = next((key for key in ("remote_theme", "theme") if isinstance(config.get(key), str)), None)
     name = config[key] if key else ""
-    settings, _ = configuration(adoption)
+    settings, _ = read_configuration(adoption)
     place = f"{CONFIG}:{settings.line(key)}" if key else CONFIG
     folder = given
     if folder is None and key == "theme":
@@ -195,7 +195,7 @@ def adopt_templates(adoption: Adoption) -> None:
 
 
 def set_environment(adoption: Adoption) -> None:
-    settings, config = configuration(adoption)
+    settings, config = read_configuration(adoption)
     if "environment" in config:
         if not isinstance(config["environment"], str):
             adoption.left(f"{CONFIG}:{settings.line('environment')}", "templates compare it with production now; give it a text")
@@ -239,7 +239,7 @@ def write_feeds(adoption: Adoption, config: dict) -> None:
         for category in texts(meta.get("categories")):
             write_feed(adoption, f"{top}/{category}.xml", [*keys, f"feed_category: {category}"])
     if given.get("tags"):
-        settings, _ = configuration(adoption)
+        settings, _ = read_configuration(adoption)
         adoption.left(f"{CONFIG}:{settings.line('feed')}", "feeds by tag are not made; write one as feed.xml with its tag")
 
 
@@ -259,7 +259,7 @@ def write_sitemap(adoption: Adoption, config: dict) -> None:
 
 def write_redirects(adoption: Adoption) -> None:
     """A page at each old address, without a title, since a menu lists what has one."""
-    _, config = configuration(adoption)
+    _, config = read_configuration(adoption)
     program = Program(texts(config.get("include")), texts(config.get("exclude")))
     items = {path: text for path, text in with_front_matter(adoption).items() if program.comes_out(path, collections_of(config))}
     asking = {path: text for path, text in items.items() if re.search(r"^redirect_(from|to)[ \t]*:", front_matter(text)[1], re.M)}
@@ -318,7 +318,7 @@ def redirect_page(adoption: Adoption, path: str, text: str, layout: str) -> bool
 
 def write_styles(adoption: Adoption) -> None:
     """The CSS of each page of Sass is put beside it, and the page into `exclude`."""
-    settings, config = configuration(adoption)
+    settings, config = read_configuration(adoption)
     sheets = sass.read_sheets(adoption.folder, adoption.program)
     files = adoption.files()
     styles = sass.published(sass.sass_pages(adoption.folder, files), sheets)

@@ -10,7 +10,7 @@ from adoption import Adoption
 from kept_back import Replaced, Rules, is_glob, lists_of_paths, shortened
 from kept_back import pattern as fnmatch
 from scopes import mend as mend_scopes
-from settings import Settings
+from configuration import Settings
 from site_files import OUTPUT, Fault, list_files, read_text, read_values, write_text
 from words import Refused, shown
 

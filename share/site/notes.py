@@ -11,7 +11,7 @@ import notes_of_files
 import notes_of_markdown
 import notes_of_settings
 import notes_of_templates
-from settings import Settings
+from configuration import Settings
 from site_files import front_matter, line_of, list_files, read_text, read_values
 
 CONFIG = "_config.yml"

@@ -7,7 +7,7 @@ from __future__ import annotations
 from dataclasses import replace
 from pathlib import Path
 
-from settings import Settings
+from configuration import Settings
 from site_files import Fault, first_fault, front_matter, list_files, read_text, run, scratch, write_text
 
 CONFIG = "_config.yml"
