@@ -1,0 +1,78 @@
+"""What is wrong with a site, as a person or a page in the browser is told."""
+from __future__ import annotations
+
+import os
+import re
+import subprocess
+from dataclasses import dataclass
+from pathlib import Path
+
+from session import Failed, LeftToScan, read_source
+from words import shown
+
+# `sitebuild: `, perhaps a file and its line, the sentence, and its code: docs/FAULTS.md.
+SENTENCE = re.compile(r"(?P<sentence>[^\n]*) \((?P<code>[A-Za-z]+ ?\d+)[^()]*\)$")
+LINE = re.compile(r"(\d+): ")
+MOST_MARKED = 20
+
+
+@dataclass(frozen=True)
+class Fault:
+    sentence: str
+    code: str = ""
+    file: str = ""
+    line: int = 0
+    # The line's own text.
+    text: str = ""
+
+    def told(self) -> str:
+        """As one line for a terminal, in the form that editors make a link of."""
+        place = f"{shown(self.file)}:{self.line}: " if self.line else f"{shown(self.file)}: " if self.file else ""
+        return f"{place}{self.sentence}{f' ({self.code})' if self.code else ''}"
+
+
+def explain(program: str, folder: Path, options: list[str], failed: Failed) -> Fault:
+    """What a reply means. The replies of a session have no sentences, so `check` is asked for them."""
+    if failed.reply.startswith("out-fault"):
+        return output_fault(failed)
+    options = [word for word in options if word in ("--drafts", "--future")]
+    check = subprocess.run(
+        [program, "check", *options], cwd=folder, stdin=subprocess.DEVNULL, stdout=subprocess.DEVNULL, stderr=subprocess.PIPE, start_new_session=True
+    )
+    said = check.stderr.decode(errors="replace").strip()
+    # `fault KIND LINE PATH`, or `scan-fault`
+    parts = failed.reply.split(" ", 3)
+    path = parts[3] if len(parts) == 4 else ""
+    rest = said[len("sitebuild: ") :]
+    if check.returncode == 0 or not said.startswith("sitebuild: ") or not rest.startswith(path):
+        # The folder has changed since, and is built again in a moment.
+        return Fault("a fault was found", parts[1] if path else failed.reply, path)
+    if path:
+        rest = rest[len(path) + 1 :].lstrip()
+    line = LINE.match(rest) if path else None
+    if line:
+        rest = rest[line.end() :]
+    told = SENTENCE.match(rest)
+    sentence, code = (told["sentence"], told["code"]) if told else (rest, parts[0])
+    number = int(line[1]) if line else 0
+    return Fault(sentence, code, path, number, text_of(folder, path, number))
+
+
+def text_of(folder: Path, path: str, line: int) -> str:
+    """The text of a line of a file of the site."""
+    if not line:
+        return ""
+    try:
+        data = read_source(folder, path) or b""
+    except LeftToScan:
+        return ""
+    lines = re.split(rb"\r\n|\n|\r", data)
+    return lines[line - 1].decode(errors="replace") if line <= len(lines) else ""
+
+
+def output_fault(failed: Failed) -> Fault:
+    if not failed.marked:
+        return Fault("_site cannot be listed, and nothing was written; look whether it is a folder, and at its names and rights", "status 4")
+    paths = ", ".join(os.path.join("_site", path) for path in failed.marked[:MOST_MARKED])
+    more = f" and {len(failed.marked) - MOST_MARKED} more" if len(failed.marked) > MOST_MARKED else ""
+    return Fault(f"these files could not be written or removed, and are tried again with the next save: {paths}{more}", "status 4")

@@ -1,0 +1,44 @@
+"""`site WORD ..`: runs the module of that word. usage: main.py PROGRAM [WORD ..]"""
+import sys
+
+# Before anything is imported that an older version cannot read.
+if sys.version_info < (3, 9):
+    sys.exit("site: python3 is version %d.%d here; 3.9 or later is needed" % sys.version_info[:2])
+
+import importlib
+import os
+
+import words
+
+
+def run(program, arguments):
+    """Runs one word; the status to end with."""
+    word = arguments[0] if arguments else ""
+    if word in ("", "help", "-h", "--help"):
+        print(words.listing())
+        return 0 if word else 2
+    if word not in words.WORDS:
+        raise words.Refused(f"there is no word {words.shown(word)}; `site --help` lists them", 2)
+    if not words.is_here(word):
+        raise words.Refused(f"the part {word}.py is missing; run `bash install` again in a clone of sitebuild")
+    return importlib.import_module(word).main(arguments[1:], program)
+
+
+def main():
+    for stream in (sys.stdout, sys.stderr):
+        stream.reconfigure(errors="backslashreplace", line_buffering=True)
+    try:
+        return run(os.path.abspath(sys.argv[1]), sys.argv[2:])
+    except words.Refused as refused:
+        print(f"site: {refused}", file=sys.stderr)
+        return refused.status
+    except KeyboardInterrupt:
+        return 130
+    except BrokenPipeError:
+        # Whoever read what is said has gone. Python would fail once more when it flushes standard output.
+        os.dup2(os.open(os.devnull, os.O_WRONLY), sys.stdout.fileno())
+        return 1
+
+
+if __name__ == "__main__":
+    sys.exit(main())

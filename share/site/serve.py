@@ -1,0 +1,191 @@
+"""`site serve`: keeps a site built, and shows it in the browser."""
+from __future__ import annotations
+
+import errno
+import json
+import re
+import sys
+import threading
+from contextlib import closing
+from dataclasses import asdict
+from http.server import BaseHTTPRequestHandler, ThreadingHTTPServer
+
+import why
+import words
+from building import Builder, say
+from pages import OWN, Answer, Pages
+from settings import read_settings
+from stopping import until_stopped
+
+ADDRESS = "127.0.0.1"
+# A page of another host must not read this site through the browser of whoever writes it.
+OUR_HOSTS = re.compile(r"(localhost|127\.0\.0\.1|\[::1\])(:\d{1,5})?$")
+MOST_PORTS = 100
+MOST_CONNECTIONS = 256
+# A client that does not read, or says nothing more, is let go after so many seconds.
+CLIENT_WAITS = 30
+# So often a stream of events is written to, to learn whether somebody still reads it.
+BETWEEN_BEATS = 10.0
+
+
+class Server(ThreadingHTTPServer):
+    """Serves one site; each connection has its own thread."""
+
+    daemon_threads = True
+    # A port from which an earlier run has just gone can be had at once.
+    allow_reuse_address = True
+    request_queue_size = 64
+
+    def __init__(self, port: int, builder: Builder):
+        super().__init__((ADDRESS, port), Handler)
+        self.builder = builder
+        self.pages = Pages(builder.folder)
+        self.told = False
+        self.places = threading.BoundedSemaphore(MOST_CONNECTIONS)
+
+    def configure(self) -> None:
+        """Reads where the site is to be found. Where the configuration cannot be read, it stays where it was."""
+        before, self.pages.settings = self.pages.settings, read_settings(self.builder.program, self.builder.folder) or self.pages.settings
+        if not self.told or before.baseurl != self.pages.settings.baseurl:
+            self.told = True
+            say(f"http://{ADDRESS}:{self.server_port}{self.pages.settings.baseurl}/  (Ctrl-C ends it)")
+
+    def process_request(self, request, client_address):
+        if self.places.acquire(blocking=False):
+            super().process_request(request, client_address)
+        else:
+            self.shutdown_request(request)
+
+    def process_request_thread(self, request, client_address):
+        try:
+            super().process_request_thread(request, client_address)
+        finally:
+            self.places.release()
+
+    def handle_error(self, request, client_address):
+        # A client that has gone, or does not read, is nobody's fault.
+        if not isinstance(sys.exc_info()[1], OSError):
+            super().handle_error(request, client_address)
+
+
+class Handler(BaseHTTPRequestHandler):
+    protocol_version = "HTTP/1.1"
+    timeout = CLIENT_WAITS
+    server_version = "site"
+    sys_version = ""
+    disable_nagle_algorithm = True
+
+    def log_message(self, form, *values):
+        pass
+
+    def do_HEAD(self):
+        self.do_GET()
+
+    def do_GET(self):
+        host = self.headers.get("Host", "")
+        if not OUR_HOSTS.match(host):
+            self.send(Answer(403, "text/plain; charset=utf-8", b"site serve is there for this machine alone: 127.0.0.1 or localhost\n"))
+        elif self.path == OWN + "events":
+            self.send_events()
+        elif self.path.startswith(OWN):
+            self.send(self.own())
+        else:
+            with self.server.builder.status.reading() as state:
+                answer = self.server.pages.answer(self.path, host, state.version)
+            self.send(answer)
+
+    def own(self) -> Answer:
+        """The script's own files."""
+        pages = self.server.pages
+        if self.path == OWN + "browser.js":
+            return Answer(200, "text/javascript; charset=utf-8", pages.script)
+        if self.path == OWN + "fault.css":
+            return Answer(200, "text/css; charset=utf-8", pages.style)
+        if self.path == OWN + "why":
+            builder = self.server.builder
+            with builder.status.reading() as state:
+                page = why.last_build(builder, state.version)
+            return Answer(200, "text/html; charset=utf-8", page)
+        return Answer(404, "text/plain; charset=utf-8", b"nothing is here\n")
+
+    def send(self, answer: Answer) -> None:
+        self.send_response(answer.status)
+        if answer.moved:
+            self.send_header("Location", answer.moved)
+        if answer.kind:
+            self.send_header("Content-Type", answer.kind)
+        self.send_header("Content-Length", str(answer.size if answer.file else len(answer.data)))
+        self.send_header("Cache-Control", "no-store")
+        self.end_headers()
+        if answer.file:
+            with answer.file:
+                if self.command != "HEAD":
+                    self.send_file(answer)
+        elif self.command != "HEAD":
+            self.wfile.write(answer.data)
+
+    def send_file(self, answer: Answer) -> None:
+        """Sends as many bytes as were announced; a file that has become shorter ends the connection."""
+        left = answer.size
+        while left:
+            part = answer.file.read(min(left, 1 << 16))
+            if not part:
+                self.close_connection = True
+                return
+            self.wfile.write(part)
+            left -= len(part)
+
+    def send_events(self) -> None:
+        """The state of the site, now and whenever it changes, for as long as somebody reads it."""
+        self.close_connection = True
+        self.send_response(200)
+        self.send_header("Content-Type", "text/event-stream")
+        self.send_header("Cache-Control", "no-store")
+        self.send_header("Connection", "close")
+        self.end_headers()
+        if self.command == "HEAD":
+            return
+        status, seen = self.server.builder.status, None
+        while True:
+            state = status.next(seen, BETWEEN_BEATS)
+            if state.stopped:
+                return
+            if state == seen:
+                self.wfile.write(b":\n\n")
+            else:
+                told = {"version": state.version, "fault": asdict(state.fault) if state.fault else None}
+                self.wfile.write(f"data: {json.dumps(told)}\n\n".encode())
+            self.wfile.flush()
+            seen = state
+
+
+def open_server(port: int, builder: Builder) -> Server:
+    """A server at the first free port from this one on."""
+    last = min(port + MOST_PORTS, 65535)
+    for number in range(port, last + 1):
+        try:
+            return Server(number, builder)
+        except OSError as error:
+            if error.errno != errno.EADDRINUSE:
+                raise words.Refused(f"port {number} cannot be had: {error.strerror}") from error
+    raise words.Refused(f"the ports {port} to {last} are all taken; give another with --port")
+
+
+def main(arguments: list[str], program: str) -> int:
+    reader = words.parser("serve")
+    words.add_site(reader, jobs=True)
+    words.add_poll(reader)
+    reader.add_argument("--port", type=words.number(1, 65535), default=words.FIRST_PORT, metavar="N", help="serves at this port, or the next that is free")
+    given = reader.parse_args(arguments)
+    with until_stopped(), closing(Builder(program, given.folder, words.passed_on(given), given.poll)) as builder:
+        with open_server(given.port, builder) as server:
+            if server.server_port != given.port:
+                say(f"port {given.port} is taken; this is {server.server_port}")
+            builder.on_configuration = server.configure
+            server.configure()
+            threading.Thread(target=server.serve_forever, args=(0.1,), daemon=True).start()
+            try:
+                builder.run()
+            finally:
+                server.shutdown()
+    return 0

@@ -1,0 +1,188 @@
+"""A running `sitebuild session`: the lines that are given to it, and its replies."""
+from __future__ import annotations
+
+import errno
+import os
+import stat
+import subprocess
+from dataclasses import dataclass, field
+from pathlib import Path
+from typing import Optional, Union
+
+from words import shown
+
+# The limits of a line: docs/PROFILE.md, "The lines of a session".
+MOST_BYTES = 16_777_216
+MOST_PATH = 1024
+# How long a session may take to end after it was told to.
+PATIENCE = 5.0
+
+
+class Ended(Exception):
+    """The program has ended; says how."""
+
+
+class LeftToScan(Exception):
+    """A line cannot take this file: only a scan can tell what is wrong with it."""
+
+
+@dataclass(frozen=True)
+class Built:
+    """A build that was done."""
+
+    rendered: int
+    reused: int
+    written: int
+    removed: int
+    whys: list[tuple[str, str]]
+
+
+@dataclass(frozen=True)
+class Failed:
+    """A scan or a build that was not done: the reply, and the paths of `_site` that could not be written or removed."""
+
+    reply: str
+    marked: list[str] = field(default_factory=list)
+
+
+class Session:
+    """One process of the program. Its standard input is closed when this process ends in any way, and then it ends too."""
+
+    def __init__(self, program: str, folder: Path, options: list[str]):
+        try:
+            # In a group of its own: Ctrl-C in a terminal would else end it in the middle of a page.
+            self.process = subprocess.Popen(
+                [program, "session", "--why", *options],
+                cwd=folder,
+                stdin=subprocess.PIPE,
+                stdout=subprocess.PIPE,
+                stderr=subprocess.PIPE,
+                start_new_session=True,
+            )
+        except OSError as error:
+            raise Ended(f"the program cannot be started ({error.strerror}): {shown(program)}") from error
+        self.scanned = False
+
+    def fileno(self) -> int:
+        """Between replies, this can be read when the program has ended."""
+        return self.process.stdout.fileno()
+
+    def scan(self) -> Optional[Failed]:
+        """Reads the whole folder; nothing where that is done."""
+        reply = self.ask(b"scan\n")
+        self.scanned = reply.startswith("scanned ")
+        return None if self.scanned else Failed(reply)
+
+    def put(self, path: str, data: bytes) -> None:
+        self.done(b"put %s %d\n%s" % (path.encode(), len(data), data))
+
+    def delete(self, path: str) -> None:
+        self.done(b"delete %s\n" % path.encode())
+
+    def build(self, moment: int) -> Union[Built, Failed]:
+        """Makes `_site` what the files stand for. A session without files would empty it, so a scan has to come first."""
+        if not self.scanned:
+            raise RuntimeError("a build is asked for before a scan was done")
+        self.done(b"time %d\n" % moment)
+        reply, whys = self.ask(b"build\n"), []
+        while reply.startswith("why "):
+            path, key = split_why(reply)
+            whys.append((path, key))
+            reply = self.hear()
+        if reply.startswith("built "):
+            return Built(*(int(part.split("=")[1]) for part in reply.split()[1:5]), whys)
+        marked = []
+        if reply.startswith("out-fault "):
+            marked = [self.hear()[len("marked ") :] for _ in range(int(reply.split()[1]))]
+        return Failed(reply, marked)
+
+    def done(self, line: bytes) -> None:
+        """Gives a line that changes what the session holds."""
+        reply = self.ask(line)
+        if reply not in ("ok", "absent"):
+            raise Ended(self.how_it_ended() if reply.startswith("script ") else f"the program replied {shown(reply)}")
+
+    def ask(self, line: bytes) -> str:
+        # Not by the stream's own buffer, which would have to be emptied into a process that may have stopped reading.
+        left = memoryview(line)
+        try:
+            while left:
+                left = left[os.write(self.process.stdin.fileno(), left) :]
+        except BrokenPipeError as error:
+            raise Ended(self.how_it_ended()) from error
+        return self.hear()
+
+    def hear(self) -> str:
+        """The next reply."""
+        line = self.process.stdout.readline()
+        if not line.endswith(b"\n"):
+            raise Ended(self.how_it_ended())
+        return line[:-1].decode(errors="replace")
+
+    def how_it_ended(self) -> str:
+        """A sentence about the process, which has closed its standard output."""
+        try:
+            status = self.process.wait(PATIENCE)
+        except subprocess.TimeoutExpired:
+            return "the program has closed its output"
+        said = self.process.stderr.read().decode(errors="replace").strip().splitlines()
+        if said:
+            return f"the program has ended: {shown(said[0])}"
+        return f"the program was ended by signal {-status}" if status < 0 else f"the program has ended with status {status}"
+
+    def close(self) -> None:
+        """Ends the process. A build that is under way is finished first: a kill could leave half a page."""
+        for then in (self.process.terminate, self.process.kill, self.process.wait):
+            try:
+                # Closes its input, and reads what it still says, so that it is not held up by that.
+                self.process.communicate(timeout=PATIENCE)
+                break
+            except subprocess.TimeoutExpired:
+                then()
+
+
+def split_why(reply: str) -> tuple[str, str]:
+    """The path and the key of a reply `why PATH KEY`. A path may hold spaces, so the key is looked for from its first word on."""
+    words = reply[len("why ") :].split(" ")
+    for at in range(1, len(words)):
+        if words[at] in KEYS:
+            return " ".join(words[:at]), " ".join(words[at:])
+    return " ".join(words), ""
+
+
+# The first words of keys: docs/PROFILE.md, "Why an item is rendered".
+KEYS = {"new", "source", "content", "output", "var", "paginator", "site", "data", "layout", "include", "file", "link", "post", "moment"}
+
+
+# What it means that a file cannot be opened: it has gone, or it is a link, a socket or a device.
+NO_FILE = {errno.ENOENT, errno.ENOTDIR, errno.ELOOP, errno.ENXIO, errno.ENODEV}
+
+
+def can_be_told(path: str) -> bool:
+    """Whether a line can name this path."""
+    try:
+        data = path.encode()
+    except UnicodeEncodeError:
+        return False
+    return len(data) <= MOST_PATH and all(byte >= 32 and byte != 127 for byte in data)
+
+
+def read_source(folder: Path, path: str) -> Optional[bytes]:
+    """The bytes of a file of the site; nothing where a scan would find no file there. Never waits, as a fifo would let it."""
+    try:
+        number = os.open(folder / path, os.O_RDONLY | os.O_NOFOLLOW | os.O_NONBLOCK | os.O_CLOEXEC)
+    except OSError as error:
+        if error.errno in NO_FILE:
+            return None
+        raise LeftToScan from error
+    with open(number, "rb") as file:
+        if not stat.S_ISREG(os.fstat(number).st_mode):
+            return None
+        try:
+            data = file.read(MOST_BYTES + 1)
+        except OSError as error:
+            raise LeftToScan from error
+    if len(data) > MOST_BYTES:
+        raise LeftToScan
+    return data
+

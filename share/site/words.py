@@ -1,0 +1,110 @@
+"""The words of `site`, how each is called, and what their command lines share."""
+from __future__ import annotations
+
+import argparse
+import importlib.util
+from dataclasses import dataclass
+from pathlib import Path
+
+MOST_JOBS = 64
+FIRST_PORT = 4000
+
+
+class Refused(Exception):
+    """What is asked for cannot be done; says why, and what to do."""
+
+    def __init__(self, why: str, status: int = 1):
+        super().__init__(why)
+        self.status = status
+
+
+@dataclass(frozen=True)
+class Word:
+    usage: str
+    does: str
+    example: str
+
+
+WORDS = {
+    "new": Word("FOLDER", "begins a site in a new folder, with posts, pages, layouts and a style", "site new my-blog"),
+    "serve": Word(
+        "[FOLDER] [--port N] [--drafts] [--future] [--jobs N]",
+        "builds a site after each save, and shows it in the browser, which reloads by itself",
+        "site serve my-blog",
+    ),
+    "watch": Word("[FOLDER] [--drafts] [--future] [--jobs N]", "builds a site after each save", "site watch my-blog"),
+    "check": Word("[FOLDER] [--drafts] [--future]", "tells the first fault of a site, and writes nothing", "site check my-blog"),
+    "build": Word("[FOLDER] [--drafts] [--future] [--jobs N]", "builds a site into its folder _site", "site build my-blog --jobs 4"),
+    "why": Word(
+        "FILE [--to PAGE]",
+        "draws which pages an edit of a file touches, and by what they read of it",
+        "site why my-blog/_data/menu.yml",
+    ),
+    "adopt": Word("[FOLDER]", "looks through a site that was written for Jekyll", "site adopt my-jekyll-site"),
+}
+
+
+def listing() -> str:
+    """All words, with an example each."""
+    lines = ["site: begins, builds and shows Jekyll sites with sitebuild", ""]
+    for name, word in WORDS.items():
+        if is_here(name):
+            lines += [f"  site {name} {word.usage}", f"      {word.does}", f"      {word.example}"]
+    lines += ["", "Without FOLDER a word takes the current folder. `site WORD --help` tells more."]
+    return "\n".join(lines)
+
+
+def is_here(word: str) -> bool:
+    """Whether this copy of the script has the part that does a word."""
+    return importlib.util.find_spec(word) is not None
+
+
+def shown(text: str) -> str:
+    """A text from outside as it may be shown on a terminal: `?` for each character that could steer it."""
+    return "".join(sign if sign.isprintable() else "?" for sign in text)
+
+
+def parser(name: str) -> argparse.ArgumentParser:
+    """A reader of the command line of a word, without anything in it yet."""
+    return argparse.ArgumentParser(
+        prog=f"site {name}", usage=f"site {name} {WORDS[name].usage}", description=WORDS[name].does, allow_abbrev=False
+    )
+
+
+def number(least: int, most: int):
+    """What reads an option's number."""
+
+    def read(text: str) -> int:
+        if not text.isascii() or not text.isdigit() or not least <= int(text) <= most:
+            raise argparse.ArgumentTypeError(f"a number from {least} to {most} is needed")
+        return int(text)
+
+    return read
+
+
+def a_folder(text: str) -> Path:
+    path = Path(text)
+    if not path.is_dir():
+        raise argparse.ArgumentTypeError(f"there is no folder {shown(text)}")
+    return path.resolve()
+
+
+def add_site(of: argparse.ArgumentParser, jobs: bool) -> None:
+    """The folder of a site, and the options that are passed on to the program."""
+    of.add_argument("folder", nargs="?", default=Path.cwd(), type=a_folder, metavar="FOLDER", help="the folder of the site")
+    of.add_argument("--drafts", action="store_true", help="builds the drafts too")
+    of.add_argument("--future", action="store_true", help="builds what has a later date too")
+    if jobs:
+        of.add_argument("--jobs", type=number(1, MOST_JOBS), metavar="N", help="renders with N threads")
+
+
+def add_poll(of: argparse.ArgumentParser) -> None:
+    of.add_argument("--poll", action="store_true", help="looks for saves five times a second, as on a disk of another machine")
+
+
+def passed_on(given: argparse.Namespace) -> list[str]:
+    """The program's own options."""
+    options = [f"--{name}" for name in ("drafts", "future") if getattr(given, name)]
+    if getattr(given, "jobs", None):
+        options += ["--jobs", str(given.jobs)]
+    return options
