@@ -1,7 +1,6 @@
 """`site adopt FOLDER`: makes a Jekyll site ready for the program, in a copy beside it, and says what was done and what is left."""
 from __future__ import annotations
 
-import argparse
 import filecmp
 import os
 import shutil
@@ -14,46 +13,38 @@ from adopt_files import adopt_templates, adopt_theme, mend_front_matter, write_f
 from adopt_settings import adopt_configuration
 from adoption import Adoption
 from first_faults import all_faults
-from notes import silent_notes
-from site_files import PASSED_OVER, list_files, write_bytes
-from words import Refused, shown
+from notes import differences
+from site_files import PASSED_OVER, NotRead, list_files, write_bytes
+from words import Refused, a_folder, parser, shown
 
-# What the copy does not need, besides what the program passes over: docs/PROFILE.md, "The configuration".
+# The limits of a site: docs/PROFILE.md.
+MOST_FILES = 50_000
+MOST_BYTES = 536_870_912
+# What the copy does not need, besides what the program passes over.
 NOT_COPIED = {"_site", "vendor/bundle", "vendor/cache", "vendor/gems", "vendor/ruby"}
 
 
 def main(arguments: list[str], program: str) -> int:
-    given = read_words(arguments)
-    folder = Path(given.folder).resolve()
-    if not folder.is_dir():
-        raise Refused(f"there is no folder {shown(given.folder)}")
-    theme = Path(given.theme).resolve() if given.theme else None
-    if theme and not theme.is_dir():
-        raise Refused(f"there is no folder {shown(given.theme)}")
-    beside = folder.parent / f"{folder.name}-adopted"
-    room = Path(tempfile.mkdtemp(prefix=f".{folder.name}-adopted.", dir=None if given.write else folder.parent))
-    try:
-        adoption = Adoption(room / "site", program, folder)
-        copy_site(adoption)
-        adopt(adoption, theme)
-        return finish(adoption, None if given.write else beside)
-    except OSError as error:
-        raise Refused(f"{shown(str(error.filename or folder))}: {error.strerror}; nothing was left half done here") from error
-    finally:
-        shutil.rmtree(room, ignore_errors=True)
-
-
-def read_words(arguments: list[str]) -> argparse.Namespace:
-    of = argparse.ArgumentParser(
-        prog="site adopt",
-        usage="site adopt FOLDER [--write] [--theme FOLDER]",
-        description="makes a Jekyll site ready, in a copy beside it, and says what was done and what is left",
-        allow_abbrev=False,
-    )
-    of.add_argument("folder", metavar="FOLDER", help="the folder of the site")
+    of = parser("adopt")
+    of.add_argument("folder", metavar="FOLDER", type=a_folder, help="the folder of the site")
     of.add_argument("--write", action="store_true", help="changes the site itself, and makes no copy")
-    of.add_argument("--theme", metavar="FOLDER", help="the folder of the site's theme")
-    return of.parse_args(arguments)
+    of.add_argument("--theme", metavar="FOLDER", type=a_folder, help="the folder of the site's theme")
+    given = of.parse_args(arguments)
+    folder = given.folder
+    if not folder.name:
+        raise Refused("a site is in a folder that has a name")
+    beside = folder.parent / f"{folder.name}-adopted"
+    try:
+        # The copy that will stay is made where it will stay, so that it gets its name in one step.
+        with tempfile.TemporaryDirectory(prefix=f".{folder.name[:100]}-adopted.", dir=None if given.write else folder.parent) as room:
+            adoption = Adoption(Path(room, "site"), program, folder)
+            copy_site(adoption)
+            adopt(adoption, given.theme)
+            return finish(adoption, None if given.write else beside)
+    except OSError as error:
+        raise Refused(f"{shown(str(error.filename or folder))}: {error.strerror or error}") from error
+    except NotRead as error:
+        raise Refused(str(error)) from error
 
 
 def adopt(adoption: Adoption, theme: Optional[Path]) -> None:
@@ -67,12 +58,13 @@ def adopt(adoption: Adoption, theme: Optional[Path]) -> None:
     write_redirects(adoption)
     write_styles(adoption)
     adoption.left_lines += [str(fault) for fault in all_faults(adoption.folder, adoption.program)]
-    adoption.left_lines += silent_notes(adoption.folder, adoption.program)
+    adoption.left_lines += differences(adoption.folder, adoption.program)
 
 
 def copy_site(adoption: Adoption) -> None:
     """Copies what is a file of the site. No link is followed out of the folder."""
     found = list_files(adoption.original)
+    refuse_too_much(adoption.original, found.files)
     unread = [f"{shown(path)}: {why}" for path, why in found.odd if "cannot be read" in why]
     if unread:
         raise Refused(f"{unread[0]}; give yourself the right to read it, or take it out of the folder. Nothing was done")
@@ -83,6 +75,14 @@ def copy_site(adoption: Adoption) -> None:
             copy_file(adoption.original / path, adoption.folder / path)
     for path in found.links:
         adopt_link(adoption, path)
+
+
+def refuse_too_much(folder: Path, files: list[str]) -> None:
+    """What the program would refuse is not copied."""
+    if len(files) > MOST_FILES:
+        raise Refused(f"{shown(str(folder))}: has more than {MOST_FILES:,} files, so it is no site; name the folder of the site")
+    if sum((folder / path).stat().st_size for path in files) > MOST_BYTES:
+        raise Refused(f"{shown(str(folder))}: all files together are longer than 512 MiB; take long files out of the site first")
 
 
 def is_left_out(path: str) -> bool:
@@ -113,7 +113,7 @@ def adopt_link(adoption: Adoption, path: str) -> None:
 def finish(adoption: Adoption, beside: Optional[Path]) -> int:
     """Puts the copy in its place, or what differs into the folder, and says what there is to say."""
     folder = adoption.original
-    changed = differences(adoption.folder, folder)
+    changed = not_the_same(adoption.folder, folder)
     for line in adoption.done_lines:
         print(f"done: {shown(line)}")
     for line in adoption.left_lines:
@@ -127,17 +127,17 @@ def finish(adoption: Adoption, beside: Optional[Path]) -> int:
     elif not os.path.lexists(beside):
         os.rename(adoption.folder, beside)
         print(f"{shown(str(beside))}: the site, adopted ({counts})")
-    elif not differences(adoption.folder, beside):
+    elif not not_the_same(adoption.folder, beside):
         print(f"{shown(str(beside))}: is there already, and nothing has changed since ({counts})")
     else:
         raise Refused(
-            f"{shown(str(beside))}: is there already, and {shown(differences(adoption.folder, beside)[0])} in it is another; nothing was written. "
+            f"{shown(str(beside))}: is there already, and {shown(not_the_same(adoption.folder, beside)[0])} in it is another; nothing was written. "
             f"Go on there with `site adopt --write`, or take it away to begin anew"
         )
     return 0
 
 
-def differences(new: Path, old: Path) -> list[str]:
+def not_the_same(new: Path, old: Path) -> list[str]:
     """The paths of the files that are not the same in both folders, `_config.yml` first."""
     here, there = set(list_files(new).files), {path for path in list_files(old).files if not is_left_out(path)}
     both = here & there
@@ -159,4 +159,5 @@ if __name__ == "__main__":
     try:
         sys.exit(main(sys.argv[1:], os.environ["SITEBUILD"]))
     except Refused as refused:
-        sys.exit(f"site: {refused}")
+        print(f"site: {refused}", file=sys.stderr)
+        sys.exit(refused.status)

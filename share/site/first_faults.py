@@ -8,7 +8,7 @@ from dataclasses import replace
 from pathlib import Path
 
 from configuration import Settings
-from site_files import Fault, first_fault, front_matter, list_files, read_text, run, scratch, write_text
+from site_files import Fault, NotRead, first_fault, front_matter, list_files, read_text, run, scratch, write_text
 
 CONFIG = "_config.yml"
 # A file of more bytes that is no template has its size alone in the scratch copy.
@@ -33,7 +33,7 @@ def all_faults(folder: Path, program: str, *options: str) -> list[Fault]:
             fault = first_fault(said)
             if fault is None:
                 if said.returncode and not found:
-                    raise OSError(0, said.stderr.strip() or f"the program ended with status {said.returncode}", str(folder))
+                    raise NotRead(said.stderr.strip() or f"the program ended with status {said.returncode}")
                 return found
             if fault.path == CONFIG and fault.code == "F6":
                 fault = with_key(fault, room, program)

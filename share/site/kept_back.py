@@ -4,17 +4,19 @@ Jekyll takes an entry of `exclude` and `include` for a pattern and for the front
 """
 from __future__ import annotations
 
+import posixpath
 import re
 from dataclasses import dataclass, field
 from functools import lru_cache
 from typing import Callable, Iterable
 
-from site_files import ALWAYS_EXCLUDED
+from site_files import ALWAYS_EXCLUDED, NotRead
 
 SPECIAL = re.compile(r"[._#~]")
 READ_FOLDERS = ("_layouts", "_includes", "_data")
 DATED = re.compile(r"\d{4}-\d{2}-\d{2}-.+\.")
 POST = re.compile(r"^(?:.+/)*?\d{2,4}-\d{1,2}-\d{1,2}-[^/]*\.[^.]+$")
+DRAFT = re.compile(r"^.*\.[^.]+$")
 SAID_PATHS = 6
 # A name that no site has: what a pattern says of it holds for each new file.
 ANY_NAME = "\u2400any"
@@ -56,7 +58,7 @@ def is_glob(entry: str) -> bool:
 
 def matches(entry: str, path: str, is_folder: bool) -> bool:
     """Whether an entry of Jekyll's lists names a path."""
-    entry = "/" + re.sub("/+", "/", entry).lstrip("/")
+    entry = "/" + entry.lstrip("/")
     path = "/" + path
     return bool(pattern(entry).fullmatch(path)) or path.startswith(entry) or (is_folder and entry == path + "/")
 
@@ -123,13 +125,15 @@ class Jekyll:
         for collection in self.rules.collections:
             if collection != "posts":
                 found.update(self.below(f"_{collection}", dots=True))
-        found.update(entry.lstrip("/") for entry in self.rules.include if entry.lstrip("/") in self.files)
+        whole = (posixpath.normpath(entry.lstrip("/") or ".") for entry in self.rules.include)
+        found.update(path for path in whole if path in self.files)
         return found
 
     def walk(self, folder: str, found: set[str]) -> None:
         for name in ("_posts", "_drafts"):
             inner = f"{folder}/{name}" if folder else name
-            found.update(path for path in self.below(inner, dots=False) if name == "_drafts" or POST.match(path))
+            form = POST if name == "_posts" else DRAFT
+            found.update(path for path in self.below(inner, dots=False) if form.match(path[len(inner) + 1 :]))
         for path in self.folders[folder]:
             if not self.takes(folder, path.rpartition("/")[2]):
                 continue
@@ -220,7 +224,7 @@ def lists_of_paths(rules: Rules, files: list[str]) -> Lists:
     lists = Lists(include + missing, exclude + added, [], [], [])
     leaks = [path for path in files if path not in wanted and Program(lists.include, lists.exclude).comes_out(path, rules.collections)]
     if leaks:
-        raise RuntimeError(f"this would come out, and Jekyll leaves it out: {leaks[0]}")
+        raise NotRead(f"this would come out, and Jekyll leaves it out: {leaks[0]}")
     lists.replaced_includes = replaced(rules.include, include, missing, lambda entry, path: any(
         matches(entry, name, True) for name in [path, *path.split("/")]))
     lists.replaced_excludes = replaced(rules.exclude, exclude, added, lambda entry, path: matches(entry, path, jekyll.is_folder(path)))
@@ -249,8 +253,9 @@ def missing_paths(program: Program, wanted: set[str], files: list[str], rules: R
             continue
         parts = path.split("/")
         first = next((at for at, part in enumerate(parts) if is_special(part)), len(parts) - 1)
-        folder = "/".join(parts[: first + 1])
-        found.append(folder if brings_only(folder, wanted, files, rules.collections) and not folder.startswith("_posts") else path)
+        entries = ("/".join(parts[: first + 1]), path)
+        # A folder of posts holds what is none.
+        found += [one for one in entries if one != "_posts" and brings_only(one, wanted, files, rules.collections)][:1]
     return found
 
 

@@ -12,7 +12,8 @@ import notes_of_markdown
 import notes_of_settings
 import notes_of_templates
 from configuration import Settings
-from site_files import front_matter, line_of, list_files, read_text, read_values
+from first_faults import all_faults
+from site_files import NotRead, first_fault, front_matter, line_of, list_files, read_text, read_values, run
 
 CONFIG = "_config.yml"
 DECIMAL = re.compile(r"^([\w-]+)[ \t]*:[ \t]*-?\d+\.\d+[ \t]*(?:#.*)?\r?$", re.M)
@@ -90,6 +91,15 @@ class Site:
 
 
 def silent_notes(folder: Path, program: str) -> list[str]:
+    """What a check does not tell: the first fault of each further file, and what is read otherwise without a word."""
+    try:
+        further = all_faults(folder, program)[1:] if first_fault(run(program, folder, "check")) else []
+        return [*(str(fault) for fault in further), *differences(folder, program)]
+    except (OSError, NotRead) as error:
+        return [f"what else there is to say of this site is not known: {error}"]
+
+
+def differences(folder: Path, program: str) -> list[str]:
     """The lines for a site: `FILE:LINE: what is read otherwise; remedy`."""
     site = read_site(folder, program)
     notes = Notes()

@@ -5,6 +5,7 @@ import re
 
 from tags import PIECE
 
+HIGHLIGHT = re.compile(r"\{%-?\s*highlight\b.*?\{%-?\s*endhighlight\s*-?%\}|<(script|style|pre)\b.*?</\1>", re.S)
 FENCE = re.compile(r"^ {0,3}(`{3,}|~{3,})[ \t]*([^\s`]*)")
 CODE = re.compile(r"(`+)(?!`).*?(?<!`)\1(?!`)")
 TAG = re.compile(r"<[^>]*>|\]\([^)]*\)|^ {0,3}\[[^\]]+\]:.*$")
@@ -37,8 +38,10 @@ QUOTES_SAID = 'straight quotes, -- and ... stay as they are (there they become â
 
 def add(notes, path: str, text: str, start: int) -> None:
     """Looks through the lines of a Markdown text that are no code."""
-    # Outputs and tags go, with their line ends kept, so that lines have their numbers.
-    body = PIECE.sub(lambda piece: "\n" * piece[0].count("\n"), text[start:])
+    # Code, outputs and tags go, with their line ends kept, so that lines have their numbers.
+    body = text[start:]
+    for part in (HIGHLIGHT, PIECE):
+        body = part.sub(lambda piece: "\n" * piece[0].count("\n"), body)
     first = text.count("\n", 0, start) + 1
     fence = ""
     before = ""

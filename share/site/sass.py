@@ -87,7 +87,7 @@ def sass_pages(folder: Path, files: list[str]) -> list[Style]:
     return found
 
 
-def published(styles: list[Style], sheets: Sheets, files: list[str]) -> list[Style]:
+def published(styles: list[Style], sheets: Sheets) -> list[Style]:
     """Those that are pages of the site today."""
     program = Program(sheets.entries("include"), sheets.entries("exclude"))
     return [style for style in styles if program.comes_out(style.source, [])]

@@ -23,10 +23,14 @@ ALWAYS_EXCLUDED = [
 ]
 MOST_PATH = 1024
 # So many texts are read in one run of the program.
-TEXTS_OF_A_RUN = 400
+TEXTS_OF_A_RUN = 2000
 
 FRONT_MATTER = re.compile(r"\A\ufeff?---[ \t]*\r?\n(.*?)^(?:---|\.\.\.)[ \t]*(?:\r?\n|\Z)(?:[ \t]*\r?\n)*", re.S | re.M)
 SAID = re.compile(r"^sitebuild: (?P<path>.*?):(?:(?P<line>\d+):)? (?P<sentence>.*) \((?P<code>F\d+)\)$", re.M)
+
+
+class NotRead(Exception):
+    """The program did not do what was asked of it; says what."""
 
 
 @dataclass(frozen=True)
@@ -194,13 +198,13 @@ def read_some(program: str, folder: Path, keys: dict[str, str], texts: dict[str,
             break
         key = Path(fault.path).stem
         if key not in left:
-            raise RuntimeError(f"the program does not read a scratch site: {said.stderr.strip()}")
+            raise NotRead(f"the program does not read a scratch site: {said.stderr.strip()}")
         values.faults[left.pop(key)] = fault
         (folder / fault.path).unlink()
     else:
         return
     if said.returncode:
-        raise RuntimeError(f"the program does not read a scratch site: {said.stderr.strip() or said.returncode}")
+        raise NotRead(f"the program does not read a scratch site: {said.stderr.strip() or said.returncode}")
     read = json.loads((folder / OUTPUT / "p.html").read_text(encoding="utf-8"))
     for key, name in left.items():
         values.of[name] = read.get(key)
