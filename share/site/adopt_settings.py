@@ -4,10 +4,11 @@ from __future__ import annotations
 import datetime
 import os
 import re
+from pathlib import Path
 from typing import Optional
 
 from adoption import Adoption
-from kept_back import Replaced, Rules, is_glob, lists_of_paths, shortened
+from kept_back import Replaced, Rules, is_glob, lists_of_paths, names, shortened
 from kept_back import pattern as fnmatch
 from scopes import mend as mend_scopes
 from configuration import Settings
@@ -178,23 +179,28 @@ def tell(adoption: Adoption, settings: Settings, key: str, replaced: list[Replac
 def mend_kept(adoption: Adoption, settings: Settings, config: dict) -> None:
     """`keep_files`: Jekyll takes an entry for the front of a path in the output."""
     entries = texts(config.get("keep_files"))
-    output = adoption.original / OUTPUT
-    if not entries or output.is_symlink() or not output.is_dir():
-        return
-    present = list_files(output).files
-    kept: list[str] = []
-    for entry in entries:
-        plain = entry.strip("/")
-        if plain and not is_glob(entry):
-            kept.append(plain)
-        named = [path for path in present if path.startswith(plain) or fnmatch(plain).fullmatch(path)] if plain else []
-        new = [path for path in named if not any(path == one or path.startswith(one + "/") for one in kept)]
-        kept += new
-        if new or is_glob(entry):
-            tell(adoption, settings, "keep_files", [Replaced(entry, new, "a glob" if is_glob(entry) else "the front of a path")])
+    kept = [entry for entry in entries if not is_glob(entry)]
+    for entry, paths in kept_by_front(entries, adoption.original / OUTPUT):
+        kept += paths
+        if paths or is_glob(entry):
+            tell(adoption, settings, "keep_files", [Replaced(entry, paths, "a glob" if is_glob(entry) else "the front of a path in Jekyll")])
     if kept != entries:
         settings.set("keep_files", kept)
         config["keep_files"] = kept
+
+
+def kept_by_front(entries: list[str], output: Path) -> list[tuple[str, list[str]]]:
+    """By each entry of `keep_files` the files of the output that it names to Jekyll and not to the program."""
+    present = list_files(output).files if entries and output.is_dir() and not output.is_symlink() else []
+    plain = [entry.strip("/") for entry in entries if not is_glob(entry)]
+    left = [path for path in present if not any(names(one, path) for one in plain)]
+    found = []
+    for entry in entries:
+        front = entry.strip("/")
+        paths = [path for path in left if front and (path.startswith(front) or fnmatch(front).fullmatch(path))]
+        left = [path for path in left if path not in paths]
+        found.append((entry, paths))
+    return found
 
 
 def mend_defaults(adoption: Adoption, settings: Settings, config: dict, files: list[str]) -> None:

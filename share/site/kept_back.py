@@ -227,7 +227,8 @@ def lists_of_paths(rules: Rules, files: list[str]) -> Lists:
         raise NotRead(f"this would come out, and Jekyll leaves it out: {leaks[0]}")
     lists.replaced_includes = replaced(rules.include, include, missing, lambda entry, path: any(
         matches(entry, name, True) for name in [path, *path.split("/")]))
-    lists.replaced_excludes = replaced(rules.exclude, exclude, added, lambda entry, path: matches(entry, path, jekyll.is_folder(path)))
+    lists.replaced_excludes = replaced(rules.exclude, exclude, added, lambda entry, path: any(
+        matches(entry, name, jekyll.is_folder(name)) for name in (path, f"{path}/{ANY_NAME}")))
     named = {path for one in lists.replaced_excludes for path in one.paths}
     lists.added = [path for path in added if path not in named]
     return lists

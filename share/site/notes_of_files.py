@@ -5,9 +5,11 @@ import datetime
 import os
 import re
 
-from site_files import read_text
+from site_files import line_of, read_text
 
 DATE = re.compile(r"(\d{4})-(\d{1,2})-(\d{1,2})-")
+# A key of YAML that is a number.
+NUMBER = re.compile(r"^[ \t]*(?:- )?-?\d+[ \t]*:(?=\s|$)|[{,][ \t]*-?\d+:[ \t]", re.M)
 MOMENT = re.compile(r"(\d{4}-\d\d-\d\d)(?:[ T](\d\d):(\d\d)(?::\d\d)?)?\s*([+-]\d\d:?\d\d)?$")
 PAGES_OF_HTML = (".html", ".htm", ".xhtml")
 
@@ -86,6 +88,9 @@ def add_item(notes, site, item) -> None:
     values = item.values
     is_post = "_posts" in item.path.split("/") or item.path.startswith("_drafts/")
     is_document = is_post or item.path.partition("/")[0][1:] in site.collections()
+    number = NUMBER.search(item.text[: item.body])
+    if number:
+        notes.add(item.path, line_of(item.text, number.start()), "a key that is a number is a text (x[1] is nil)", 'ask for it as x["1"]')
     add_categories(notes, site, item, is_post, is_document)
     if "published" in values and values["published"] is None:
         notes.add(item.path, item.line_of_key("published"), "published without a value is true (there false)", "write published: false: `site adopt` does that")

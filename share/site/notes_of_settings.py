@@ -3,8 +3,8 @@ from __future__ import annotations
 
 import re
 
-from adopt_settings import rules_of, texts
-from kept_back import is_glob, lists_of_paths
+from adopt_settings import kept_by_front, rules_of, texts
+from kept_back import is_glob, lists_of_paths, shortened
 from scopes import mend
 
 ADOPT = "`site adopt` does that"
@@ -52,6 +52,7 @@ def add(notes, site) -> None:
             notes.add("_config.yml", settings.line(key), f"{key}: {said[0]}", said[1])
     add_plugins(notes, site)
     add_lists(notes, site)
+    add_kept(notes, site)
     add_scopes(notes, site)
     add_permalinks(notes, site)
     add_collections(notes, site)
@@ -90,6 +91,14 @@ def add_lists(notes, site) -> None:
             notes.add("_config.yml", site.settings.line_with("include", one.entry), f'"{one.entry}" of include names other files than in Jekyll', f"write paths: {ADOPT}")
 
 
+def add_kept(notes, site) -> None:
+    """What Jekyll keeps in the output, and the next build would remove."""
+    for entry, paths in kept_by_front(texts(site.config.get("keep_files")), site.folder / "_site"):
+        if paths:
+            place = site.settings.line_with("keep_files", entry)
+            notes.add("_config.yml", place, f'"{entry}" of keep_files is a path, so a build removes {shortened(paths)} from _site', f"write the paths: {ADOPT}")
+
+
 def add_scopes(notes, site) -> None:
     given = site.config.get("defaults")
     if isinstance(given, list):
@@ -100,7 +109,7 @@ def add_scopes(notes, site) -> None:
 def add_permalinks(notes, site) -> None:
     given = site.config.get("permalink")
     if isinstance(given, str) and given not in STYLES and not re.search(r":(title|slug|name|basename|path)", given):
-        notes.add("_config.yml", site.settings.line("permalink"), f'permalink "{given}" is no style, so all posts of a day or more share one address, and one of them comes out', "write date, pretty, ordinal, none, or a template with :title")
+        notes.add("_config.yml", site.settings.line("permalink"), f'permalink "{given}" is no style and names no title, so posts share an address, and one of them comes out', "write date, pretty, ordinal, none, or a template with :title")
     collections = site.config.get("collections")
     for name, meta in collections.items() if isinstance(collections, dict) else []:
         permalink = meta.get("permalink") if isinstance(meta, dict) else None

@@ -26,7 +26,8 @@ REMEDIES = {
 }
 QUOTED = re.compile(r"\"[^\"]*\"|'[^']*'")
 FILTER = re.compile(r"\|\s*([A-Za-z_]\w*)")
-EMPTY = re.compile(r"(?:!=|<>)\s*(?:empty|blank)\b|\b(?:empty|blank)\s*(?:!=|<>)")
+EMPTY_ON_THE_LEFT = re.compile(r"\bempty\s*(?:==|!=|<>)")
+BLANK = re.compile(r"(?:==|!=|<>)\s*blank\b|\bblank\s*(?:==|!=|<>)")
 LIST_OF_LISTS = re.compile(r"\bmap\s*:[^|]*\|\s*join\b[^|]*\|\s*split\b")
 SITE = re.compile(r"\bsite\.(html_files|source|destination|markdown|highlighter|encoding|kramdown|github|plugins_dir|safe)\b")
 STATIC = re.compile(r"\bsite\.static_files\s*\|\s*where(?:_exp)?\s*:\s*[\"'](\w+)[\"']")
@@ -60,8 +61,10 @@ def add_piece(notes, site, path: str, line: int, piece: re.Match) -> None:
     for name in FILTER.findall(bare):
         if name not in FILTERS:
             notes.add(path, line, f"the filter {name} is not known and leaves its input as it is", REMEDIES.get(name, "do without it"))
-    if EMPTY.search(bare):
-        notes.add(path, line, "a test with != empty or != blank is turned round for nil or an empty value", "write {% unless x == empty %}, or size > 0")
+    if EMPTY_ON_THE_LEFT.search(bare):
+        notes.add(path, line, "empty is nil on the left of a comparison", "write it on the right")
+    if BLANK.search(bare):
+        notes.add(path, line, "blank is nil, false, and what is empty or white space (there nothing equals it)", "write empty, or nil")
     for form, what, remedy in FORMS:
         if form.search(whole):
             notes.add(path, line, what, remedy)

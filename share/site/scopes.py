@@ -64,7 +64,6 @@ class Mended:
 def mend(defaults: list, files: list[str], types: list[str]) -> Mended:
     """`types` are the types that the site has, the names of its collections among them."""
     mended = Mended([])
-    site = Site(files, types, any(path.startswith("_drafts/") for path in files), defaults)
     for entry in defaults:
         if not isinstance(entry, dict) or not isinstance(entry.get("values"), dict):
             mended.tell("", "an entry of defaults has no values, and does nothing in Jekyll", "it is taken out")
@@ -73,25 +72,11 @@ def mend(defaults: list, files: list[str], types: list[str]) -> Mended:
         if not isinstance(scope, dict):
             mended.tell("", "an entry of defaults has no scope, and is for all files in Jekyll", "its path is empty now")
             scope = {}
-        mended.defaults += mend_entry(entry["values"], scope, site, mended)
+        mended.defaults += mend_entry(entry["values"], scope, files, types, mended)
     return mended
 
 
-@dataclass
-class Site:
-    """What is known of a site where scopes are mended."""
-
-    files: list[str]
-    types: list[str]
-    has_drafts: bool
-    defaults: list
-
-    def has(self, path: str, kind: str, values: dict) -> bool:
-        """Whether this entry is there already."""
-        return {"scope": {"path": path, "type": kind}, "values": values} in self.defaults
-
-
-def mend_entry(values: dict, scope: dict, site: Site, mended: Mended) -> list[dict]:
+def mend_entry(values: dict, scope: dict, files: list[str], types: list[str], mended: Mended) -> list[dict]:
     path, kind = scope.get("path"), scope.get("type")
     if not isinstance(path, str):
         mended.tell("scope", "a scope has no path, and is for all files in Jekyll", 'its path is "" now')
@@ -99,22 +84,18 @@ def mend_entry(values: dict, scope: dict, site: Site, mended: Mended) -> list[di
     if kind in OLD_TYPES:
         mended.tell(f"type: {kind}", f"the type {kind} is an old name", f"it is {OLD_TYPES[kind]} now")
         kind = OLD_TYPES[kind]
-    of_posts_too = site.has(path, "posts", values)
-    if "type" in scope and kind not in site.types or kind == "drafts" and site.has_drafts and not of_posts_too:
+    if "type" in scope and kind not in types or kind == "drafts" and any(one.startswith("_drafts/") for one in files):
         mended.tell(f"{kind}", f"the type {kind} is for nothing in Jekyll", "its defaults are taken out")
         return []
     if "published" in values and values["published"] is None:
         mended.tell("published", "published has no value, which Jekyll takes for false", "it is false now")
         values = {**values, "published": False}
-    kinds = [kind, "drafts"] if kind == "posts" and site.has_drafts and not site.has(path, "drafts", values) else [kind]
-    if len(kinds) > 1:
-        mended.tell("type: posts", "the type posts is for drafts too in Jekyll, and here for posts alone", "drafts have the same defaults now")
-    paths = paths_of(path, site.files)
+    paths = paths_of(path, files)
     if paths != [path]:
         what = "is a glob" if "*" in path else "is the front of a path in Jekyll"
         mended.tell(path, f'the scope "{path}" {what}', f"it names now: {shortened(paths)}; a new file of that kind has to be added")
     return [
-        {"scope": {"path": one, **({"type": each} if each is not None else {})}, "values": values} for one in paths for each in kinds
+        {"scope": {"path": one, **({"type": kind} if kind is not None else {})}, "values": values} for one in paths
     ]
 
 
