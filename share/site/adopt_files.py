@@ -262,7 +262,7 @@ def write_redirects(adoption: Adoption) -> None:
     _, config = read_configuration(adoption)
     program = Program(texts(config.get("include")), texts(config.get("exclude")))
     items = {path: text for path, text in with_front_matter(adoption).items() if program.comes_out(path, collections_of(config))}
-    asking = {path: text for path, text in items.items() if re.search(r"^redirect_(from|to)[ \t]*:", front_matter(text)[1], re.M)}
+    asking = {path: text for path, text in items.items() if re.search(r"^redirect_(from|to|source)[ \t]*:", front_matter(text)[1], re.M)}
     values = read_values(adoption.program, {path: yaml_of(text) for path, text in asking.items()}).of
     layout = os.path.splitext(own_name(adoption, "_layouts", "redirect.html", template("redirect.html")))[0]
     used = False
@@ -307,6 +307,8 @@ def redirect_page(adoption: Adoption, path: str, text: str, layout: str) -> bool
     match = front_matter(text)
     line = re.compile(r"^layout[ \t]*:.*?(\r?)$", re.M)
     new = line.sub(rf"layout: {layout}\1", match[1]) if line.search(match[1]) else f"{match[1]}layout: {layout}\n"
+    if not re.search(r"^sitemap[ \t]*:", match[1], re.M):
+        new += "sitemap: false\n"
     if new != match[1]:
         write_text(adoption.folder / path, text[: match.start(1)] + new + text[match.end(1) :])
         adoption.done(f"{path}:{line_of(text, text.find('redirect_to'))}", f"its layout is {layout} now, which leads to redirect_to")

@@ -8,11 +8,11 @@ from pathlib import Path
 from typing import Optional
 
 from adoption import Adoption
-from kept_back import Replaced, Rules, is_glob, lists_of_paths, names, shortened
+from kept_back import Program, Replaced, Rules, is_glob, lists_of_paths, names, shortened
 from kept_back import pattern as fnmatch
 from scopes import mend as mend_scopes
 from configuration import Settings
-from site_files import OUTPUT, Fault, list_files, read_text, read_values, write_text
+from site_files import OUTPUT, Fault, front_matter, list_files, read_text, read_values, write_text
 from words import Refused, shown
 
 CONFIG = "_config.yml"
@@ -33,6 +33,7 @@ def adopt_configuration(adoption: Adoption) -> dict:
     rename_folders(adoption, settings, config)
     files = adoption.files()
     mend_lists(adoption, settings, config, files)
+    mend_limit(adoption, settings, config, files)
     mend_kept(adoption, settings, config)
     mend_defaults(adoption, settings, config, files)
     mend_values(adoption, settings, config)
@@ -167,6 +168,47 @@ def mend_lists(adoption: Adoption, settings: Settings, config: dict, files: list
         if value != (rules.include if key == "include" else texts(config.get(key))):
             settings.set(key, value)
             config[key] = value
+
+
+def mend_limit(adoption: Adoption, settings: Settings, config: dict, files: list[str]) -> None:
+    """`limit_posts`: the older posts go into `exclude`."""
+    limit = config.get("limit_posts")
+    if not isinstance(limit, int) or limit <= 0:
+        return
+    program = Program(texts(config.get("include")), texts(config.get("exclude")))
+    heads = {}
+    for path in files:
+        if "_posts" in path.split("/") and program.comes_out(path, collections_of(config)):
+            match = front_matter(read_text(adoption.folder / path))
+            if match:
+                heads[path] = "---\n" + match[1]
+    values = read_values(adoption.program, heads).of
+    now = datetime.datetime.now(datetime.timezone.utc)
+    dated = [(moment_of(path, values.get(path)), path) for path in heads]
+    shown_now = sorted(one for one in dated if config.get("future") is True or one[0] <= now)
+    older = [path for _, path in shown_now[: max(len(shown_now) - limit, 0)]]
+    place = f"{CONFIG}:{settings.line('limit_posts')}"
+    if older:
+        adoption.done(place, f"the posts past the newest {limit} are in exclude now: {shortened(older)}")
+        config["exclude"] = texts(config.get("exclude")) + older
+        settings.set("exclude", config["exclude"])
+    settings.comment_out("limit_posts", "the older posts are in exclude now")
+    config.pop("limit_posts")
+
+
+def moment_of(path: str, values: object) -> datetime.datetime:
+    """The moment of a post: its own date, else that of its name."""
+    given = str(values.get("date", "")) if isinstance(values, dict) else ""
+    for text in (given, path.rpartition("/")[2][:10]):
+        match = re.match(r"(\d{4})-(\d\d)-(\d\d)(?:[ T](\d\d):(\d\d)(?::(\d\d))?)?\s*([+-]\d\d):?(\d\d)?", text + "+00:00")
+        if match:
+            year, month, day, hour, minute, second = (int(part or 0) for part in match.groups()[:6])
+            offset = datetime.timedelta(minutes=(-1 if match[7][0] == "-" else 1) * (int(match[7][1:]) * 60 + int(match[8] or 0)))
+            try:
+                return datetime.datetime(year, month, day, hour, minute, second, tzinfo=datetime.timezone(offset))
+            except ValueError:
+                continue
+    return datetime.datetime(1970, 1, 1, tzinfo=datetime.timezone.utc)
 
 
 def tell(adoption: Adoption, settings: Settings, key: str, replaced: list[Replaced]) -> None:

@@ -14,6 +14,10 @@ BEFORE = "# Before `site adopt`:"
 
 def written(value: object) -> str:
     """A value in YAML, on one line."""
+    if isinstance(value, dict):
+        return "{" + ", ".join(f"{written(key)}: {written(one)}" for key, one in value.items()) + "}"
+    if isinstance(value, list):
+        return "[" + ", ".join(written(one) for one in value) + "]"
     if isinstance(value, str) and BARE.fullmatch(value) and value.lower() not in OTHER_VALUES:
         return value
     return json.dumps(value, ensure_ascii=False)
@@ -85,8 +89,16 @@ class Settings:
             self.lines += lines
             return
         start, end = place
-        old = [f"#   {line}".rstrip() for line in self.lines[start:end]]
-        self.lines[start:end] = [BEFORE, *old, *lines]
+        old = [] if self.is_ours(key, start) else [BEFORE, *(f"#   {line}".rstrip() for line in self.lines[start:end])]
+        self.lines[start:end] = [*old, *lines]
+
+    def is_ours(self, key: str, start: int) -> bool:
+        """Whether the comment above a key tells what was there before."""
+        above = start
+        while above and self.lines[above - 1].startswith("#   "):
+            above -= 1
+        first = KEY.match(self.lines[above][len("#   ") :]) if above < start else None
+        return bool(first) and first["key"] == key and self.lines[above - 1] == BEFORE
 
     def remove(self, key: str) -> None:
         """Takes a key out, for a scratch copy. Its lines stay as empty ones, so that no other has a new number."""

@@ -11,8 +11,10 @@ import notes_of_files
 import notes_of_markdown
 import notes_of_settings
 import notes_of_templates
+from adopt_settings import texts as strings
 from configuration import Settings
 from first_faults import all_faults
+from kept_back import Program
 from site_files import NotRead, first_fault, front_matter, line_of, list_files, read_text, read_values, run
 
 CONFIG = "_config.yml"
@@ -60,6 +62,8 @@ class Site:
 
     folder: Path
     files: list[str]
+    # Those of them that are left out by nothing.
+    looked_at: list[str]
     links: list[str]
     config: dict
     settings: Settings
@@ -120,9 +124,13 @@ def read_site(folder: Path, program: str) -> Site:
     found = list_files(folder)
     text = read_text(folder / CONFIG) if CONFIG in found.files else ""
     config = read_values(program, {CONFIG: text}).of.get(CONFIG)
-    site = Site(folder, found.files, found.links, config if isinstance(config, dict) else {}, Settings(text))
+    site = Site(folder, found.files, [], found.links, config if isinstance(config, dict) else {}, Settings(text))
     texts = {}
+    rules = Program(strings(site.config.get("include")), strings(site.config.get("exclude")))
     for path in found.files:
+        if not path.startswith(("_includes/", "_layouts/")) and rules.is_excluded(path):
+            continue
+        site.looked_at.append(path)
         begun = beginning(folder / path)
         if path.startswith("_includes/") or path.startswith("_layouts/") and not begun:
             site.plain[path] = read_text(folder / path)

@@ -18,7 +18,7 @@ def add(notes, site) -> None:
     for path in site.links:
         notes.add(path, 0, "links are passed over (Jekyll follows them)", "put the file itself there")
     with_front_matter = {item.path for item in site.items}
-    for path in site.files:
+    for path in site.looked_at:
         add_name(notes, site, path, path in with_front_matter)
     layouts = {os.path.splitext(path)[0][len("_layouts/") :] for path in site.files if path.startswith("_layouts/")}
     for entry in site.defaults():
