@@ -6,8 +6,8 @@ from dataclasses import dataclass, field
 from pathlib import Path
 from typing import Optional
 
-import notes
 from common import PROGRAM, Failures, build_by_jekyll, run, write_files
+import notes
 
 ROWS = Path(__file__).with_name("rows.txt")
 SOMETHING = "(something)\n"

@@ -30,9 +30,9 @@ def adopt_configuration(adoption: Adoption) -> dict:
     text, config = readable(adoption, before)
     settings = Settings(text)
     refuse_other_source(config)
-    rename_folders(adoption, settings, config)
+    moved = rename_folders(adoption, settings, config)
     files = adoption.files()
-    mend_lists(adoption, settings, config, files)
+    mend_lists(adoption, settings, config, files, moved)
     mend_limit(adoption, settings, config, files)
     mend_kept(adoption, settings, config)
     mend_defaults(adoption, settings, config, files)
@@ -103,8 +103,8 @@ def refuse_other_source(config: dict) -> None:
         )
 
 
-def rename_folders(adoption: Adoption, settings: Settings, config: dict) -> None:
-    """Folders that have names of their own get those that the program knows."""
+def rename_folders(adoption: Adoption, settings: Settings, config: dict) -> bool:
+    """Folders that have names of their own get those that the program knows. Whether collections were moved."""
     for key, name in FOLDERS.items():
         given = str(config.get(key) or name).strip("/")
         if given != name:
@@ -112,6 +112,7 @@ def rename_folders(adoption: Adoption, settings: Settings, config: dict) -> None
             config.pop(key)
     given = str(config.get("collections_dir") or "").strip("/")
     if given:
+        # Posts elsewhere are none to Jekyll.
         if any(path.startswith("_posts/") for path in adoption.files()):
             raise Refused(f"_posts: Jekyll does not read it, since collections_dir is {shown(given)}; take it out of the folder. Nothing was done")
         inner = adoption.folder / given
@@ -120,6 +121,7 @@ def rename_folders(adoption: Adoption, settings: Settings, config: dict) -> None
                 move(adoption, settings, "collections_dir", f"{given}/{entry.name}", entry.name)
         settings.comment_out("collections_dir", "its folders are at the top now")
         config.pop("collections_dir")
+    return bool(given)
 
 
 def move(adoption: Adoption, settings: Settings, key: str, old: str, new: str) -> None:
@@ -148,12 +150,14 @@ def rules_of(config: dict) -> Rules:
         rules.include = texts(config["include"])
     destination = str(config.get("destination") or "").strip("/")
     rules.destination = destination.removeprefix("./") if destination != OUTPUT else ""
+    rules.collections_in = str(config.get("collections_dir") or "").strip("/") or None
     return rules
 
 
-def mend_lists(adoption: Adoption, settings: Settings, config: dict, files: list[str]) -> None:
+def mend_lists(adoption: Adoption, settings: Settings, config: dict, files: list[str], moved: bool) -> None:
     """`exclude` and `include` get the paths that they name now. The globs stay in a key of their own, for new files."""
     rules = rules_of(config)
+    rules.collections_in = "" if moved else None
     excluded, globs = rules.exclude, texts(config.get("exclude_globs"))
     rules.exclude = excluded + [glob for glob in globs if glob not in excluded]
     lists = lists_of_paths(rules, files)

@@ -8,7 +8,7 @@ import posixpath
 import re
 from dataclasses import dataclass, field
 from functools import lru_cache
-from typing import Callable, Iterable
+from typing import Callable, Iterable, Optional
 
 from site_files import ALWAYS_EXCLUDED, NotRead
 
@@ -77,6 +77,17 @@ class Rules:
     exclude: list[str] = field(default_factory=list)
     collections: list[str] = field(default_factory=list)
     destination: str = ""
+    # `collections_dir`; empty when the collections were in such a folder, and are at the top now.
+    collections_in: Optional[str] = None
+
+    def has_posts(self, folder: str) -> bool:
+        """Whether Jekyll reads the folders `_posts` and `_drafts` of this folder."""
+        if self.collections_in is None:
+            return True
+        return folder == "" if self.collections_in == "" else f"{folder}/".startswith(f"{self.collections_in}/")
+
+    def folder_of(self, collection: str) -> str:
+        return f"{self.collections_in}/_{collection}" if self.collections_in else f"_{collection}"
 
 
 class Jekyll:
@@ -124,13 +135,13 @@ class Jekyll:
         self.walk("", found)
         for collection in self.rules.collections:
             if collection != "posts":
-                found.update(self.below(f"_{collection}", dots=True))
+                found.update(self.below(self.rules.folder_of(collection), dots=True))
         whole = (posixpath.normpath(entry.lstrip("/") or ".") for entry in self.rules.include)
         found.update(path for path in whole if path in self.files)
         return found
 
     def walk(self, folder: str, found: set[str]) -> None:
-        for name in ("_posts", "_drafts"):
+        for name in ("_posts", "_drafts") if self.rules.has_posts(folder) else ():
             inner = f"{folder}/{name}" if folder else name
             form = POST if name == "_posts" else DRAFT
             found.update(path for path in self.below(inner, dots=False) if form.match(path[len(inner) + 1 :]))
