@@ -89,6 +89,12 @@ class Site:
             self.found_decimals = {key for item in self.items for key in DECIMAL.findall(item.text[: item.body])}
         return self.found_decimals
 
+    def copied_of_collections(self) -> bool:
+        """Whether a collection has files without front matter."""
+        items = {item.path for item in self.items}
+        folders = tuple(f"_{name}/" for name in self.collections() if name != "posts")
+        return any(path.startswith(folders) and path not in items for path in self.looked_at) if folders else False
+
     def is_markdown(self, path: str) -> bool:
         endings = str(self.config.get("markdown_ext") or "markdown,mkdown,mkdn,mkd,md").split(",")
         return os.path.splitext(path)[1][1:] in [ending.strip() for ending in endings]

@@ -1,7 +1,9 @@
 """Notes of files by their names and their front matter."""
 from __future__ import annotations
 
+import csv
 import datetime
+import io
 import os
 import re
 
@@ -10,6 +12,8 @@ from site_files import line_of, read_text
 DATE = re.compile(r"(\d{4})-(\d{1,2})-(\d{1,2})-")
 # A key of YAML that is a number.
 NUMBER = re.compile(r"^[ \t]*(?:- )?-?\d+[ \t]*:(?=\s|$)|[{,][ \t]*-?\d+:[ \t]", re.M)
+# A number that Ruby writes otherwise than it stands.
+ODD_NUMBER = re.compile(r"^[\w-]+[ \t]*:[ \t]*([+-]?(?:0x[0-9A-Fa-f]+|0[0-7]+|\d+\.\d*0))[ \t]*(?:#.*)?\r?$", re.M)
 MOMENT = re.compile(r"(\d{4}-\d\d-\d\d)(?:[ T](\d\d):(\d\d)(?::\d\d)?)?\s*([+-]\d\d:?\d\d)?$")
 PAGES_OF_HTML = (".html", ".htm", ".xhtml")
 
@@ -50,6 +54,8 @@ def add_name(notes, site, path: str, has_front_matter: bool) -> None:
         notes.add(path, 0, "nothing comes of a document in such a folder", "write the file in include, or rename the folder: `site adopt` does the first")
     if path.startswith("_data/") and re.search(r"[^A-Za-z0-9_./-]", path):
         notes.add(path, 0, "the key of this data file is its name as it stands (there its spaces are _)", "call it with letters, digits and _")
+    if path.startswith("_data/") and ending in (".csv", ".tsv"):
+        add_empty_field(notes, path, read_text(site.folder / path), "\t" if ending == ".tsv" else ",")
     if has_front_matter and ending.lower() != ending and site.is_markdown(path[: -len(ending)] + ending.lower()):
         notes.add(path, 0, f"{ending} in capitals is no ending of Markdown, so it is not converted", "write it small")
     if has_front_matter and ending in (".scss", ".sass", ".coffee"):
@@ -58,6 +64,13 @@ def add_name(notes, site, path: str, has_front_matter: bool) -> None:
         notes.add(path, 0, "its address has the signs of its name as they are (there escaped)", "call it with letters, digits and -")
     if has_front_matter and read_text(site.folder / path).startswith("\ufeff"):
         notes.add(path, 1, "it begins with a byte-order mark: here its front matter is read, there it is copied", "save it without the mark")
+
+
+def add_empty_field(notes, path: str, text: str, separator: str) -> None:
+    for number, record in enumerate(csv.reader(io.StringIO(text), delimiter=separator), 1):
+        if "" in record:
+            notes.add(path, number, "an empty field is an empty text (there nil)", 'test it with == ""')
+            return
 
 
 def add_post_name(notes, path: str, name: str, has_front_matter: bool) -> None:
@@ -107,6 +120,13 @@ def add_item(notes, site, item) -> None:
         for key, value in entry["values"].items():
             if isinstance(value, dict) and isinstance(values.get(key), dict):
                 notes.add(item.path, item.line_of_key(key), f"the hash {key} takes the place of that of defaults, and nothing is merged", "write the hash whole")
+            elif value is not None and values.get(key, value) is None and key != "published":
+                notes.add(item.path, item.line_of_key(key), f"{key} has no value, and hides that of defaults", "take the key out")
+    odd = ODD_NUMBER.search(item.text[: item.body])
+    if odd:
+        notes.add(item.path, line_of(item.text, odd.start()), f"{odd[1]} is a text, and comes out as it stands", "write a whole number, or put it in quotes")
+    if is_document and "title" not in values and not item.path.isascii():
+        notes.add(item.path, 0, "its title is made of its name, where ASCII letters alone become capitals", "write title")
 
 
 def add_categories(notes, site, item, is_post: bool, is_document: bool) -> None:

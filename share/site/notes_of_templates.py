@@ -77,6 +77,7 @@ def add_piece(notes, site, path: str, line: int, piece: re.Match) -> None:
         if name not in STATIC_HAS:
             notes.add(path, line, f"copied files have no {name}: defaults do not reach them", "ask for a part of their path")
     add_names_of_items(notes, site, path, line, bare)
+    add_lists(notes, site, path, line, bare)
     add_sorts(notes, site, path, line, whole)
     add_table(notes, path, line, piece)
 
@@ -87,6 +88,18 @@ def add_names_of_items(notes, site, path: str, line: int, bare: str) -> None:
     shared = folder in ("_layouts", "_includes")
     if re.search(r"\bpost\.name\b", bare) or (re.search(r"\bpage\.name\b", bare) and (shared or "_posts" in path.split("/") or folder[1:] in site.collections())):
         notes.add(path, line, "name of a post or document is nil (there its file's name)", "use path")
+    if folder == "_layouts" and re.search(r"\bpage\.content\b", bare):
+        notes.add(path, line, "page.content of a page is its converted text (there its source)", "use content")
+
+
+def add_lists(notes, site, path: str, line: int, bare: str) -> None:
+    """Lists of the site that stand in another order, or have other members."""
+    names = site.collections()
+    # The configuration's order is not known here: its keys come sorted.
+    if re.search(r"\bin\s+site\.collections\b", bare) and (len(names) > 1 or any(name < "posts" for name in names)):
+        notes.add(path, line, "site.collections has posts first, and then the order of the configuration (there that of names)", "sort them by label")
+    if re.search(r"\bsite\.static_files\b", bare) and site.copied_of_collections():
+        notes.add(path, line, "path of a copied file of a collection is its address, as /c/a.png (there _c/a.png)", "look for its address")
 
 
 def add_sorts(notes, site, path: str, line: int, whole: str) -> None:
