@@ -1,12 +1,15 @@
 """Reads rows.txt, and tries its rows: what the program makes of each site, what Jekyll makes of it, and what is said of it."""
 from __future__ import annotations
 
+import contextlib
+import io
 import re
 from dataclasses import dataclass, field
 from pathlib import Path
 from typing import Optional
 
 from common import PROGRAM, Failures, build_by_jekyll, run, write_files
+import adopt
 import notes
 
 ROWS = Path(__file__).with_name("rows.txt")
@@ -26,10 +29,15 @@ class Row:
     fault: str = ""
     refusal: str = ""
     said: str = ""
+    # Whether the adopted site gives what is there.
+    adopted: bool = False
 
 
 def read_rows(text: str) -> list[Row]:
-    """A row begins with `### NAME`; then come `-- FILE --`, and `== here`, `== there` and `== said`, each with its text below it."""
+    """A row begins with `### NAME`; then come `-- FILE --`, and `== here`, `== there` and `== said`, each with its text below it.
+
+    With `== adopted` the adopted site gives what is there.
+    """
     rows: list[Row] = []
     take = None
     for number, line in enumerate(text.splitlines(keepends=True), 1):
@@ -43,6 +51,8 @@ def read_rows(text: str) -> list[Row]:
             take = adder(rows[-1].files, file[1])
         elif part:
             take = part_adder(rows[-1], part)
+        elif line == "== adopted\n":
+            rows[-1].adopted, take = True, None
         elif take:
             take(line)
     for row in rows:
@@ -87,6 +97,8 @@ def try_rows(work: Path, failures: Failures, jekyll: bool) -> int:
         if said != row.said.strip():
             failures.add(f"{ROWS.name}:{row.line}: {row.name}: what is said:\n{said}")
         try_here(row, folder, failures)
+        if row.adopted:
+            try_adopted(row, folder, failures)
     if jekyll:
         # A zone of its own shows what Jekyll takes from the machine.
         refusals = build_by_jekyll(folders, {"TZ": "America/New_York"})
@@ -103,6 +115,15 @@ def try_here(row: Row, folder: Path, failures: Failures) -> None:
         failures.add(f"{ROWS.name}:{row.line}: {row.name}: the program's reply: {done.stdout}")
     elif not fault:
         compare(row, "here", row.here, folder / "_site", failures)
+
+
+def try_adopted(row: Row, folder: Path, failures: Failures) -> None:
+    with contextlib.redirect_stdout(io.StringIO()):
+        adopt.main([str(folder)], PROGRAM)
+    copy = Path(f"{folder}-adopted")
+    drafts = ["--drafts"] if any("_drafts/" in path for path in row.files) else []
+    run([PROGRAM, "once", *drafts], copy)
+    compare(row, "adopted", row.there, copy / "_site", failures)
 
 
 def try_there(row: Row, output: Path, refusal: str, failures: Failures) -> None:

@@ -245,6 +245,14 @@ def lists_of_paths(rules: Rules, files: list[str]) -> Lists:
     return lists
 
 
+def leaks(rules: Rules, exclude: list[str], files: list[str]) -> list[str]:
+    """What comes out by the lists as they are, and Jekyll leaves out."""
+    jekyll = Jekyll(rules, files)
+    wanted = jekyll.comes_out()
+    program = Program(rules.include, exclude)
+    return collapse([path for path in files if path not in wanted and program.comes_out(path, rules.collections)], jekyll, wanted)
+
+
 def is_plain(entry: str) -> bool:
     """Whether both read an entry as the path of a file or a folder."""
     return bool(entry) and not is_glob(entry) and not entry.startswith("/") and not entry.endswith("/") and "//" not in entry
@@ -265,7 +273,7 @@ def missing_paths(program: Program, wanted: set[str], files: list[str], rules: R
             continue
         parts = path.split("/")
         first = next((at for at, part in enumerate(parts) if is_special(part)), len(parts) - 1)
-        entries = ("/".join(parts[: first + 1]), path)
+        entries = [one for one in ("/".join(parts[: first + 1]), path) if Program([one], program.exclude).comes_out(path, rules.collections)]
         # A folder of posts holds what is none.
         found += [one for one in entries if one != "_posts" and brings_only(one, wanted, files, rules.collections)][:1]
     return found

@@ -4,7 +4,7 @@ from __future__ import annotations
 import re
 
 from adopt_settings import kept_by_front, rules_of, texts
-from kept_back import is_glob, lists_of_paths, shortened
+from kept_back import is_glob, leaks, lists_of_paths, shortened
 from scopes import mend
 
 ADOPT = "`site adopt` does that"
@@ -76,7 +76,7 @@ def add_lists(notes, site) -> None:
     lists = lists_of_paths(rules, site.files)
     line = site.settings.line
     plain = texts(site.config.get("exclude"))
-    for path in [one for one in lists.exclude if one not in plain]:
+    for path in leaks(rules, plain, site.files):
         named = next((one.entry for one in lists.replaced_excludes if path in one.paths), "")
         place = line("exclude_globs") if named in texts(site.config.get("exclude_globs")) else site.settings.line_with("exclude", named)
         by = f' by "{named}"' if named else ""
