@@ -250,7 +250,9 @@ def leaks(rules: Rules, exclude: list[str], files: list[str]) -> list[str]:
     jekyll = Jekyll(rules, files)
     wanted = jekyll.comes_out()
     program = Program(rules.include, exclude)
-    return collapse([path for path in files if path not in wanted and program.comes_out(path, rules.collections)], jekyll, wanted)
+    leaking = [path for path in files if path not in wanted and program.comes_out(path, rules.collections)]
+    brought = [path for path in leaking if program.is_included(path)]
+    return brought + collapse([path for path in leaking if path not in brought], jekyll, wanted)
 
 
 def is_plain(entry: str) -> bool:

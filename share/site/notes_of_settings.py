@@ -4,9 +4,10 @@ from __future__ import annotations
 import re
 
 from adopt_settings import kept_by_front, rules_of, texts
-from kept_back import is_glob, leaks, lists_of_paths, shortened
+from kept_back import READ_FOLDERS, Lists, Program, Rules, is_glob, leaks, lists_of_paths, shortened
 from scopes import mend
 
+CONFIG = "_config.yml"
 ADOPT = "`site adopt` does that"
 STYLES = ("date", "pretty", "ordinal", "none")
 # Keys that say to Jekyll how a site is made.
@@ -49,7 +50,7 @@ def add(notes, site) -> None:
                 notes.add(other, 0, "it is not read: the configuration is _config.yml", "give it this name")
     for key, said in WITHOUT_MEANING.items():
         if said and key in config and config[key] != USUAL.get(key, object()) and config[key] is not None:
-            notes.add("_config.yml", settings.line(key), f"{key}: {said[0]}", said[1])
+            notes.add(CONFIG, settings.line(key), f"{key}: {said[0]}", said[1])
     add_plugins(notes, site)
     add_lists(notes, site)
     add_kept(notes, site)
@@ -66,29 +67,38 @@ def add_plugins(notes, site) -> None:
             if name in WITHOUT_WORK or made.get(name) in site.files:
                 continue
             remedy = f"a template has to make {made[name]}: {ADOPT}" if name in made else "write what it makes as a template"
-            notes.add("_config.yml", site.settings.line_with(key, name), f"the plugin {name} is not run", remedy)
+            notes.add(CONFIG, site.settings.line_with(key, name), f"the plugin {name} is not run", remedy)
 
 
 def add_lists(notes, site) -> None:
     """Files that Jekyll leaves out and the program does not, and the other way round."""
     rules = rules_of(site.config)
-    rules.exclude += texts(site.config.get("exclude_globs"))
+    exclude, globs = rules.exclude, texts(site.config.get("exclude_globs"))
+    rules.exclude = exclude + globs
     lists = lists_of_paths(rules, site.files)
-    line = site.settings.line
-    plain = texts(site.config.get("exclude"))
-    for path in leaks(rules, plain, site.files):
-        named = next((one.entry for one in lists.replaced_excludes if path in one.paths), "")
-        place = line("exclude_globs") if named in texts(site.config.get("exclude_globs")) else site.settings.line_with("exclude", named)
-        by = f' by "{named}"' if named else ""
-        notes.add("_config.yml", place, f"{path} comes out, and Jekyll leaves it out{by}", f"write it in exclude: {ADOPT}")
+    for path in leaks(rules, exclude, site.files):
+        add_leak(notes, site, path, rules, lists)
     for one in lists.replaced_excludes:
-        if is_glob(one.entry) and not one.paths and one.entry in plain:
-            notes.add("_config.yml", site.settings.line_with("exclude", one.entry), f'"{one.entry}" of exclude is a glob, and names no file here', f"write paths: {ADOPT}")
-        elif one.entry.partition("/")[0] in ("_layouts", "_includes", "_data"):
-            notes.add("_config.yml", site.settings.line_with("exclude", one.entry), f'"{one.entry}" of exclude takes a file out that Jekyll reads', "take the entry out")
+        place = site.settings.line_with("exclude", one.entry)
+        if is_glob(one.entry) and not one.paths and one.entry in exclude:
+            notes.add(CONFIG, place, f'"{one.entry}" of exclude is a glob, and names no file here', f"write paths: {ADOPT}")
+        elif one.entry.partition("/")[0] in READ_FOLDERS:
+            notes.add(CONFIG, place, f'"{one.entry}" of exclude takes a file out that Jekyll reads', "take the entry out")
     for one in lists.replaced_includes:
         if one.paths or is_glob(one.entry):
-            notes.add("_config.yml", site.settings.line_with("include", one.entry), f'"{one.entry}" of include names other files than in Jekyll', f"write paths: {ADOPT}")
+            place = site.settings.line_with("include", one.entry)
+            notes.add(CONFIG, place, f'"{one.entry}" of include names other files than in Jekyll', f"write paths: {ADOPT}")
+
+
+def add_leak(notes, site, path: str, rules: Rules, lists: Lists) -> None:
+    """What comes out, and Jekyll leaves out."""
+    if Program(rules.include, []).is_included(path):
+        notes.add(CONFIG, site.settings.line("include"), f"{path} comes out by include, and Jekyll leaves it out", f"write whole paths there: {ADOPT}")
+        return
+    entry = next((one.entry for one in lists.replaced_excludes if path in one.paths), "")
+    key = "exclude_globs" if entry in texts(site.config.get("exclude_globs")) else "exclude"
+    by = f' by "{entry}"' if entry else ""
+    notes.add(CONFIG, site.settings.line_with(key, entry), f"{path} comes out, and Jekyll leaves it out{by}", f"write it in exclude: {ADOPT}")
 
 
 def add_kept(notes, site) -> None:
@@ -96,25 +106,25 @@ def add_kept(notes, site) -> None:
     for entry, paths in kept_by_front(texts(site.config.get("keep_files")), site.folder / "_site"):
         if paths:
             place = site.settings.line_with("keep_files", entry)
-            notes.add("_config.yml", place, f'"{entry}" of keep_files is a path, so a build removes {shortened(paths)} from _site', f"write the paths: {ADOPT}")
+            notes.add(CONFIG, place, f'"{entry}" of keep_files is a path, so a build removes {shortened(paths)} from _site', f"write the paths: {ADOPT}")
 
 
 def add_scopes(notes, site) -> None:
     given = site.config.get("defaults")
     if isinstance(given, list):
         for one in mend(given, site.files, ["posts", "drafts", "pages", *site.collections()]).differences:
-            notes.add("_config.yml", site.settings.line_with("defaults", one.part), one.otherwise, f"write it out: {ADOPT}")
+            notes.add(CONFIG, site.settings.line_with("defaults", one.part), one.otherwise, f"write it out: {ADOPT}")
 
 
 def add_permalinks(notes, site) -> None:
     given = site.config.get("permalink")
     if isinstance(given, str) and given not in STYLES and not re.search(r":(title|slug|name|basename|path)", given):
-        notes.add("_config.yml", site.settings.line("permalink"), f'permalink "{given}" is no style and names no title, so posts share an address, and one of them comes out', "write date, pretty, ordinal, none, or a template with :title")
+        notes.add(CONFIG, site.settings.line("permalink"), f'permalink "{given}" is no style and names no title, so posts share an address, and one of them comes out', "write date, pretty, ordinal, none, or a template with :title")
     collections = site.config.get("collections")
     for name, meta in collections.items() if isinstance(collections, dict) else []:
         permalink = meta.get("permalink") if isinstance(meta, dict) else None
         if isinstance(permalink, str) and re.search(r"[^/]:path", permalink):
-            notes.add("_config.yml", site.settings.line_with("collections", permalink), f'permalink "{permalink}": nothing is put between the text and :path (there a /)', "write the / before :path")
+            notes.add(CONFIG, site.settings.line_with("collections", permalink), f'permalink "{permalink}": nothing is put between the text and :path (there a /)', "write the / before :path")
 
 
 def add_collections(notes, site) -> None:
@@ -122,6 +132,6 @@ def add_collections(notes, site) -> None:
     for name, meta in collections.items() if isinstance(collections, dict) else []:
         for key in meta if isinstance(meta, dict) else ():
             if key in ("sort_by", "order"):
-                notes.add("_config.yml", site.settings.line_with("collections", key), f"{key} of the collection {name} has no meaning: documents stand by date and path", "sort them where they are listed")
+                notes.add(CONFIG, site.settings.line_with("collections", key), f"{key} of the collection {name} has no meaning: documents stand by date and path", "sort them where they are listed")
             elif key not in ("output", "permalink"):
-                notes.add("_config.yml", site.settings.line_with("collections", key), f"{key} of the collection {name} is nil in templates", "put it into a key of its own, or a data file")
+                notes.add(CONFIG, site.settings.line_with("collections", key), f"{key} of the collection {name} is nil in templates", "put it into a key of its own, or a data file")
