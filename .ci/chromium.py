@@ -23,15 +23,14 @@ class Browser:
     """One page of a browser. It reads commands at descriptor 3 and replies at descriptor 4; each message ends with a zero byte."""
 
     def __init__(self, path: str, width: int = 1280, height: int = 900, dark: bool = False):
-        self.room = tempfile.TemporaryDirectory(ignore_cleanup_errors=True)
+        self.room = tempfile.mkdtemp(prefix="chromium-")
         commands, replies = os.pipe(), os.pipe()
-        # Out of the way of 3 and 4.
-        ends = [os.dup(number) if False else number for number in (commands[0], replies[1])]
+        ends = (commands[0], replies[1])
         self.process = subprocess.Popen(
             [
                 "bash", "-c", 'exec 3<&"$1" 4>&"$2"; shift 2; exec "$@"', "bash", str(ends[0]), str(ends[1]),
                 path, "--headless", "--no-sandbox", "--disable-gpu", "--hide-scrollbars", "--remote-debugging-pipe", "--no-first-run",
-                f"--user-data-dir={self.room.name}", "about:blank",
+                f"--user-data-dir={self.room}", "about:blank",
             ],
             stdin=subprocess.DEVNULL, stdout=subprocess.DEVNULL, stderr=subprocess.DEVNULL, pass_fds=ends, start_new_session=True,
         )
@@ -59,7 +58,8 @@ class Browser:
             self.process.kill()
             self.process.wait()
         os.close(self.replies)
-        self.room.cleanup()
+        # What is left of the browser may still write there.
+        shutil.rmtree(self.room, ignore_errors=True)
 
     def ask(self, method: str, **parameters) -> dict:
         """The result of a command."""

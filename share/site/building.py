@@ -11,7 +11,7 @@ from faults import Fault, explain
 from settings import CONFIGURATION
 from session import Built, Ended, Failed, LeftToScan, Session, can_be_told, read_source
 from status import Status
-from watching import OUTPUT, Changes, Looking, NotToBeHad, watch
+from watching import OUTPUT, Changes, Looking, NotToBeHad, mark, watch
 from words import Refused, shown
 
 # An editor saves in several steps: a build waits until nothing has happened for so long, but no longer than so long in all.
@@ -22,6 +22,8 @@ MOST_PUTS = 100
 # A scan makes sure: so long after a save that was put, and so long after anything.
 AFTER_SAVES = 10.0
 AFTER_ALL = 300.0
+# So often it is seen whether the folder is still there: nothing tells when it goes, as long as the program is in it.
+BETWEEN_CHECKS = 2.0
 # What editors write beside a file while they have it open.
 EDITORS_OWN = (".swp", ".swo", ".swx", "~")
 
@@ -48,7 +50,9 @@ class Builder:
         self.session: Optional[Session] = None
         self.moment = 0
         self.next_scan = 0.0
-        self.output = None
+        # Which folders they are, to tell them from others of these names.
+        self.place = mark(folder)
+        self.output = mark(folder, OUTPUT)
         # The last build that rendered something, for those who ask why.
         self.last: Optional[Built] = None
         self.saved: set[str] = set()
@@ -70,7 +74,10 @@ class Builder:
         self.begin_session()
         while True:
             others = [self.session] if self.session else []
-            if self.watch.wait(self.next_scan - time.monotonic(), *others):
+            noticed = self.watch.wait(min(self.next_scan - time.monotonic(), BETWEEN_CHECKS), *others)
+            if mark(self.folder) != self.place:
+                raise Refused(f"the folder is not there any more: {shown(os.fspath(self.folder))}")
+            if noticed:
                 self.follow(self.gather())
             elif self.session and self.session.process.poll() is not None:
                 self.begin_again(self.session.how_it_ended())
@@ -98,8 +105,6 @@ class Builder:
 
     def follow(self, changes: Changes) -> None:
         """Does what changes ask for."""
-        if changes.gone:
-            raise Refused(f"the folder is not there any more: {shown(os.fspath(self.folder))}")
         changes.paths = {path for path in changes.paths if not is_editors_own(path)}
         if any(path.endswith(beside.STYLES) for path in changes.paths):
             for line in beside.styles(self.folder, self.program):
@@ -107,7 +112,7 @@ class Builder:
             # What that has written is built with what was saved.
             changes.add(self.take())
         self.saved = set(changes.paths)
-        if changes.output and self.mark_of_output() != self.output:
+        if changes.output and mark(self.folder, OUTPUT) != self.output:
             self.begin_again("_site was removed or replaced by another program")
         elif changes.paths or changes.unclear:
             self.attempt(lambda: self.update(changes), changes)
@@ -195,7 +200,7 @@ class Builder:
             outcome = self.session.build(self.moment)
             changed, fault = self.outcome(outcome)
         finally:
-            self.output = self.mark_of_output()
+            self.output = mark(self.folder, OUTPUT)
             self.tell(changed, fault)
 
     def outcome(self, outcome) -> tuple[bool, Optional[Fault]]:
@@ -219,11 +224,3 @@ class Builder:
             if fault.text:
                 say(f"    {shown(fault.text.strip())}")
         self.status.end(changed, fault)
-
-    def mark_of_output(self):
-        """Which folder `_site` is, to tell it from another of that name."""
-        try:
-            status = os.lstat(self.folder / OUTPUT)
-        except OSError:
-            return None
-        return status.st_dev, status.st_ino

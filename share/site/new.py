@@ -17,10 +17,7 @@ def main(arguments: list[str], program: str) -> int:
     reader.add_argument("folder", type=Path, metavar="FOLDER", help="where the site is to be: a new folder, or an empty one")
     folder = reader.parse_args(arguments).folder
     refuse_what_is_there(folder)
-    try:
-        count = copy(folder)
-    except OSError as error:
-        raise words.Refused(f"{words.shown(os.fspath(error.filename))} cannot be written: {error.strerror}") from error
+    count = copy(folder)
     name = words.shown(os.fspath(folder))
     # As a word of a command line, where a dash in front would make it an option.
     name = f"./{name}" if name.startswith("-") else name
@@ -48,10 +45,12 @@ def copy(folder: Path) -> int:
     files = sorted(path for path in STARTER.rglob("*") if path.is_file())
     # The day in UTC, as the site's own clock has it: a post of a later day would be left out.
     today = datetime.now(timezone.utc).date().isoformat()
-    folder.mkdir(parents=True, exist_ok=True)
     for path in files:
         goal = folder / path.relative_to(STARTER).with_name(path.name.replace(TODAY, today))
-        goal.parent.mkdir(parents=True, exist_ok=True)
-        with open(goal, "xb") as file:
-            file.write(path.read_bytes())
+        try:
+            goal.parent.mkdir(parents=True, exist_ok=True)
+            with open(goal, "xb") as file:
+                file.write(path.read_bytes())
+        except OSError as error:
+            raise words.Refused(f"{words.shown(os.fspath(goal))} cannot be written: {error.strerror}; the site is not whole") from error
     return len(files)

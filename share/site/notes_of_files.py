@@ -8,6 +8,7 @@ import os
 import re
 
 from site_files import line_of, read_text
+from site_notes import Item, Notes, Site
 
 DATE = re.compile(r"(\d{4})-(\d{1,2})-(\d{1,2})-")
 # A key of YAML that is a number.
@@ -18,7 +19,7 @@ MOMENT = re.compile(r"(\d{4}-\d\d-\d\d)(?:[ T](\d\d):(\d\d)(?::\d\d)?)?\s*([+-]\
 PAGES_OF_HTML = (".html", ".htm", ".xhtml")
 
 
-def add(notes, site) -> None:
+def add(notes: Notes, site: Site) -> None:
     for path in site.links:
         notes.add(path, 0, "links are passed over (Jekyll follows them)", "put the file itself there")
     with_front_matter = {item.path for item in site.items}
@@ -34,12 +35,12 @@ def add(notes, site) -> None:
     add_undated(notes, site)
 
 
-def add_layout(notes, path: str, line: int, layout: object, layouts: set[str]) -> None:
+def add_layout(notes: Notes, path: str, line: int, layout: object, layouts: set[str]) -> None:
     if isinstance(layout, str) and layout not in layouts and layout != "none":
         notes.add(path, line, f"there is no layout {layout}, so the page comes out without it", "put it into _layouts, or mend its name")
 
 
-def add_name(notes, site, path: str, has_front_matter: bool) -> None:
+def add_name(notes: Notes, site: Site, path: str, has_front_matter: bool) -> None:
     """What a file's name or its first bytes mean otherwise."""
     folders, name = path.split("/")[:-1], path.rpartition("/")[2]
     ending = os.path.splitext(name)[1]
@@ -66,14 +67,14 @@ def add_name(notes, site, path: str, has_front_matter: bool) -> None:
         notes.add(path, 1, "it begins with a byte-order mark: here its front matter is read, there it is copied", "save it without the mark")
 
 
-def add_empty_field(notes, path: str, text: str, separator: str) -> None:
+def add_empty_field(notes: Notes, path: str, text: str, separator: str) -> None:
     for number, record in enumerate(csv.reader(io.StringIO(text), delimiter=separator), 1):
         if "" in record:
             notes.add(path, number, "an empty field is an empty text (there nil)", 'test it with == ""')
             return
 
 
-def add_post_name(notes, path: str, name: str, has_front_matter: bool) -> None:
+def add_post_name(notes: Notes, path: str, name: str, has_front_matter: bool) -> None:
     date = DATE.match(name)
     if not date:
         return
@@ -89,14 +90,14 @@ def add_post_name(notes, path: str, name: str, has_front_matter: bool) -> None:
         notes.add(path, 0, "no post comes of a file without front matter", "put two lines --- at its front")
 
 
-def add_sass(notes, site, path: str) -> None:
+def add_sass(notes: Notes, site: Site, path: str) -> None:
     if path.endswith(".coffee"):
         notes.add(path, 0, "CoffeeScript is not compiled, and the file comes out as it is", "keep the compiled script in the site")
     elif not any(part.startswith("_") for part in path.split("/")) and path not in site.list_of("exclude"):
         notes.add(path, 0, "Sass is not compiled, and the file comes out as it is", "`site adopt` has sassc make its CSS")
 
 
-def add_item(notes, site, item) -> None:
+def add_item(notes: Notes, site: Site, item: Item) -> None:
     """What the front matter of an item means otherwise."""
     values = item.values
     is_post = "_posts" in item.path.split("/") or item.path.startswith("_drafts/")
@@ -129,7 +130,7 @@ def add_item(notes, site, item) -> None:
         notes.add(item.path, 0, "its title is made of its name, where ASCII letters alone become capitals", "write title")
 
 
-def add_categories(notes, site, item, is_post: bool, is_document: bool) -> None:
+def add_categories(notes: Notes, site: Site, item: Item, is_post: bool, is_document: bool) -> None:
     values = item.values
     from_defaults = any("category" in entry["values"] or "categories" in entry["values"] for entry in site.defaults())
     if is_post and "category" in values and ("categories" in values or from_defaults):
@@ -146,7 +147,7 @@ def add_categories(notes, site, item, is_post: bool, is_document: bool) -> None:
             notes.add(item.path, item.line_of_key(key), "categories that differ in capitals alone both stand in the address (there one)", "write one of them")
 
 
-def add_permalink(notes, site, item) -> None:
+def add_permalink(notes: Notes, site: Site, item: Item) -> None:
     permalink = item.values.get("permalink")
     ending = os.path.splitext(item.path)[1]
     if not isinstance(permalink, str) or not (ending in PAGES_OF_HTML or site.is_markdown(item.path)):
@@ -157,7 +158,7 @@ def add_permalink(notes, site, item) -> None:
         notes.add(item.path, item.line_of_key("permalink"), f"it is written as {permalink.lstrip('/')}{out}, since its own ending is {out}", f"give the file the ending {own[1]}")
 
 
-def add_date(notes, site, item, is_document: bool) -> None:
+def add_date(notes: Notes, site: Site, item: Item, is_document: bool) -> None:
     moment = MOMENT.match(str(item.values.get("date", "")).strip())
     if not is_document or not moment:
         return
@@ -174,7 +175,7 @@ def add_date(notes, site, item, is_document: bool) -> None:
         notes.add(item.path, item.line_of_key("date"), "a document of a later date is not there at all (there its collection lists it)", "future: true, or no date")
 
 
-def add_redirects(notes, site, item) -> None:
+def add_redirects(notes: Notes, site: Site, item: Item) -> None:
     done = {str(one.values.get("permalink")) for one in site.items if one.path.startswith("redirects/")} if "redirect_from" in item.values else set()
     old = item.values.get("redirect_from")
     for address in old if isinstance(old, list) else [old] if old else []:
@@ -184,7 +185,7 @@ def add_redirects(notes, site, item) -> None:
         notes.add(item.path, item.line_of_key("redirect_to"), "it does not lead elsewhere", "`site adopt` gives it the layout that does")
 
 
-def add_undated(notes, site) -> None:
+def add_undated(notes: Notes, site: Site) -> None:
     """A collection of which some documents have a date and some have none."""
     for name in site.collections():
         inner = [item for item in site.items if item.path.startswith(f"_{name}/") and name != "posts"]

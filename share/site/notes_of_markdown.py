@@ -3,6 +3,7 @@ from __future__ import annotations
 
 import re
 
+from site_notes import Notes
 from tags import PIECE
 
 HIGHLIGHT = re.compile(r"\{%-?\s*highlight\b.*?\{%-?\s*endhighlight\s*-?%\}|<(script|style|pre)\b.*?</\1>", re.S)
@@ -36,7 +37,7 @@ QUOTES = re.compile(r"[\"']|(?<!-)--(?!-)|---|\.\.\.")
 QUOTES_SAID = 'straight quotes, -- and ... stay as they are (there they become “ ” ’ – …)'
 
 
-def add(notes, path: str, text: str, start: int) -> None:
+def add(notes: Notes, path: str, text: str, start: int) -> None:
     """Looks through the lines of a Markdown text that are no code."""
     # Code, outputs and tags go, with their line ends kept, so that lines have their numbers.
     body = text[start:]
@@ -59,7 +60,7 @@ def add(notes, path: str, text: str, start: int) -> None:
             before = line
 
 
-def add_line(notes, path: str, number: int, line: str, before: str) -> None:
+def add_line(notes: Notes, path: str, number: int, line: str, before: str) -> None:
     if TABLE.match(line) and "|" in before:
         notes.add(path, number - 1, "a table is text", "write it in HTML")
     for form, what, remedy in FORMS:

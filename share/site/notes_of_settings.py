@@ -6,6 +6,7 @@ import re
 from adopt_settings import kept_by_front, rules_of, texts
 from kept_back import READ_FOLDERS, Lists, Program, Rules, is_glob, leaks, lists_of_paths, shortened
 from scopes import mend
+from site_notes import Notes, Site
 
 CONFIG = "_config.yml"
 ADOPT = "`site adopt` does that"
@@ -42,7 +43,7 @@ WITHOUT_WORK = {"jekyll-seo-tag", "jekyll-paginate", "jekyll-include-cache", "je
                 "jekyll-watch", "kramdown-parser-gfm"}
 
 
-def add(notes, site) -> None:
+def add(notes: Notes, site: Site) -> None:
     config, settings = site.config, site.settings
     if not settings.lines:
         for other in ("_config.yaml", "_config.toml"):
@@ -59,7 +60,7 @@ def add(notes, site) -> None:
     add_collections(notes, site)
 
 
-def add_plugins(notes, site) -> None:
+def add_plugins(notes: Notes, site: Site) -> None:
     path = str((site.config.get("feed") or {}).get("path") or "feed.xml") if isinstance(site.config.get("feed"), dict) else "feed.xml"
     made = {**DONE_BY, "jekyll-feed": path.lstrip("/")}
     for key in ("plugins", "gems"):
@@ -70,7 +71,7 @@ def add_plugins(notes, site) -> None:
             notes.add(CONFIG, site.settings.line_with(key, name), f"the plugin {name} is not run", remedy)
 
 
-def add_lists(notes, site) -> None:
+def add_lists(notes: Notes, site: Site) -> None:
     """Files that Jekyll leaves out and the program does not, and the other way round."""
     rules = rules_of(site.config)
     exclude, globs = rules.exclude, texts(site.config.get("exclude_globs"))
@@ -90,7 +91,7 @@ def add_lists(notes, site) -> None:
             notes.add(CONFIG, place, f'"{one.entry}" of include names other files than in Jekyll', f"write paths: {ADOPT}")
 
 
-def add_leak(notes, site, path: str, rules: Rules, lists: Lists) -> None:
+def add_leak(notes: Notes, site: Site, path: str, rules: Rules, lists: Lists) -> None:
     """What comes out, and Jekyll leaves out."""
     if Program(rules.include, []).is_included(path):
         notes.add(CONFIG, site.settings.line("include"), f"{path} comes out by include, and Jekyll leaves it out", f"write whole paths there: {ADOPT}")
@@ -101,7 +102,7 @@ def add_leak(notes, site, path: str, rules: Rules, lists: Lists) -> None:
     notes.add(CONFIG, site.settings.line_with(key, entry), f"{path} comes out, and Jekyll leaves it out{by}", f"write it in exclude: {ADOPT}")
 
 
-def add_kept(notes, site) -> None:
+def add_kept(notes: Notes, site: Site) -> None:
     """What Jekyll keeps in the output, and the next build would remove."""
     for entry, paths in kept_by_front(texts(site.config.get("keep_files")), site.folder / "_site"):
         if paths:
@@ -109,14 +110,14 @@ def add_kept(notes, site) -> None:
             notes.add(CONFIG, place, f'"{entry}" of keep_files is a path, so a build removes {shortened(paths)} from _site', f"write the paths: {ADOPT}")
 
 
-def add_scopes(notes, site) -> None:
+def add_scopes(notes: Notes, site: Site) -> None:
     given = site.config.get("defaults")
     if isinstance(given, list):
         for one in mend(given, site.files, ["posts", "drafts", "pages", *site.collections()]).differences:
             notes.add(CONFIG, site.settings.line_with("defaults", one.part), one.otherwise, f"write it out: {ADOPT}")
 
 
-def add_permalinks(notes, site) -> None:
+def add_permalinks(notes: Notes, site: Site) -> None:
     given = site.config.get("permalink")
     if isinstance(given, str) and given not in STYLES and not re.search(r":(title|slug|name|basename|path)", given):
         notes.add(CONFIG, site.settings.line("permalink"), f'permalink "{given}" is no style and names no title, so posts share an address, and one of them comes out', "write date, pretty, ordinal, none, or a template with :title")
@@ -127,7 +128,7 @@ def add_permalinks(notes, site) -> None:
             notes.add(CONFIG, site.settings.line_with("collections", permalink), f'permalink "{permalink}": nothing is put between the text and :path (there a /)', "write the / before :path")
 
 
-def add_collections(notes, site) -> None:
+def add_collections(notes: Notes, site: Site) -> None:
     collections = site.config.get("collections")
     for name, meta in collections.items() if isinstance(collections, dict) else []:
         for key in meta if isinstance(meta, dict) else ():

@@ -4,6 +4,7 @@ from __future__ import annotations
 import re
 
 from site_files import line_of
+from site_notes import Notes, Site
 from tags import ENVIRONMENT, PIECE
 
 # The filters that have a meaning: docs/PROFILE.md, "Filters of Liquid" and "Filters of Jekyll".
@@ -46,7 +47,7 @@ FORMS = [
 ]
 
 
-def add(notes, site, path: str, text: str, start: int) -> None:
+def add(notes: Notes, site: Site, path: str, text: str, start: int) -> None:
     """Looks through the outputs and tags of a template behind its front matter."""
     if "{%" not in text and "{{" not in text:
         return
@@ -55,7 +56,7 @@ def add(notes, site, path: str, text: str, start: int) -> None:
             add_piece(notes, site, path, line_of(text, piece.start()), piece)
 
 
-def add_piece(notes, site, path: str, line: int, piece: re.Match) -> None:
+def add_piece(notes: Notes, site: Site, path: str, line: int, piece: re.Match) -> None:
     whole = piece[0]
     bare = QUOTED.sub("''", whole)
     for name in FILTER.findall(bare):
@@ -82,7 +83,7 @@ def add_piece(notes, site, path: str, line: int, piece: re.Match) -> None:
     add_table(notes, path, line, piece)
 
 
-def add_names_of_items(notes, site, path: str, line: int, bare: str) -> None:
+def add_names_of_items(notes: Notes, site: Site, path: str, line: int, bare: str) -> None:
     """`page.name` is nil of what is no page."""
     folder = path.partition("/")[0]
     shared = folder in ("_layouts", "_includes")
@@ -92,7 +93,7 @@ def add_names_of_items(notes, site, path: str, line: int, bare: str) -> None:
         notes.add(path, line, "page.content of a page is its converted text (there its source)", "use content")
 
 
-def add_lists(notes, site, path: str, line: int, bare: str) -> None:
+def add_lists(notes: Notes, site: Site, path: str, line: int, bare: str) -> None:
     """Lists of the site that stand in another order, or have other members."""
     names = site.collections()
     # The configuration's order is not known here: its keys come sorted.
@@ -102,20 +103,20 @@ def add_lists(notes, site, path: str, line: int, bare: str) -> None:
         notes.add(path, line, "path of a copied file of a collection is its address, as /c/a.png (there _c/a.png)", "look for its address")
 
 
-def add_sorts(notes, site, path: str, line: int, whole: str) -> None:
+def add_sorts(notes: Notes, site: Site, path: str, line: int, whole: str) -> None:
     for key in re.findall(r"\bsort\s*:\s*[\"'](\w+)[\"']", whole):
         if key in site.decimals():
             notes.add(path, line, f"{key} has decimals, which are texts: 10.5 stands before 2.5", "write whole numbers")
 
 
-def add_table(notes, path: str, line: int, piece: re.Match) -> None:
+def add_table(notes: Notes, path: str, line: int, piece: re.Match) -> None:
     if piece["name"] == "tablerow" and "cols" not in piece["words"]:
         rest = piece.string[piece.end() :]
         if "col_last" in rest[: max(rest.find("endtablerow"), 0)]:
             notes.add(path, line, "col_last of a table without cols holds in its last cell (there never)", "give it cols")
 
 
-def add_counters(notes, site) -> None:
+def add_counters(notes: Notes, site: Site) -> None:
     """A counter goes on from an item to its layouts in Jekyll, and begins anew in each text here."""
     found: dict[str, list[tuple[str, int]]] = {}
     for path, text, start in [*((item.path, item.text, item.body) for item in site.items), *((path, text, 0) for path, text in site.plain.items())]:

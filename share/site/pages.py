@@ -51,6 +51,8 @@ BODY_END = re.compile(rb"</body\s*>", re.IGNORECASE)
 # What would make an address after which it stands another one.
 GOES_ON = rb"(?![A-Za-z0-9-]|\.[A-Za-z0-9]|:[0-9]|@)"
 
+# What leads elsewhere, and what tools keep for themselves in `_site`.
+NEVER_SERVED = {b".", b"..", b".git", b".svn", b".hg"}
 NO_PAGE = "The site has no page at this address, and no 404.html of its own."
 NO_BUILD = "The page comes as soon as the site is built."
 
@@ -83,7 +85,7 @@ def segments_of(address: str) -> Optional[list[bytes]]:
     if not path.startswith(b"/") or b"\0" in path:
         return None
     segments = path[1:].split(b"/")
-    if any(segment in (b".", b"..") for segment in segments) or b"" in segments[:-1]:
+    if any(segment in NEVER_SERVED for segment in segments) or b"" in segments[:-1]:
         return None
     return segments
 

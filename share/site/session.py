@@ -132,10 +132,10 @@ class Session:
 
     def close(self) -> None:
         """Ends the process. A build that is under way is finished first: a kill could leave half a page."""
-        for then in (self.process.terminate, self.process.kill, self.process.wait):
+        for seconds, then in ((PATIENCE, self.process.terminate), (1.0, self.process.kill), (PATIENCE, self.process.poll)):
             try:
                 # Closes its input, and reads what it still says, so that it is not held up by that.
-                self.process.communicate(timeout=PATIENCE)
+                self.process.communicate(timeout=seconds)
                 break
             except subprocess.TimeoutExpired:
                 then()
@@ -175,14 +175,15 @@ def read_source(folder: Path, path: str) -> Optional[bytes]:
         if error.errno in NO_FILE:
             return None
         raise LeftToScan from error
-    with open(number, "rb") as file:
+    try:
         if not stat.S_ISREG(os.fstat(number).st_mode):
             return None
-        try:
+        with open(number, "rb", closefd=False) as file:
             data = file.read(MOST_BYTES + 1)
-        except OSError as error:
-            raise LeftToScan from error
+    except OSError as error:
+        raise LeftToScan from error
+    finally:
+        os.close(number)
     if len(data) > MOST_BYTES:
         raise LeftToScan
     return data
-

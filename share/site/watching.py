@@ -10,6 +10,7 @@ import struct
 import time
 from dataclasses import dataclass, field
 from pathlib import Path
+from typing import Optional
 
 # What a scan passes over, wherever it is, and at the top: docs/PROFILE.md, "The folder".
 PASSED_OVER = {".git", ".svn", ".hg", ".jekyll-cache", ".sass-cache", "node_modules"}
@@ -32,21 +33,27 @@ class Changes:
     unclear: bool = False
     # Whether something has happened to the folder `_site` itself.
     output: bool = False
-    # Whether the folder has gone.
-    gone: bool = False
 
     def __bool__(self) -> bool:
-        return bool(self.paths) or self.unclear or self.output or self.gone
+        return bool(self.paths) or self.unclear or self.output
 
     def add(self, later: Changes) -> None:
         self.paths |= later.paths
         self.unclear |= later.unclear
         self.output |= later.output
-        self.gone |= later.gone
 
 
 def join(folder: str, name: str) -> str:
     return f"{folder}/{name}" if folder else name
+
+
+def mark(folder: str | Path, name: str = "") -> Optional[tuple[int, int]]:
+    """Which file or folder has this name, to tell it from another of that name."""
+    try:
+        status = os.lstat(os.path.join(folder, name))
+    except OSError:
+        return None
+    return status.st_dev, status.st_ino
 
 
 def is_entered(folder: str, name: str) -> bool:
@@ -62,17 +69,12 @@ IN_MOVED_FROM = 0x40
 IN_MOVED_TO = 0x80
 IN_CREATE = 0x100
 IN_DELETE = 0x200
-IN_DELETE_SELF = 0x400
-IN_MOVE_SELF = 0x800
-IN_UNMOUNT = 0x2000
 IN_Q_OVERFLOW = 0x4000
 IN_IGNORED = 0x8000
 IN_ONLYDIR = 0x1000000
 IN_DONT_FOLLOW = 0x2000000
 IN_ISDIR = 0x40000000
-NOTICED = (
-    IN_ATTRIB | IN_CLOSE_WRITE | IN_MOVED_FROM | IN_MOVED_TO | IN_CREATE | IN_DELETE | IN_DELETE_SELF | IN_MOVE_SELF | IN_ONLYDIR | IN_DONT_FOLLOW
-)
+NOTICED = IN_ATTRIB | IN_CLOSE_WRITE | IN_MOVED_FROM | IN_MOVED_TO | IN_CREATE | IN_DELETE | IN_ONLYDIR | IN_DONT_FOLLOW
 EVENT = struct.Struct("iIII")
 BUFFER = 1 << 16
 
@@ -170,8 +172,8 @@ class Inotify:
         elif number not in self.folders:
             changes.unclear = True
         elif not name:
-            if self.folders[number] == "" and mask & (IN_DELETE_SELF | IN_MOVE_SELF | IN_UNMOUNT):
-                changes.gone = True
+            # A folder itself: of all but the top, the one above it tells too.
+            pass
         elif join(self.folders[number], name) == OUTPUT:
             changes.output = True
         elif mask & IN_ISDIR:
@@ -207,7 +209,7 @@ class Looking:
         self.says = f"{why}; saves are looked for five times a second"
         self.found = Changes()
         self.seen = self.look()
-        self.output = self.mark_of_output()
+        self.output = mark(self.top, OUTPUT)
 
     def close(self) -> None:
         pass
@@ -229,18 +231,11 @@ class Looking:
 
     def compare(self) -> None:
         """Adds what is not as it was at the last look."""
-        now, output = self.look(), self.mark_of_output()
+        now, output = self.look(), mark(self.top, OUTPUT)
         changed = {path for path in now.keys() | self.seen.keys() if now.get(path) != self.seen.get(path)}
         closed = {path for path in changed if None in (now.get(path, 0), self.seen.get(path, 0))}
-        self.found.add(Changes(changed - closed, bool(closed), output != self.output, "" in closed))
+        self.found.add(Changes(changed - closed, bool(closed), output != self.output))
         self.seen, self.output = now, output
-
-    def mark_of_output(self):
-        try:
-            status = os.lstat(os.path.join(self.top, OUTPUT))
-        except OSError:
-            return None
-        return status.st_dev, status.st_ino
 
     def look(self) -> dict:
         """The state of each file; none for a folder that cannot be read."""
