@@ -13,6 +13,9 @@ from pathlib import Path
 
 from common import PARTS, PROGRAM, Failures, adopt, has, read_files, run, write_files
 import sass
+from adopt import write_into
+from adoption import Adoption
+from words import Refused
 
 ITEM = "---\n---\nx\n"
 # Permissions do not bind root.
@@ -21,7 +24,8 @@ AS_NOBODY = ["setpriv", "--reuid=65534", "--regid=65534", "--clear-groups"] if o
 
 def try_all(work: Path, failures: Failures) -> None:
     for part in (
-        nothing_to_do, lists, copies, links_and_others, unreadable, names, settings_that_are_not_read, other_folders, no_room, killed, styles, faults_of_files
+        nothing_to_do, lists, copies, links_and_others, in_place, unreadable, names, settings_that_are_not_read, other_folders, no_room, killed,
+        styles, faults_of_files,
     ):
         folder = work / part.__name__
         folder.mkdir()
@@ -114,6 +118,29 @@ def links_and_others(work: Path, failures: Failures) -> None:
         done = adopt(site)
     expect_said("links", done, failures, 0, "in.md: a link to a.md is that file now", "out.txt: a link that leads out of the site", "pipe: it is no file", "sock: it is no file")
     failures.expect("what is in the copy", set(read_files(work / "s-adopted")), {"_config.yml", "a.md", "in.md"})
+
+
+def in_place(work: Path, failures: Failures) -> None:
+    """In place nothing is written through a link, and nothing over what was saved meanwhile."""
+    site, outside = work / "s", work / "outside"
+    write_files(site, {"_config.yml": "paginate: 0\n", "a.md": "---\n---\n{% seo %}\n"})
+    outside.mkdir()
+    (site / "_includes").symlink_to(outside)
+    before = read_files(site)
+    expect_said("a link in place", adopt(site, "--write"), failures, 1, "a link leads out of the folder there", "Nothing was written")
+    failures.expect("the site and what is outside", (read_files(site), read_files(outside)), (before, {}))
+    (site / "_includes").unlink()
+    site_of_hands = Adoption(work / "new", PROGRAM, site, {"a.md": 0})
+    write_files(work / "new", {"a.md": "new"})
+    try:
+        write_into(site_of_hands, ["a.md"])
+        failures.add("a file that was saved meanwhile was written over")
+    except Refused:
+        failures.expect("the file", read_files(site), before)
+    write_files(site, {"late.md": "mine"})
+    site_of_hands.copied["a.md"] = (site / "a.md").stat().st_mtime_ns
+    write_into(site_of_hands, ["a.md", "late.md"])
+    failures.expect("a file that came meanwhile", (site / "late.md").read_text(), "mine")
 
 
 def unreadable(work: Path, failures: Failures) -> None:

@@ -72,6 +72,7 @@ def copy_site(adoption: Adoption) -> None:
         adoption.left(shown(path), f"{why}, so it is no part of the site; rename it, or take it away")
     for path in found.files:
         if not is_left_out(path):
+            adoption.copied[path] = (adoption.original / path).stat().st_mtime_ns
             copy_file(adoption.original / path, adoption.folder / path)
     for path in found.links:
         adopt_link(adoption, path)
@@ -122,7 +123,7 @@ def finish(adoption: Adoption, beside: Optional[Path]) -> int:
     if not changed:
         print(f"{shown(str(folder))}: there is nothing to adopt ({counts})")
     elif beside is None:
-        write_into(adoption.folder, folder, changed)
+        write_into(adoption, changed)
         print(f"{shown(str(folder))}: adopted in place ({counts})")
     elif not os.path.lexists(beside):
         os.rename(adoption.folder, beside)
@@ -145,13 +146,25 @@ def not_the_same(new: Path, old: Path) -> list[str]:
     return sorted(changed, key=lambda path: (path != "_config.yml", path))
 
 
-def write_into(new: Path, folder: Path, changed: list[str]) -> None:
-    """Writes what differs into the folder itself, each file whole or not at all."""
+def write_into(adoption: Adoption, changed: list[str]) -> None:
+    """Writes what differs into the site's own folder, each file whole or not at all. Nothing is written when one of them must not be."""
+    new, folder = adoption.folder, adoption.original
+    changed = [path for path in changed if path in adoption.copied or (new / path).exists()]
+    for path in changed:
+        place = folder / path
+        if place.parent.resolve() != (folder / path).parent:
+            raise Refused(f"{shown(path)}: a link leads out of the folder there; put the files themselves there. Nothing was written")
+        if path in adoption.copied:
+            if not place.exists() or place.stat().st_mtime_ns != adoption.copied[path]:
+                raise Refused(f"{shown(path)}: it was saved meanwhile; run this again. Nothing was written")
+        elif os.path.lexists(place) and not place.is_symlink():
+            raise Refused(f"{shown(path)}: it came meanwhile; run this again. Nothing was written")
     for path in changed:
         if (new / path).exists():
             write_bytes(folder / path, (new / path).read_bytes())
-        else:
-            # It has another name now, under which it was just written.
+    # Those that have another name now, under which they are written.
+    for path in changed:
+        if not (new / path).exists():
             (folder / path).unlink()
 
 

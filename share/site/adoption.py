@@ -15,6 +15,8 @@ class Adoption:
     program: str
     # The site's own folder: gems are looked for there, and `keep_files` names files of its output.
     original: Path
+    # The files that were copied, and when each was saved last.
+    copied: dict[str, int] = field(default_factory=dict)
     done_lines: list[str] = field(default_factory=list)
     left_lines: list[str] = field(default_factory=list)
 
