@@ -34,7 +34,7 @@ def write_files(folder: Path, files: dict[str, str]) -> None:
     for path, text in files.items():
         place = folder / path
         place.parent.mkdir(parents=True, exist_ok=True)
-        place.write_text(text, encoding="utf-8", newline="")
+        place.write_bytes(text.encode())
 
 
 def read_files(folder: Path) -> dict[str, bytes]:

@@ -6,6 +6,7 @@ import tempfile
 from pathlib import Path
 
 import hostile
+import plugins
 import proof
 import random_sites
 import rows
@@ -21,7 +22,7 @@ def main() -> int:
     with tempfile.TemporaryDirectory() as name:
         work = Path(name)
         work.chmod(0o755)
-        for part in ("rows", "chance", "hostile", "proof"):
+        for part in ("rows", "chance", "hostile", "proof", "plugins"):
             (work / part).mkdir()
         count = rows.try_rows(work / "rows", failures, jekyll)
         print(f"{count} sites that are read otherwise: " + ("here and there as listed" if jekyll else "here as listed; not tried by Jekyll, which is not installed"))
@@ -38,6 +39,11 @@ def main() -> int:
         else:
             seconds = proof.try_proof(work / "proof", failures)
             print(f"the site of jekyll new, adopted and built in {seconds:.1f} s: the texts and links of Jekyll's own build")
+        if missing or not plugins.are_installed():
+            print(f"not tried: a site with plugins; it needs {', '.join('ruby-' + name for name in plugins.PLUGINS)} too")
+        else:
+            plugins.try_plugins(work / "plugins", failures)
+            print("a site with four plugins, adopted and built: the texts and links of Jekyll's own build")
     if failures.found:
         print(f"{len(failures.found)} wrong")
     return 1 if failures.found else 0

@@ -8,7 +8,7 @@ from pathlib import Path
 from typing import Optional
 
 import sass
-from adopt_settings import CONFIG, collections_of, read_mended, texts
+from adopt_settings import CONFIG, collections_of, plugins_of, read_mended, texts
 from adoption import Adoption
 from kept_back import Program
 from configuration import Settings
@@ -208,10 +208,6 @@ def set_environment(adoption: Adoption) -> None:
 # ---- what plugins make
 
 
-def plugins_of(config: dict) -> list[str]:
-    return texts(config.get("plugins")) + texts(config.get("gems"))
-
-
 def write_page(adoption: Adoption, path: str, keys: list[str], body: str, what: str) -> None:
     """A new page, where nothing is yet, and which a sitemap does not list."""
     if (adoption.folder / path).exists() or (adoption.folder / path).is_symlink():
@@ -222,7 +218,7 @@ def write_page(adoption: Adoption, path: str, keys: list[str], body: str, what: 
 
 def write_feeds(adoption: Adoption, config: dict) -> None:
     """The feeds of jekyll-feed, as templates."""
-    if "jekyll-feed" not in plugins_of(config):
+    if "jekyll-feed" not in plugins_of(config, adoption.original):
         return
     given = config.get("feed") if isinstance(config.get("feed"), dict) else {}
     collections = given.get("collections")
@@ -252,7 +248,7 @@ def write_feed(adoption: Adoption, path: str, keys: list[str]) -> None:
 
 def write_sitemap(adoption: Adoption, config: dict) -> None:
     """The files of jekyll-sitemap, as templates."""
-    if "jekyll-sitemap" in plugins_of(config):
+    if "jekyll-sitemap" in plugins_of(config, adoption.original):
         write_page(adoption, "sitemap.xml", ["layout:"], template("sitemap.xml"), "is new: what jekyll-sitemap makes, as a template")
         write_page(adoption, "robots.txt", ["layout:"], template("robots.txt"), "is new: what jekyll-sitemap makes, as a template")
 

@@ -17,6 +17,8 @@ from words import Refused, shown
 
 CONFIG = "_config.yml"
 OFFSET = re.compile(r"(?:Etc/)?UTC|Z|[+-]\d\d:?\d\d")
+# Plugins that spread posts over pages.
+PAGINATION = {"jekyll-paginate", "jekyll-paginate-v2", "github-pages"}
 BRACKETS = "a list or mapping in brackets"
 # Folders that Jekyll reads under another name, and the names that the program knows.
 FOLDERS = {"layouts_dir": "_layouts", "includes_dir": "_includes", "data_dir": "_data"}
@@ -137,6 +139,22 @@ def move(adoption: Adoption, settings: Settings, key: str, old: str, new: str) -
 
 def texts(value: object) -> list[str]:
     return [one if isinstance(one, str) else str(one) for one in value] if isinstance(value, list) else []
+
+
+def plugins_of(config: dict, folder: Path) -> list[str]:
+    """The plugins of a site: of its configuration, and of the group jekyll_plugins of its Gemfile."""
+    found = texts(config.get("plugins")) + texts(config.get("gems"))
+    try:
+        lines = read_text(folder / "Gemfile").splitlines()
+    except OSError:
+        lines = []
+    in_group = False
+    for line in lines:
+        in_group = in_group and line.strip() != "end" or bool(re.match(r"\s*group\b.*:jekyll_plugins\b", line))
+        gem = re.match(r"\s*gem\s+[\"']([\w.-]+)[\"']", line)
+        if gem and gem[1] not in found and (in_group or ":jekyll_plugins" in line):
+            found.append(gem[1])
+    return found
 
 
 def collections_of(config: dict) -> list[str]:
@@ -269,6 +287,10 @@ def mend_values(adoption: Adoption, settings: Settings, config: dict) -> None:
     if config.get("paginate", 1) in (0, False) and config.get("paginate") is not None:
         adoption.done(f"{CONFIG}:{settings.line('paginate')}", "paginate is taken out: so it is off here")
         settings.comment_out("paginate", "paginate is off without this key")
+        config.pop("paginate")
+    elif config.get("paginate") and not PAGINATION & set(plugins_of(config, adoption.original)):
+        adoption.done(f"{CONFIG}:{settings.line('paginate')}", "paginate is taken out: without the plugin jekyll-paginate Jekyll makes no such pages")
+        settings.comment_out("paginate", "Jekyll makes no such pages without its plugin")
         config.pop("paginate")
     if config.get("excerpt_separator", "x") == "":
         adoption.done(f"{CONFIG}:{settings.line('excerpt_separator')}", "posts have an empty excerpt by defaults now, in place of an empty separator")

@@ -9,20 +9,21 @@ from tags import PIECE
 HIGHLIGHT = re.compile(r"\{%-?\s*highlight\b.*?\{%-?\s*endhighlight\s*-?%\}|<(script|style|pre)\b.*?</\1>", re.S)
 FENCE = re.compile(r"^ {0,3}(`{3,}|~{3,})[ \t]*([^\s`]*)")
 CODE = re.compile(r"(`+)(?!`).*?(?<!`)\1(?!`)")
-TAG = re.compile(r"<[^>]*>|\]\([^)]*\)|^ {0,3}\[[^\]]+\]:.*$")
-TABLE = re.compile(r"^\s*\|?[ \t]*:?-+:?[ \t]*(\|[ \t]*:?-+:?[ \t]*)+\|?[ \t]*$|^\s*\|[ \t]*:?-+:?[ \t]*\|[ \t]*$")
-# What is looked for in a line outside of code; what it means here; the remedy.
+# What has quotes and dashes of its own: tags, addresses, definitions of links, tables, and lines that are a rule.
+MARKUP = re.compile(r"<[^>]*>|\]\([^)]*\)|^ {0,3}\[[^\]]+\]:.*$|^[ \t]*\|?[ \t]*:?-+:?[ \t]*(?:\|[ \t]*:?-+:?[ \t]*)*\|?[ \t]*$|^[ \t]*(?:[-*_][ \t]*){3,}$", re.M)
+# What is looked for outside of code; what it means here; the remedy.
 FORMS = [
+    (re.compile(r"^.*\|.*\n[ \t]*\|?[ \t]*:?-+:?[ \t]*(?:\|[ \t]*:?-+:?[ \t]*)*\|?[ \t]*$", re.M), "a table is text", "write it in HTML"),
     (re.compile(r"\[\^[^\]\s]+\]"), "footnotes are text", "write them in HTML"),
-    (re.compile(r"\{:\s*toc\b|\{::?toc\}|\*\s*TOC\b"), "a table of contents ({:toc}) is text", "write it in HTML"),
+    (re.compile(r"\{:\s*toc\b|\{::?toc\}"), "a table of contents ({:toc}) is text", "write it in HTML"),
     (re.compile(r"\{:(?!\s*toc\b)[^}]*\}"), "attributes in braces ({: .class}) are text", "write the element in HTML"),
     (re.compile(r"\]\(#[^)\s]+\)|\bhref=[\"']#[^\"']+"), "headings have no ids, so a link to one leads nowhere", "write the heading in HTML, with its id"),
-    (re.compile(r"~~[^~\s][^~]*~~"), "strikethrough is text", "write <del>"),
-    (re.compile(r"^\s*[-*+] \[[ xX]\] "), "a task list is text", 'write <input type="checkbox" disabled>'),
+    (re.compile(r"~~[^~\s][^~\n]*~~"), "strikethrough is text", "write <del>"),
+    (re.compile(r"^[ \t]*[-*+] \[[ xX]\] ", re.M), "a task list is text", 'write <input type="checkbox" disabled>'),
     (re.compile(r"\$\$"), "mathematics is text", "have it set in the browser, within HTML"),
     (re.compile(r"\bmarkdown=[\"'](?:1|block|span)"), "Markdown within HTML is text", "put blank lines around it"),
-    (re.compile(r"^\s*:\s+\S"), "a definition list is text", "write <dl>"),
-    (re.compile(r"^\*\[[^\]]+\]:"), "an abbreviation is text", "write <abbr>"),
+    (re.compile(r"(?<=\S\n)[ \t]{0,3}:[ \t]+\S"), "a definition list is text", "write <dl>"),
+    (re.compile(r"^\*\[[^\]\n]+\]:", re.M), "an abbreviation is text", "write <abbr>"),
 ]
 REFERENCE = re.compile(r"&([A-Za-z]+);")
 KNOWN_REFERENCES = set(
@@ -38,36 +39,50 @@ QUOTES_SAID = 'straight quotes, -- and ... stay as they are (there they become â
 
 
 def add(notes: Notes, path: str, text: str, start: int) -> None:
-    """Looks through the lines of a Markdown text that are no code."""
-    # Code, outputs and tags go, with their line ends kept, so that lines have their numbers.
-    body = text[start:]
-    for part in (HIGHLIGHT, PIECE):
-        body = part.sub(lambda piece: "\n" * piece[0].count("\n"), body)
+    """Looks through a Markdown text, without what is code, an output or a tag."""
     first = text.count("\n", 0, start) + 1
-    fence = ""
-    before = ""
-    for number, line in enumerate(body.splitlines(), first):
-        opened = FENCE.match(line)
+    body, fences = prose(text[start:])
+    for at in fences[:1]:
+        notes.add(path, first + at, "code comes out without colours", "colour it in the browser by the class language-..")
+    for form, what, remedy in FORMS:
+        found = form.search(body)
+        if found:
+            notes.add(path, first + line_at(body, found), what, remedy)
+    for found in REFERENCE.finditer(body):
+        if found[1] not in KNOWN_REFERENCES:
+            notes.add(path, first + line_at(body, found), f"&{found[1]}; is text", "write the character")
+    found = QUOTES.search(MARKUP.sub(spaces, body))
+    if found:
+        notes.add(path, first + line_at(body, found), QUOTES_SAID, "write the signs themselves")
+
+
+def line_at(body: str, found: re.Match) -> int:
+    """The line of a match, counted from 0; of a match that begins with line ends the one behind them."""
+    return body.count("\n", 0, found.end() - len(found[0].lstrip("\n")))
+
+
+def spaces(found: re.Match) -> str:
+    """As many spaces, so that what is left has its place."""
+    return "".join(sign if sign == "\n" else " " for sign in found[0])
+
+
+def prose(text: str) -> tuple[str, list[int]]:
+    """The text with its lines in their places, and nothing in the place of code, outputs and tags; and the lines of fences with a language."""
+    if "{" in text or "<" in text:
+        for part in (HIGHLIGHT, PIECE):
+            text = part.sub(lambda piece: "\n" * piece[0].count("\n"), text)
+    lines, fences, fence = text.split("\n"), [], ""
+    for at, line in enumerate(lines):
+        opened = FENCE.match(line) if "```" in line or "~~~" in line else None
         if fence:
             fence = "" if opened and opened[1].startswith(fence) and not opened[2] else fence
-            before = ""
+            lines[at] = ""
         elif opened:
             fence = opened[1]
+            lines[at] = ""
             if opened[2]:
-                notes.add(path, number, "code comes out without colours", "colour it in the browser by the class language-..")
-        elif not re.match(r"(?: {4}|\t)", line) or before.strip():
-            add_line(notes, path, number, CODE.sub("", line), before)
-            before = line
-
-
-def add_line(notes: Notes, path: str, number: int, line: str, before: str) -> None:
-    if TABLE.match(line) and "|" in before:
-        notes.add(path, number - 1, "a table is text", "write it in HTML")
-    for form, what, remedy in FORMS:
-        if form.search(line) and not (what.startswith("a definition") and not before.strip()):
-            notes.add(path, number, what, remedy)
-    for name in REFERENCE.findall(line):
-        if name not in KNOWN_REFERENCES:
-            notes.add(path, number, f"&{name}; is text", "write the character")
-    if not re.fullmatch(r"[ \t]*[-*_ \t]{3,}", line) and not TABLE.match(line) and QUOTES.search(TAG.sub("", line)):
-        notes.add(path, number, QUOTES_SAID, "write the signs themselves")
+                fences.append(at)
+        elif line.startswith(("    ", "\t")) and not (at and lines[at - 1].strip()):
+            lines[at] = ""
+    text = "\n".join(lines)
+    return (CODE.sub(spaces, text) if "`" in text else text), fences

@@ -3,7 +3,7 @@ from __future__ import annotations
 
 import re
 
-from adopt_settings import kept_by_front, rules_of, texts
+from adopt_settings import PAGINATION, kept_by_front, plugins_of, rules_of, texts
 from kept_back import READ_FOLDERS, Lists, Program, Rules, is_glob, leaks, lists_of_paths, shortened
 from scopes import mend
 from site_notes import Notes, Site
@@ -39,7 +39,7 @@ USUAL = {"markdown": "kramdown", "highlighter": "rouge", "encoding": "utf-8", "l
 # Plugins whose work is done by what `site adopt` writes, and the file that shows it.
 DONE_BY = {"jekyll-feed": "feed.xml", "jekyll-sitemap": "sitemap.xml"}
 # Plugins that leave nothing to do: their tags are faults, or the program does their work.
-WITHOUT_WORK = {"jekyll-seo-tag", "jekyll-paginate", "jekyll-include-cache", "jekyll-redirect-from", "jekyll-sass-converter", "jekyll-commonmark",
+WITHOUT_WORK = {"github-pages", "jekyll-seo-tag", "jekyll-paginate", "jekyll-include-cache", "jekyll-redirect-from", "jekyll-sass-converter", "jekyll-commonmark",
                 "jekyll-watch", "kramdown-parser-gfm"}
 
 
@@ -61,14 +61,18 @@ def add(notes: Notes, site: Site) -> None:
 
 
 def add_plugins(notes: Notes, site: Site) -> None:
-    path = str((site.config.get("feed") or {}).get("path") or "feed.xml") if isinstance(site.config.get("feed"), dict) else "feed.xml"
+    feed = site.config.get("feed")
+    path = str(feed.get("path") or "feed.xml") if isinstance(feed, dict) else "feed.xml"
     made = {**DONE_BY, "jekyll-feed": path.lstrip("/")}
-    for key in ("plugins", "gems"):
-        for name in texts(site.config.get(key)):
-            if name in WITHOUT_WORK or made.get(name) in site.files:
-                continue
-            remedy = f"a template has to make {made[name]}: {ADOPT}" if name in made else "write what it makes as a template"
-            notes.add(CONFIG, site.settings.line_with(key, name), f"the plugin {name} is not run", remedy)
+    plugins = plugins_of(site.config, site.folder)
+    for name in plugins:
+        if name in WITHOUT_WORK or made.get(name) in site.files:
+            continue
+        place, line = (CONFIG, site.settings.line_with("plugins", name)) if name in texts(site.config.get("plugins")) else ("Gemfile", 0)
+        remedy = f"a template has to make {made[name]}: {ADOPT}" if name in made else "write what it makes as a template"
+        notes.add(place, line, f"the plugin {name} is not run", remedy)
+    if site.config.get("paginate") and not PAGINATION & set(plugins):
+        notes.add(CONFIG, site.settings.line("paginate"), "posts are spread over pages (there the plugin jekyll-paginate does that, which the site has not)", f"take it out: {ADOPT}")
 
 
 def add_lists(notes: Notes, site: Site) -> None:

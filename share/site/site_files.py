@@ -188,7 +188,7 @@ def read_values(program: str, texts: dict[str, str]) -> Values:
 def read_some(program: str, folder: Path, keys: dict[str, str], texts: dict[str, str], values: Values) -> None:
     (folder / "_data").mkdir()
     for key, name in keys.items():
-        write_text(folder / "_data" / f"{key}.yml", texts[name])
+        (folder / "_data" / f"{key}.yml").write_bytes(texts[name].encode("utf-8", "surrogateescape"))
     (folder / "p.html").write_text("---\n---\n{{ site.data | jsonify }}", encoding="utf-8")
     left = dict(keys)
     while left:
