@@ -18,6 +18,19 @@ KEYS = (
     "baseurl", "url", "permalink", "markdown_ext", "include", "exclude", "keep_files", "collections", "defaults", "paginate", "paginate_path",
     "excerpt_separator", "timezone", "future", "unpublished", "show_drafts",
 )
+# What to do where the program's own sentence says too little.
+REMEDIES = {
+    "permalink": "it is a text: date, pretty, ordinal, none, or a template",
+    "include": "it is a list of paths",
+    "exclude": "it is a list of paths",
+    "defaults": 'each entry has a scope with a path (perhaps ""), perhaps a type that there is, and values; `site adopt` writes what is missing',
+    "paginate": "it is a whole number from 1; `site adopt` takes 0 and false out",
+    "excerpt_separator": 'it is a text that is not empty; `site adopt` writes excerpt: "" into defaults',
+    "timezone": 'it is an offset, as "+01:00"; `site adopt` writes that of a named zone',
+    "future": "it is true or false",
+    "unpublished": "it is true or false",
+    "show_drafts": "it is true or false",
+}
 TEXTS = ("_layouts/", "_includes/", "_data/", CONFIG)
 
 
@@ -59,7 +72,7 @@ def with_key(fault: Fault, room: Path, program: str) -> Fault:
                     settings.remove(other)
             write_text(alone / CONFIG, settings.text())
             if first_fault(run(program, alone, "check")):
-                return replace(fault, line=place[0] + 1, sentence=f"{key}: {fault.sentence}")
+                return replace(fault, line=place[0] + 1, sentence=f"{key}: {REMEDIES.get(key, fault.sentence)}", key=key)
     return fault
 
 

@@ -15,7 +15,10 @@ from site_notes import Notes, read_site
 def silent_notes(folder: Path, program: str) -> list[str]:
     """What a check does not tell: the first fault of each further file, and what is read otherwise without a word."""
     try:
-        further = all_faults(folder, program)[1:] if first_fault(run(program, folder, "check")) else []
+        further = all_faults(folder, program) if first_fault(run(program, folder, "check")) else []
+        if further and further[0].key == "":
+            # The check has told it. Of a setting it does not tell the key.
+            further.pop(0)
         return [*(str(fault) for fault in further), *differences(folder, program)]
     except (OSError, NotRead) as error:
         return [f"what else there is to say of this site is not known: {error}"]

@@ -41,6 +41,8 @@ class Fault:
     line: int
     sentence: str
     code: str
+    # The key of the configuration that has it, where that is known.
+    key: str = ""
 
     def __str__(self) -> str:
         place = f"{self.path}:{self.line}" if self.line else self.path
