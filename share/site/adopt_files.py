@@ -12,7 +12,7 @@ from adopt_settings import CONFIG, collections_of, plugins_of, read_mended, text
 from adoption import Adoption
 from kept_back import Program
 from configuration import Settings
-from site_files import front_matter, line_of, read_text, read_values, write_text
+from site_files import begins_with_mark, front_matter, line_of, read_text, read_values, write_text
 from tags import Includes, rewrite
 from theme import find_gem, locked_version, missing_files
 from words import shown
@@ -52,9 +52,7 @@ def with_front_matter(adoption: Adoption) -> dict[str, str]:
     found = {}
     for path in adoption.files():
         if not path.startswith(("_data/", "_includes/")):
-            with open(adoption.folder / path, "rb") as file:
-                begins = file.read(6)
-            if begins.removeprefix(b"\xef\xbb\xbf").startswith(b"---"):
+            if begins_with_mark(adoption.folder / path):
                 text = read_text(adoption.folder / path)
                 if front_matter(text):
                     found[path] = text

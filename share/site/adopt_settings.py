@@ -11,8 +11,9 @@ from adoption import Adoption
 from kept_back import Program, Replaced, Rules, is_glob, lists_of_paths, names, shortened
 from kept_back import pattern as fnmatch
 from scopes import mend as mend_scopes
+from scopes import published_by_defaults
 from configuration import Settings
-from site_files import OUTPUT, Fault, front_matter, list_files, read_text, read_values, write_text
+from site_files import OUTPUT, Fault, begins_with_mark, front_matter, list_files, read_text, read_values, write_text
 from words import Refused, shown
 
 CONFIG = "_config.yml"
@@ -36,6 +37,7 @@ def adopt_configuration(adoption: Adoption) -> dict:
     files = adoption.files()
     mend_lists(adoption, settings, config, files, moved)
     mend_limit(adoption, settings, config, files)
+    mend_copied(adoption, settings, config, files)
     mend_kept(adoption, settings, config)
     mend_defaults(adoption, settings, config, files)
     mend_values(adoption, settings, config)
@@ -114,9 +116,10 @@ def rename_folders(adoption: Adoption, settings: Settings, config: dict) -> bool
             config.pop(key)
     given = str(config.get("collections_dir") or "").strip("/")
     if given:
-        # Posts elsewhere are none to Jekyll.
-        if any(path.startswith("_posts/") for path in adoption.files()):
-            raise Refused(f"_posts: Jekyll does not read it, since collections_dir is {shown(given)}; take it out of the folder. Nothing was done")
+        # What is at the top is none to Jekyll.
+        for name in ("posts", "drafts", *collections_of(config)):
+            if any(path.startswith(f"_{name}/") for path in adoption.files()):
+                raise Refused(f"_{name}: Jekyll does not read it, since collections_dir is {shown(given)}; take it out of the folder. Nothing was done")
         inner = adoption.folder / given
         for entry in sorted(inner.iterdir()) if inner.is_dir() else []:
             if entry.name.startswith("_") and entry.is_dir():
@@ -155,6 +158,12 @@ def plugins_of(config: dict, folder: Path) -> list[str]:
         if gem and gem[1] not in found and (in_group or ":jekyll_plugins" in line):
             found.append(gem[1])
     return found
+
+
+def lacks_pagination(config: dict, folder: Path) -> bool:
+    """Whether Jekyll makes no pages by `paginate`. A site that names no plugin, gem or theme was not written for Jekyll."""
+    of_jekyll = any(config.get(key) is not None for key in ("plugins", "gems", "theme", "remote_theme")) or (folder / "Gemfile").is_file()
+    return of_jekyll and bool(config.get("paginate")) and not PAGINATION & set(plugins_of(config, folder))
 
 
 def collections_of(config: dict) -> list[str]:
@@ -216,6 +225,33 @@ def mend_limit(adoption: Adoption, settings: Settings, config: dict, files: list
         settings.set("exclude", config["exclude"])
     settings.comment_out("limit_posts", "the older posts are in exclude now")
     config.pop("limit_posts")
+
+
+def mend_copied(adoption: Adoption, settings: Settings, config: dict, files: list[str]) -> None:
+    """Copied files that have `published: false` of `defaults` go into `exclude`."""
+    hidden = unpublished_copies(adoption.folder, config, files)
+    if hidden:
+        place = f"{CONFIG}:{settings.line_with('defaults', 'published')}"
+        adoption.done(place, f"published of defaults does not reach copied files, so they are in exclude now: {shortened(hidden)}")
+        config["exclude"] = texts(config.get("exclude")) + hidden
+        settings.set("exclude", config["exclude"])
+
+
+def unpublished_copies(folder: Path, config: dict, files: list[str]) -> list[str]:
+    """The copied files that come out here, and that Jekyll leaves out by its defaults."""
+    defaults = config.get("defaults")
+    if not isinstance(defaults, list) or not any("published" in str(entry) for entry in defaults):
+        return []
+    program = Program(rules_of(config).include, texts(config.get("exclude")))
+    collections = collections_of(config)
+    found = []
+    for path in files:
+        label = path.partition("/")[0][1:] if path.startswith("_") else ""
+        kind = label if label in collections else None
+        address = path[1:] if kind else path
+        if program.comes_out(path, collections) and not published_by_defaults(defaults, address, kind) and not begins_with_mark(folder / path):
+            found.append(path)
+    return found
 
 
 def moment_of(path: str, values: object) -> datetime.datetime:
@@ -288,7 +324,7 @@ def mend_values(adoption: Adoption, settings: Settings, config: dict) -> None:
         adoption.done(f"{CONFIG}:{settings.line('paginate')}", "paginate is taken out: so it is off here")
         settings.comment_out("paginate", "paginate is off without this key")
         config.pop("paginate")
-    elif config.get("paginate") and not PAGINATION & set(plugins_of(config, adoption.original)):
+    elif lacks_pagination(config, adoption.original):
         adoption.done(f"{CONFIG}:{settings.line('paginate')}", "paginate is taken out: without the plugin jekyll-paginate Jekyll makes no such pages")
         settings.comment_out("paginate", "Jekyll makes no such pages without its plugin")
         config.pop("paginate")

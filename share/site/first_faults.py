@@ -8,7 +8,7 @@ from dataclasses import replace
 from pathlib import Path
 
 from configuration import Settings
-from site_files import Fault, NotRead, first_fault, front_matter, list_files, read_text, run, scratch, write_text
+from site_files import Fault, NotRead, begins_with_mark, first_fault, front_matter, list_files, read_text, run, scratch, write_text
 
 CONFIG = "_config.yml"
 # A file of more bytes that is no template has its size alone in the scratch copy.
@@ -83,9 +83,7 @@ def copy(folder: Path, room: Path) -> None:
         if size <= WHOLE or path.startswith(TEXTS):
             write_plain(target, source.read_bytes())
             continue
-        with open(source, "rb") as file:
-            begins = file.read(8)
-        if begins.removeprefix(b"\xef\xbb\xbf").startswith(b"---"):
+        if begins_with_mark(source):
             write_plain(target, source.read_bytes())
         else:
             write_plain(target, b"")

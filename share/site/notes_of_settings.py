@@ -3,7 +3,7 @@ from __future__ import annotations
 
 import re
 
-from adopt_settings import PAGINATION, kept_by_front, plugins_of, rules_of, texts
+from adopt_settings import kept_by_front, lacks_pagination, plugins_of, rules_of, texts, unpublished_copies
 from kept_back import READ_FOLDERS, Lists, Program, Rules, is_glob, leaks, lists_of_paths, shortened
 from scopes import mend
 from site_notes import Notes, Site
@@ -64,14 +64,13 @@ def add_plugins(notes: Notes, site: Site) -> None:
     feed = site.config.get("feed")
     path = str(feed.get("path") or "feed.xml") if isinstance(feed, dict) else "feed.xml"
     made = {**DONE_BY, "jekyll-feed": path.lstrip("/")}
-    plugins = plugins_of(site.config, site.folder)
-    for name in plugins:
+    for name in plugins_of(site.config, site.folder):
         if name in WITHOUT_WORK or made.get(name) in site.files:
             continue
         place, line = (CONFIG, site.settings.line_with("plugins", name)) if name in texts(site.config.get("plugins")) else ("Gemfile", 0)
         remedy = f"a template has to make {made[name]}: {ADOPT}" if name in made else "write what it makes as a template"
         notes.add(place, line, f"the plugin {name} is not run", remedy)
-    if site.config.get("paginate") and not PAGINATION & set(plugins):
+    if lacks_pagination(site.config, site.folder):
         notes.add(CONFIG, site.settings.line("paginate"), "posts are spread over pages (there the plugin jekyll-paginate does that, which the site has not)", f"take it out: {ADOPT}")
 
 
@@ -83,6 +82,9 @@ def add_lists(notes: Notes, site: Site) -> None:
     lists = lists_of_paths(rules, site.files)
     for path in leaks(rules, exclude, site.files):
         add_leak(notes, site, path, rules, lists)
+    for path in unpublished_copies(site.folder, site.config, site.files):
+        place = site.settings.line_with("defaults", "published")
+        notes.add(CONFIG, place, f"{path} comes out, since published of defaults does not reach copied files", f"write it in exclude: {ADOPT}")
     for one in lists.replaced_excludes:
         place = site.settings.line_with("exclude", one.entry)
         if is_glob(one.entry) and not one.paths and one.entry in exclude:

@@ -4,6 +4,7 @@ from __future__ import annotations
 import re
 from dataclasses import dataclass, field
 from functools import lru_cache
+from typing import Optional
 
 from kept_back import ANY_NAME, names, shortened
 
@@ -115,3 +116,36 @@ def paths_of(scope: str, files: list[str]) -> list[str]:
         folders = ("/".join(steps[:count]) for count in range(1, len(steps)))
         found.append(next((one for one in folders if covers_in_jekyll(scope, f"{one}/{ANY_NAME}")), path))
     return found
+
+
+def published_by_defaults(defaults: list, path: str, kind: Optional[str]) -> bool:
+    """Whether Jekyll lets a copied file come out: its defaults say so, which do not reach it here. `path` is that of its address."""
+    merged: dict = {}
+    before: Optional[dict] = None
+    for entry in defaults:
+        if not isinstance(entry, dict) or not isinstance(entry.get("values"), dict):
+            continue
+        scope = entry["scope"] if isinstance(entry.get("scope"), dict) else {}
+        if "type" in scope and OLD_TYPES.get(scope["type"], scope["type"]) != kind or not covers_in_jekyll(path_of(scope), path):
+            continue
+        if before is None or comes_after(scope, before):
+            merged, before = merge(merged, entry["values"]), scope
+        else:
+            merged = merge(entry["values"], merged)
+    return bool(merged.get("published", True))
+
+
+def path_of(scope: dict) -> str:
+    return scope["path"] if isinstance(scope.get("path"), str) else ""
+
+
+def comes_after(scope: dict, before: dict) -> bool:
+    """Whether Jekyll lets this scope win over the one before."""
+    if len(path_of(scope)) != len(path_of(before)):
+        return len(path_of(scope)) > len(path_of(before))
+    return "type" in scope or "type" not in before
+
+
+def merge(under: dict, over: dict) -> dict:
+    """The values of both; what has no value hides nothing."""
+    return {**under, **{key: value for key, value in over.items() if value is not None or key not in under}}

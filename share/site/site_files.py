@@ -143,6 +143,12 @@ def front_matter(text: str) -> Optional[re.Match]:
     return FRONT_MATTER.match(text)
 
 
+def begins_with_mark(path: Path) -> bool:
+    """Whether a file begins as front matter does."""
+    with open(path, "rb") as file:
+        return file.read(6).removeprefix(b"\xef\xbb\xbf").startswith(b"---")
+
+
 def line_of(text: str, at: int) -> int:
     return text.count("\n", 0, at) + 1
 

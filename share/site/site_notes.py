@@ -10,7 +10,7 @@ from typing import Optional
 from adopt_settings import collections_of, texts
 from configuration import Settings
 from kept_back import Program
-from site_files import front_matter, line_of, list_files, read_text, read_values
+from site_files import begins_with_mark, front_matter, line_of, list_files, read_text, read_values
 
 CONFIG = "_config.yml"
 DECIMAL = re.compile(r"^([\w-]+)[ \t]*:[ \t]*-?\d+\.\d+[ \t]*(?:#.*)?\r?$", re.M)
@@ -118,8 +118,3 @@ def read_site(folder: Path, program: str) -> Site:
         site.items.append(Item(path, begun[path], value if isinstance(value, dict) else {}, match.end()))
     return site
 
-
-def begins_with_mark(path: Path) -> bool:
-    """Whether a file begins as front matter does."""
-    with open(path, "rb") as file:
-        return file.read(6).removeprefix(b"\xef\xbb\xbf").startswith(b"---")
