@@ -60,7 +60,8 @@ def try_sites(work: Path, failures: Failures, count: int) -> None:
         failures.expect(f"{folder}: the program's status", done.returncode, 0)
         outputs = {source_of(path) for path in (folder / "_site").rglob("*") if path.is_file()}
         failures.expect(f"what comes out, and Jekyll leaves out, by {settings} of {paths}", outputs - by_jekyll.get(str(folder), outputs), set())
-        model = {path for path in paths if Program(lists.include, lists.exclude).comes_out(path, ["col"])}
+        program = Program(lists.include, lists.exclude)
+        model = {path for path in paths if program.comes_out(path, ["col"]) or program.is_draft(path)}
         failures.expect(f"what comes out, and is not reckoned with, by {settings} of {paths}", outputs - model, set())
 
 

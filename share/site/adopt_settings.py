@@ -178,6 +178,9 @@ def rules_of(config: dict) -> Rules:
     destination = str(config.get("destination") or "").strip("/")
     rules.destination = destination.removeprefix("./") if destination != OUTPUT else ""
     rules.collections_in = str(config.get("collections_dir") or "").strip("/") or None
+    given = config.get("collections")
+    metas = given if isinstance(given, dict) else {}
+    rules.hidden = [name for name in rules.collections if not (isinstance(metas.get(name), dict) and metas[name].get("output") is True)]
     return rules
 
 
@@ -208,8 +211,9 @@ def mend_limit(adoption: Adoption, settings: Settings, config: dict, files: list
         return
     program = Program(texts(config.get("include")), texts(config.get("exclude")))
     heads = {}
+    drafts = config.get("show_drafts") is True
     for path in files:
-        if "_posts" in path.split("/") and program.comes_out(path, collections_of(config)):
+        if drafts and program.is_draft(path) or "_posts" in path.split("/") and program.comes_out(path, collections_of(config)):
             match = front_matter(read_text(adoption.folder / path))
             if match:
                 heads[path] = "---\n" + match[1]
@@ -255,9 +259,10 @@ def unpublished_copies(folder: Path, config: dict, files: list[str]) -> list[str
 
 
 def moment_of(path: str, values: object) -> datetime.datetime:
-    """The moment of a post: its own date, else that of its name."""
+    """The moment of a post: its own date, else that of its name; of a draft now."""
     given = str(values.get("date", "")) if isinstance(values, dict) else ""
-    for text in (given, path.rpartition("/")[2][:10]):
+    name = "" if path.startswith("_drafts/") else path.rpartition("/")[2][:10]
+    for text in (given, name):
         match = re.match(r"(\d{4})-(\d\d)-(\d\d)(?:[ T](\d\d):(\d\d)(?::(\d\d))?)?\s*([+-]\d\d):?(\d\d)?", text + "+00:00")
         if match:
             year, month, day, hour, minute, second = (int(part or 0) for part in match.groups()[:6])
@@ -266,7 +271,7 @@ def moment_of(path: str, values: object) -> datetime.datetime:
                 return datetime.datetime(year, month, day, hour, minute, second, tzinfo=datetime.timezone(offset))
             except ValueError:
                 continue
-    return datetime.datetime(1970, 1, 1, tzinfo=datetime.timezone.utc)
+    return datetime.datetime.now(datetime.timezone.utc)
 
 
 def tell(adoption: Adoption, settings: Settings, key: str, replaced: list[Replaced]) -> None:

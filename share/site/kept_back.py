@@ -76,12 +76,14 @@ class Rules:
     include: list[str] = field(default_factory=lambda: [".htaccess"])
     exclude: list[str] = field(default_factory=list)
     collections: list[str] = field(default_factory=list)
+    # Those collections that have no output.
+    hidden: list[str] = field(default_factory=list)
     destination: str = ""
     # `collections_dir`; empty when the collections were in such a folder, and are at the top now.
     collections_in: Optional[str] = None
 
     def has_posts(self, folder: str) -> bool:
-        """Whether Jekyll reads the folders `_posts` and `_drafts` of this folder."""
+        """Whether Jekyll reads the folder `_posts` of this folder."""
         if self.collections_in is None:
             return True
         return folder == "" if self.collections_in == "" else f"{folder}/".startswith(f"{self.collections_in}/")
@@ -130,21 +132,22 @@ class Jekyll:
         return included or not special
 
     def comes_out(self) -> set[str]:
-        """All files that make an output, or could make one (drafts, and documents of a collection that has none)."""
+        """All files that make an output without drafts, or could make one (documents of a collection that has none)."""
         found: set[str] = set()
         self.walk("", found)
         for collection in self.rules.collections:
             if collection != "posts":
-                found.update(self.below(self.rules.folder_of(collection), dots=True))
+                inner = self.below(self.rules.folder_of(collection), dots=True)
+                # The program takes what is in a folder `_posts` for posts, which come out in any case.
+                found.update(path for path in inner if collection not in self.rules.hidden or "_posts" not in path.split("/"))
         whole = (posixpath.normpath(entry.lstrip("/") or ".") for entry in self.rules.include)
         found.update(path for path in whole if path in self.files)
         return found
 
     def walk(self, folder: str, found: set[str]) -> None:
-        for name in ("_posts", "_drafts") if self.rules.has_posts(folder) else ():
-            inner = f"{folder}/{name}" if folder else name
-            form = POST if name == "_posts" else DRAFT
-            found.update(path for path in self.below(inner, dots=False) if form.match(path[len(inner) + 1 :]))
+        if self.rules.has_posts(folder):
+            posts = f"{folder}/_posts" if folder else "_posts"
+            found.update(path for path in self.below(posts, dots=False) if POST.match(path[len(posts) + 1 :]))
         for path in self.folders[folder]:
             if not self.takes(folder, path.rpartition("/")[2]):
                 continue
@@ -152,6 +155,11 @@ class Jekyll:
                 found.add(path)
             elif path != self.rules.destination:
                 self.walk(path, found)
+
+    def drafts(self) -> set[str]:
+        """The drafts that the program would take for such: those at the top."""
+        inner = self.below("_drafts", dots=False) if self.rules.has_posts("") else []
+        return {path for path in inner if DRAFT.match(path[len("_drafts/") :])}
 
     def below(self, folder: str, dots: bool) -> list[str]:
         """The files below a folder that is read whole."""
@@ -183,13 +191,19 @@ class Program:
         folders, name = path.split("/")[:-1], path.rpartition("/")[2]
         if folders and folders[0] in READ_FOLDERS and not self.is_included(path):
             return False
-        if folders and folders[0].startswith("_") and folders[0][1:] in collections + ["drafts"]:
-            folders = folders[1:]
-        elif "_posts" in folders:
+        if "_posts" in folders:
             if not DATED.match(name):
                 return False
             folders = [folder for folder in folders if folder != "_posts"]
+        elif folders and folders[0] == "_drafts":
+            return self.is_included(path)
+        if folders and folders[0] in [f"_{collection}" for collection in collections]:
+            folders = folders[1:]
         return self.is_included(path) or not any(is_special(part) for part in [*folders, name])
+
+    def is_draft(self, path: str) -> bool:
+        """Whether a file is a draft, which comes out where drafts are built."""
+        return path.startswith("_drafts/") and not self.is_excluded(path) and not any(is_special(part) for part in path.split("/")[1:])
 
 
 def is_special(part: str) -> bool:
@@ -230,12 +244,11 @@ def lists_of_paths(rules: Rules, files: list[str]) -> Lists:
     include = [entry for entry in rules.include if is_plain(entry) and brings_only(entry, wanted, files, rules.collections)]
     exclude = [entry for entry in rules.exclude if is_plain(entry.rstrip("/")) and entry.partition("/")[0] not in READ_FOLDERS]
     missing = missing_paths(Program(include, exclude), wanted, files, rules)
-    leaking = [path for path in files if path not in wanted and Program(include, exclude).comes_out(path, rules.collections)]
-    added = collapse(leaking, jekyll, wanted)
+    added = collapse(leaking(jekyll, wanted, Program(include, exclude), files), jekyll, wanted)
     lists = Lists(include + missing, exclude + added, [], [], [])
-    leaks = [path for path in files if path not in wanted and Program(lists.include, lists.exclude).comes_out(path, rules.collections)]
-    if leaks:
-        raise NotRead(f"this would come out, and Jekyll leaves it out: {leaks[0]}")
+    left = leaking(jekyll, wanted, Program(lists.include, lists.exclude), files)
+    if left:
+        raise NotRead(f"this would come out, and Jekyll leaves it out: {left[0]}")
     lists.replaced_includes = replaced(rules.include, include, missing, lambda entry, path: any(
         matches(entry, name, True) for name in [path, *path.split("/")]))
     lists.replaced_excludes = replaced(rules.exclude, exclude, added, lambda entry, path: any(
@@ -250,9 +263,18 @@ def leaks(rules: Rules, exclude: list[str], files: list[str]) -> list[str]:
     jekyll = Jekyll(rules, files)
     wanted = jekyll.comes_out()
     program = Program(rules.include, exclude)
-    leaking = [path for path in files if path not in wanted and program.comes_out(path, rules.collections)]
-    brought = [path for path in leaking if program.is_included(path)]
-    return brought + collapse([path for path in leaking if path not in brought], jekyll, wanted)
+    found = leaking(jekyll, wanted, program, files)
+    brought = [path for path in found if program.is_included(path)]
+    return brought + collapse([path for path in found if path not in brought], jekyll, wanted)
+
+
+def leaking(jekyll: Jekyll, wanted: set[str], program: Program, files: list[str]) -> list[str]:
+    """The files that come out of the program and not of Jekyll, and those that do where drafts are built."""
+    drafts = jekyll.drafts()
+    return [
+        path for path in files
+        if path not in wanted and (program.comes_out(path, jekyll.rules.collections) or program.is_draft(path) and path not in drafts)
+    ]
 
 
 def is_plain(entry: str) -> bool:

@@ -7,6 +7,7 @@ import io
 import os
 import re
 
+from kept_back import names
 from site_files import line_of, read_text
 from site_notes import Item, Notes, Site
 
@@ -114,6 +115,8 @@ def add_item(notes: Notes, site: Site, item: Item) -> None:
         notes.add(item.path, item.line_of_key("excerpt"), "excerpt: false gives the text false (there the first paragraph)", "take it out, or write the excerpt")
     if values.get("render_with_liquid") is False:
         notes.add(item.path, item.line_of_key("render_with_liquid"), "the text is a template all the same", "put {% raw %} around what is none")
+    if not is_document and "published" not in values and any(covers(entry, item.path) and entry["values"].get("published") is False for entry in site.defaults()):
+        notes.add(item.path, 1, "published: false of defaults leaves this page out (there it comes out all the same)", "write published: true into the page, or another scope")
     add_permalink(notes, site, item)
     add_date(notes, site, item, is_document)
     add_redirects(notes, site, item)
@@ -128,6 +131,13 @@ def add_item(notes: Notes, site: Site, item: Item) -> None:
         notes.add(item.path, line_of(item.text, odd.start()), f"{odd[1]} is a text, and comes out as it stands", "write a whole number, or put it in quotes")
     if is_document and "title" not in values and not item.path.isascii():
         notes.add(item.path, 0, "its title is made of its name, where ASCII letters alone become capitals", "write title")
+
+
+def covers(entry: dict, path: str) -> bool:
+    """Whether an entry of defaults is for this page."""
+    scope = entry.get("scope") if isinstance(entry.get("scope"), dict) else {}
+    named = scope.get("path") if isinstance(scope.get("path"), str) else ""
+    return scope.get("type") in (None, "pages") and (not named or names(named, path))
 
 
 def add_categories(notes: Notes, site: Site, item: Item, is_post: bool, is_document: bool) -> None:

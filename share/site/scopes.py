@@ -88,7 +88,10 @@ def mend_entry(values: dict, scope: dict, files: list[str], types: list[str], me
     if "type" in scope and kind not in types or kind == "drafts" and any(one.startswith("_drafts/") for one in files):
         mended.tell(f"{kind}", f"the type {kind} is for nothing in Jekyll", "its defaults are taken out")
         return []
-    if "published" in values and values["published"] is None:
+    if "published" in values and kind == "pages":
+        mended.tell("published", "published of defaults says nothing of pages in Jekyll", "it is taken out")
+        values = {key: value for key, value in values.items() if key != "published"}
+    elif "published" in values and values["published"] is None:
         mended.tell("published", "published has no value, which Jekyll takes for false", "it is false now")
         values = {**values, "published": False}
     paths = paths_of(path, files)
