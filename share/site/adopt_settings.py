@@ -8,7 +8,7 @@ from pathlib import Path
 from typing import Optional
 
 from adoption import Adoption
-from kept_back import Program, Replaced, Rules, is_glob, lists_of_paths, names, shortened
+from kept_back import Jekyll, Program, Replaced, Rules, is_glob, lists_of_paths, names, shortened
 from kept_back import pattern as fnmatch
 from scopes import mend as mend_scopes
 from scopes import published_by_defaults
@@ -18,6 +18,8 @@ from words import Refused, shown
 
 CONFIG = "_config.yml"
 OFFSET = re.compile(r"(?:Etc/)?UTC|Z|[+-]\d\d:?\d\d")
+# The front of a date as Jekyll's sites write it.
+MOMENT = re.compile(r"(\d{4})-(\d\d?)-(\d\d?)(?:[ T](?P<hour>\d\d):(?P<minute>\d\d)(?::(?P<second>\d\d))?[ ]?(?P<offset>[+-]\d\d:?\d\d)?)?")
 # Plugins that spread posts over pages.
 PAGINATION = {"jekyll-paginate", "jekyll-paginate-v2", "github-pages"}
 BRACKETS = "a list or mapping in brackets"
@@ -209,19 +211,9 @@ def mend_limit(adoption: Adoption, settings: Settings, config: dict, files: list
     limit = config.get("limit_posts")
     if not isinstance(limit, int) or limit <= 0:
         return
-    program = Program(texts(config.get("include")), texts(config.get("exclude")))
-    heads = {}
-    drafts = config.get("show_drafts") is True
-    for path in files:
-        if drafts and program.is_draft(path) or "_posts" in path.split("/") and program.comes_out(path, collections_of(config)):
-            match = front_matter(read_text(adoption.folder / path))
-            if match:
-                heads[path] = "---\n" + match[1]
-    values = read_values(adoption.program, heads).of
-    now = datetime.datetime.now(datetime.timezone.utc)
-    dated = [(moment_of(path, values.get(path)), path) for path in heads]
-    shown_now = sorted(one for one in dated if config.get("future") is True or one[0] <= now)
-    older = [path for _, path in shown_now[: max(len(shown_now) - limit, 0)]]
+    program = Program(rules_of(config).include, texts(config.get("exclude")))
+    posts = dated_posts(adoption, config, files)
+    older = [path for path in posts[: max(len(posts) - limit, 0)] if program.comes_out(path, collections_of(config)) or program.is_draft(path)]
     place = f"{CONFIG}:{settings.line('limit_posts')}"
     if older:
         adoption.done(place, f"the posts past the newest {limit} are in exclude now: {shortened(older)}")
@@ -229,6 +221,25 @@ def mend_limit(adoption: Adoption, settings: Settings, config: dict, files: list
         settings.set("exclude", config["exclude"])
     settings.comment_out("limit_posts", "the older posts are in exclude now")
     config.pop("limit_posts")
+
+
+def dated_posts(adoption: Adoption, config: dict, files: list[str]) -> list[str]:
+    """The posts that Jekyll makes now, the oldest first; the drafts too where they are built."""
+    jekyll = Jekyll(rules_of(config), files)
+    wanted = jekyll.comes_out() | (jekyll.drafts() if config.get("show_drafts") is True else set())
+    found = [path for path in wanted if {"_posts", "_drafts"} & set(path.split("/")) and path.partition("/")[0][1:] not in collections_of(config)]
+    heads = {path: front_matter(read_text(adoption.folder / path)) for path in found}
+    values = read_values(adoption.program, {path: "---\n" + match[1] for path, match in heads.items() if match}).of
+    now = datetime.datetime.now(datetime.timezone.utc)
+    dated = []
+    for path in found:
+        own = values.get(path) if isinstance(values.get(path), dict) else {}
+        defaults = config.get("defaults") if isinstance(config.get("defaults"), list) else []
+        published = bool(own["published"]) if "published" in own else published_by_defaults(defaults, path, "posts")
+        moment = moment_of(path, own)
+        if (published or config.get("unpublished") is True) and (moment <= now or config.get("future") is True):
+            dated.append((moment, path))
+    return [path for _, path in sorted(dated)]
 
 
 def mend_copied(adoption: Adoption, settings: Settings, config: dict, files: list[str]) -> None:
@@ -258,17 +269,17 @@ def unpublished_copies(folder: Path, config: dict, files: list[str]) -> list[str
     return found
 
 
-def moment_of(path: str, values: object) -> datetime.datetime:
+def moment_of(path: str, own: dict) -> datetime.datetime:
     """The moment of a post: its own date, else that of its name; of a draft now."""
-    given = str(values.get("date", "")) if isinstance(values, dict) else ""
-    name = "" if path.startswith("_drafts/") else path.rpartition("/")[2][:10]
-    for text in (given, name):
-        match = re.match(r"(\d{4})-(\d\d)-(\d\d)(?:[ T](\d\d):(\d\d)(?::(\d\d))?)?\s*([+-]\d\d):?(\d\d)?", text + "+00:00")
+    name = "" if "_drafts" in path.split("/") else path.rpartition("/")[2]
+    for match in (MOMENT.match(str(own.get("date", ""))), re.match(r"(\d{4})-(\d\d?)-(\d\d?)-", name)):
         if match:
-            year, month, day, hour, minute, second = (int(part or 0) for part in match.groups()[:6])
-            offset = datetime.timedelta(minutes=(-1 if match[7][0] == "-" else 1) * (int(match[7][1:]) * 60 + int(match[8] or 0)))
+            parts = match.groupdict() or {}
+            time = [int(parts.get(key) or 0) for key in ("hour", "minute", "second")]
+            sign, hours, minutes = re.match(r"([+-]?)(\d\d):?(\d\d)", parts.get("offset") or "+00:00").groups()
+            offset = datetime.timedelta(hours=int(hours), minutes=int(minutes)) * (-1 if sign == "-" else 1)
             try:
-                return datetime.datetime(year, month, day, hour, minute, second, tzinfo=datetime.timezone(offset))
+                return datetime.datetime(*map(int, match.groups()[:3]), *time, tzinfo=datetime.timezone(offset))
             except ValueError:
                 continue
     return datetime.datetime.now(datetime.timezone.utc)
