@@ -92,7 +92,7 @@ class Browser:
         self.wait_for("document.readyState === 'complete'")
 
     def value(self, expression: str):
-        """What an expression of the page comes to; nothing while the page changes to another."""
+        """The value of an expression in the page; nothing while the browser goes from one page to another."""
         try:
             return self.ask("Runtime.evaluate", expression=expression, returnByValue=True)["result"].get("value")
         except RuntimeError:

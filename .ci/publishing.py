@@ -20,12 +20,13 @@ def commands(heading: str) -> list[str]:
     return found
 
 
-def type_in(block: str, folder: Path, status: int = 0, **more: str) -> None:
-    """Does a block of commands as a shell does that ends at the first that fails."""
+def type_in(block: str, folder: Path, status: int = 0, **more: str) -> str:
+    """Does a block of commands as a shell does that ends at the first that fails; what they say."""
     settings = {"GIT_AUTHOR_NAME": "A", "GIT_AUTHOR_EMAIL": "a@example.org", "GIT_COMMITTER_NAME": "A", "GIT_COMMITTER_EMAIL": "a@example.org"}
     env = {**os.environ, **settings, "PATH": f"{SITE.parent}:{os.environ['PATH']}", **more}
     done = subprocess.run(["bash", "-e", "-c", block], cwd=folder, env=env, stdin=subprocess.DEVNULL, stdout=subprocess.PIPE, stderr=subprocess.STDOUT, text=True)
     expect((done.returncode == 0) == (status == 0), f"status {done.returncode} of {block}: {done.stdout}")
+    return done.stdout
 
 
 def files_of(folder: Path) -> dict[str, bytes]:
@@ -127,8 +128,9 @@ def at_each_push(room: Path) -> None:
     type_in(f'git init --quiet -b main && git remote add origin "{remote}"', site)
 
     def publish(status: int) -> None:
-        # A push is done also where the hook fails; what is shown stays as it was then.
-        type_in("git add --all && git commit --quiet -m edit && git push --quiet origin main", site, WEB=str(web))
+        # A push is done even if the hook fails. What is shown stays as it was then.
+        said = type_in("git add --all && git commit --quiet -m edit && git push --quiet origin main", site, WEB=str(web))
+        expect(("about.md:4: no tag has this name" in said) == (status == 1), f"what a push says: {said}")
         run("build", site, status=status)
 
     publish(0)

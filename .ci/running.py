@@ -29,7 +29,7 @@ def expect(holds, what: str) -> None:
 
 
 def until(condition, what: str, seconds: float = PATIENCE):
-    """Waits for a condition to hold; what it comes to."""
+    """Waits for a condition to hold, and returns its value."""
     end = time.monotonic() + seconds
     while True:
         value = condition()
@@ -103,14 +103,14 @@ def is_alive(number: int) -> bool:
 class Running:
     """`site serve` or `site watch`, while it runs."""
 
-    def __init__(self, word: str, folder, *options, cwd: Path = ROOT, env: dict | None = None, before: tuple = ()):
+    def __init__(self, word: str, folder, *options, cwd: Path = ROOT, env: dict | None = None, before: tuple = (), site: Path = SITE):
         self.port = 0
         if word == "serve" and "--port" not in options:
             self.port = free_port()
             options = (*options, "--port", str(self.port))
         self.lines: list[str] = []
         self.process = subprocess.Popen(
-            [*before, SITE, word, folder, *options], cwd=cwd, env=env, stdin=subprocess.DEVNULL, stdout=subprocess.PIPE, stderr=subprocess.STDOUT, text=True
+            [*before, site, word, folder, *options], cwd=cwd, env=env, stdin=subprocess.DEVNULL, stdout=subprocess.PIPE, stderr=subprocess.STDOUT, text=True
         )
         self.reader = threading.Thread(target=lambda: self.lines.extend(iter(self.process.stdout.readline, "")), daemon=True)
         self.reader.start()
@@ -161,11 +161,13 @@ class Running:
             until(lambda: is_free(self.port), "its port is free")
         self.reader.join()
 
-    def get(self, path: str, method: str = "GET", host: str = "") -> tuple[int, dict, bytes]:
+    def get(self, path: str, method: str = "GET", host: str = "", **headers: str) -> tuple[int, dict, bytes]:
         connection = http.client.HTTPConnection("127.0.0.1", self.port, timeout=PATIENCE)
         try:
             connection.putrequest(method, path, skip_host=True)
             connection.putheader("Host", host or f"127.0.0.1:{self.port}")
+            for name, value in headers.items():
+                connection.putheader(name, value)
             connection.endheaders()
             reply = connection.getresponse()
             return reply.status, dict(reply.getheaders()), reply.read()

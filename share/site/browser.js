@@ -40,7 +40,7 @@
     if (fault.text) {
       box.append(element("pre", fault.text));
     }
-    box.append(element("p", [...remedies.map(sentence), "This page is as it was built last."].join(" ")));
+    box.append(element("p", [...remedies.map(sentence), "This page is from the last good build."].join(" ")));
     tree.append(style, box);
     document.documentElement.append(panel);
   }

@@ -24,7 +24,8 @@ AFTER_SAVES = 10.0
 AFTER_ALL = 300.0
 # So often it is seen whether the folder is still there: nothing tells when it goes, as long as the program is in it.
 BETWEEN_CHECKS = 2.0
-# What editors write beside a file while they have it open.
+# A program that ends by itself so soon after it was begun is likely to do so again.
+SOON = 2.0
 EDITORS_OWN = (".swp", ".swo", ".swx", "~")
 
 
@@ -33,8 +34,16 @@ def say(line: str) -> None:
 
 
 def is_editors_own(path: str) -> bool:
+    """Whether an editor has this file beside another, while that is open."""
     name = path.rsplit("/", 1)[-1]
     return name.endswith(EDITORS_OWN) or name.startswith(".#") or name == "4913"
+
+
+def names_in(folder: Path) -> set[str]:
+    try:
+        return set(os.listdir(folder))
+    except OSError:
+        return set()
 
 
 class Builder:
@@ -49,10 +58,14 @@ class Builder:
         self.on_configuration: Callable[[], None] = lambda: None
         self.session: Optional[Session] = None
         self.moment = 0
+        self.making_sure = False
         self.next_scan = 0.0
+        self.begun = 0.0
         # Which folders they are, to tell them from others of these names.
         self.place = mark(folder)
         self.output = mark(folder, OUTPUT)
+        # The names in `_site` itself after the last build.
+        self.names: set[str] = set()
         # The last build that rendered something, for those who ask why.
         self.last: Optional[Built] = None
         self.saved: set[str] = set()
@@ -69,8 +82,11 @@ class Builder:
 
     def run(self) -> None:
         """Builds the site, and then after each save, until the folder has gone."""
-        for line in beside.notes(self.folder, self.program) + beside.styles(self.folder, self.program):
+        for line in beside.notes(self.folder, self.program):
             say(line)
+        self.make_styles()
+        # The first scan finds what that has written.
+        self.take_now()
         self.begin_session()
         while True:
             others = [self.session] if self.session else []
@@ -79,8 +95,10 @@ class Builder:
                 raise Refused(f"the folder is not there any more: {shown(os.fspath(self.folder))}")
             if noticed:
                 self.follow(self.gather())
-            elif self.session and self.session.process.poll() is not None:
-                self.begin_again(self.session.how_it_ended())
+            elif self.session and self.session.has_ended():
+                self.replace_ended(self.session.how_it_ended())
+            elif self.loss():
+                self.begin_again(self.loss())
             elif time.monotonic() >= self.next_scan:
                 self.make_sure()
 
@@ -103,24 +121,33 @@ class Builder:
             say(self.watch.says)
             return Changes(unclear=True)
 
+    def take_now(self) -> Changes:
+        """What has happened up to now, even if that takes a look at the folder."""
+        return self.take() if self.watch.wait(0) else Changes()
+
+    def make_styles(self) -> None:
+        for line in beside.styles(self.folder, self.program):
+            say(line)
+
     def follow(self, changes: Changes) -> None:
         """Does what changes ask for."""
         changes.paths = {path for path in changes.paths if not is_editors_own(path)}
-        if any(path.endswith(beside.STYLES) for path in changes.paths):
-            for line in beside.styles(self.folder, self.program):
-                say(line)
-            # What that has written is built with what was saved.
-            changes.add(self.take())
+        if changes.unclear or any(path.endswith(beside.STYLES) for path in changes.paths):
+            # What this writes is built with what was saved.
+            self.make_styles()
+            changes.add(self.take_now())
         self.saved = set(changes.paths)
-        if changes.output and mark(self.folder, OUTPUT) != self.output:
-            self.begin_again("_site was removed or replaced by another program")
+        if self.loss():
+            self.begin_again(self.loss())
         elif changes.paths or changes.unclear:
             self.attempt(lambda: self.update(changes), changes)
 
     def make_sure(self) -> None:
         """Scans, in case something was missed. The moment stays, so that nothing changes but for what was missed."""
         self.next_scan = time.monotonic() + AFTER_ALL
+        self.making_sure = True
         self.attempt(lambda: self.session.scan(), Changes(unclear=True), self.moment)
+        self.making_sure = False
 
     def attempt(self, update: Callable[[], Optional[Failed]], changes: Changes, moment: Optional[int] = None) -> None:
         """Builds after an update of what the session holds."""
@@ -136,31 +163,43 @@ class Builder:
 
     # ---- the session
 
-    def begin_again(self, why: str) -> None:
-        say(f"{why}; it is built anew, whole")
+    def replace_ended(self, why: str) -> None:
+        """Begins anew after the program has ended by itself; not again and again, if it always does so."""
+        if time.monotonic() - self.begun > SOON:
+            self.begin_again(why)
+        else:
+            self.give_up(why)
+
+    def give_up(self, why: str) -> None:
+        """Goes on without a session until something is saved."""
         self.end_session()
-        self.on_configuration()
+        self.next_scan = time.monotonic() + AFTER_ALL
+        self.tell(False, Fault(f"{why}; trying again after the next save"))
+
+    def begin_again(self, why: str) -> None:
+        say(f"{why}; building the whole site again")
+        self.end_session()
         self.begin_session()
 
     def begin_session(self) -> None:
-        """A new session, which builds all of the site. Where it ends at once, the next save tries again."""
+        """Starts a new session, which builds the whole site. If it ends at once, the next save tries again."""
+        self.begun = time.monotonic()
+        self.on_configuration()
         try:
             self.session = Session(self.program, self.folder, self.options)
             self.next_scan = time.monotonic() + AFTER_ALL
             self.build(self.session.scan)
         except Ended as ended:
-            self.end_session()
-            self.tell(False, Fault(str(ended)))
-            self.next_scan = time.monotonic() + AFTER_ALL
-            say("it is tried again after the next save")
+            self.give_up(str(ended))
 
     def end_session(self) -> None:
+        self.names = set()
         if self.session:
             self.session.close()
         self.session = None
 
     def update(self, changes: Changes) -> Optional[Failed]:
-        """Gives the session what was saved: file by file where lines can take it, and by a scan where not."""
+        """Gives the session what was saved: file by file if lines can take it, and by a scan if not."""
         if self.session.scanned and not changes.unclear and len(changes.paths) <= MOST_PUTS:
             try:
                 self.put(changes.paths)
@@ -193,33 +232,49 @@ class Builder:
         if failed:
             self.tell(False, self.explain(failed))
             return
-        self.moment = int(time.time()) if moment is None else moment
+        self.moment = moment or int(time.time())
+        # A build makes `_site` if it is not there, but puts no other in its place: that somebody else has done.
+        before = mark(self.folder, OUTPUT)
         self.status.begin()
-        changed, fault = False, self.status.fault
         try:
             outcome = self.session.build(self.moment)
-            changed, fault = self.outcome(outcome)
         finally:
-            self.output = mark(self.folder, OUTPUT)
-            self.tell(changed, fault)
-
-    def outcome(self, outcome) -> tuple[bool, Optional[Fault]]:
-        """Whether a build changed `_site`, and the fault that it found."""
+            self.status.done()
+            self.output = before or mark(self.folder, OUTPUT)
         if isinstance(outcome, Failed):
-            return bool(outcome.marked), self.explain(outcome)
-        if outcome.whys:
-            self.last = outcome
-        changed = outcome.written + outcome.removed > 0
+            self.tell(bool(outcome.marked), self.explain(outcome))
+        else:
+            self.note_names(outcome)
+            self.tell_built(outcome)
+
+    def note_names(self, built: Built) -> None:
+        """Notes what has to be in `_site` from now on: also what has gone, if the build has not removed as much."""
+        names = names_in(self.folder / OUTPUT)
+        gone = self.names - names
+        self.names = names if len(gone) <= built.removed else names | gone
+
+    def loss(self) -> str:
+        """What another program has taken away from `_site`, if anything."""
+        if mark(self.folder, OUTPUT) != self.output:
+            return "_site was removed or replaced by another program"
+        if self.names - names_in(self.folder / OUTPUT):
+            return "files in _site were removed by another program"
+        return ""
+
+    def tell_built(self, built: Built) -> None:
+        if built.whys:
+            self.last = built
+        changed = built.written + built.removed > 0
         if changed or self.status.fault or self.status.count == 0:
-            say(f"built: {outcome.written} written, {outcome.removed} removed")
-        return changed, None
+            say(f"built: {built.written} written, {built.removed} removed")
+        self.tell(changed, None)
 
     def explain(self, failed: Failed) -> Fault:
         return explain(self.program, self.folder, self.options, failed)
 
     def tell(self, changed: bool, fault: Optional[Fault]) -> None:
-        """Tells those who are served, and says a fault once."""
-        if fault and fault != self.status.fault:
+        """Tells those who are served, and says a fault: after each save, as long as it is there."""
+        if fault and not (self.making_sure and fault == self.status.fault):
             say(fault.told())
             if fault.text:
                 say(f"    {shown(fault.text.strip())}")

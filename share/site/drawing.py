@@ -117,7 +117,7 @@ def section(name: str, edit: Edit) -> str:
     if edit.fault:
         return "".join([*parts, f"<p>{html.escape(edit.fault)}</p></section>"])
     count = len(edit.touched)
-    parts.append(f"<p><strong>{count} of {edit.pages} pages</strong> made anew, {edit.written} files written.</p>")
+    parts.append(f"<p><strong>{count} of {edit.pages} pages</strong> rebuilt, {edit.written} files written.</p>")
     groups = by_key(edit.touched)
     if groups:
         parts.append(f'<div class="wide">{drawing(name, groups)}</div><details><summary>As a list</summary><ul>')

@@ -6,11 +6,13 @@ import re
 import subprocess
 from dataclasses import dataclass
 from pathlib import Path
+from typing import Optional
 
 from session import Failed, LeftToScan, read_source
 from words import shown
 
-# `sitebuild: `, perhaps a file and its line, the sentence, and its code: docs/FAULTS.md.
+# What `check` says: this, perhaps a file and its line, the sentence, and its code (docs/FAULTS.md).
+FRONT = "sitebuild: "
 SENTENCE = re.compile(r"(?P<sentence>[^\n]*) \((?P<code>[A-Za-z]+ ?\d+)[^()]*\)$")
 LINE = re.compile(r"(\d+): ")
 MOST_MARKED = 20
@@ -28,7 +30,8 @@ class Fault:
     def told(self) -> str:
         """As one line for a terminal, in the form that editors make a link of."""
         place = f"{shown(self.file)}:{self.line}: " if self.line else f"{shown(self.file)}: " if self.file else ""
-        return f"{place}{self.sentence}{f' ({self.code})' if self.code else ''}"
+        code = f" ({self.code})" if self.code else ""
+        return f"{place}{shown(self.sentence)}{code}"
 
 
 def explain(program: str, folder: Path, options: list[str], failed: Failed) -> Fault:
@@ -36,26 +39,39 @@ def explain(program: str, folder: Path, options: list[str], failed: Failed) -> F
     if failed.reply.startswith("out-fault"):
         return output_fault(failed)
     options = [word for word in options if word in ("--drafts", "--future")]
-    check = subprocess.run(
-        [program, "check", *options], cwd=folder, stdin=subprocess.DEVNULL, stdout=subprocess.DEVNULL, stderr=subprocess.PIPE, start_new_session=True
-    )
-    said = check.stderr.decode(errors="replace").strip()
+    try:
+        check = subprocess.run(
+            [program, "check", *options], cwd=folder, stdin=subprocess.DEVNULL, stdout=subprocess.DEVNULL, stderr=subprocess.PIPE, start_new_session=True
+        )
+        said = check.stderr.decode(errors="replace").strip()
+    except OSError:
+        said = ""
     # `fault KIND LINE PATH`, or `scan-fault`
     parts = failed.reply.split(" ", 3)
     path = parts[3] if len(parts) == 4 else ""
-    rest = said[len("sitebuild: ") :]
-    if check.returncode == 0 or not said.startswith("sitebuild: ") or not rest.startswith(path):
+    told = read_sentence(said, path)
+    if told is None:
         # The folder has changed since, and is built again in a moment.
-        return Fault("a fault was found", parts[1] if path else failed.reply, path)
+        return Fault("a fault was found; docs/FAULTS.md of sitebuild says what its code means", parts[1] if path else failed.reply, path)
+    sentence, code, line = told
+    return Fault(sentence, code, path, line, text_of(folder, path, line))
+
+
+def read_sentence(said: str, path: str) -> Optional[tuple[str, str, int]]:
+    """The sentence, the code and the line of what `check` says of a file, or of the folder if the path is empty."""
+    if not said.startswith(FRONT):
+        return None
+    rest, line = said[len(FRONT) :], 0
     if path:
-        rest = rest[len(path) + 1 :].lstrip()
-    line = LINE.match(rest) if path else None
-    if line:
-        rest = rest[line.end() :]
-    told = SENTENCE.match(rest)
-    sentence, code = (told["sentence"], told["code"]) if told else (rest, parts[0])
-    number = int(line[1]) if line else 0
-    return Fault(sentence, code, path, number, text_of(folder, path, number))
+        # The program shows signs that could steer a terminal in another way.
+        if shown(rest[: len(path)]) != shown(path) or rest[len(path) : len(path) + 1] != ":":
+            return None
+        rest = rest[len(path) + 1 :]
+        number = LINE.match(rest)
+        if number:
+            line, rest = int(number[1]), rest[number.end() :]
+    told = SENTENCE.match(rest.lstrip())
+    return (told["sentence"], told["code"], line) if told else None
 
 
 def text_of(folder: Path, path: str, line: int) -> str:

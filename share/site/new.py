@@ -19,7 +19,7 @@ def main(arguments: list[str], program: str) -> int:
     refuse_what_is_there(folder)
     count = copy(folder)
     name = words.shown(os.fspath(folder))
-    # As a word of a command line, where a dash in front would make it an option.
+    # On a command line, a dash in front would make it an option.
     name = f"./{name}" if name.startswith("-") else name
     print(f"{name}: a new site of {count} files")
     print(f"  look at it:  site serve {name}")

@@ -48,13 +48,13 @@ TYPES = {
 KNOWN = mimetypes.MimeTypes()
 TEXTS = re.compile(r"text/|application/(json|xml|javascript)$|application/.*\+(xml|json)$|image/svg\+xml$")
 BODY_END = re.compile(rb"</body\s*>", re.IGNORECASE)
-# What would make an address after which it stands another one.
+# What may not follow an address: with it, the address is another one.
 GOES_ON = rb"(?![A-Za-z0-9-]|\.[A-Za-z0-9]|:[0-9]|@)"
 
 # What leads elsewhere, and what tools keep for themselves in `_site`.
 NEVER_SERVED = {b".", b"..", b".git", b".svn", b".hg"}
 NO_PAGE = "The site has no page at this address, and no 404.html of its own."
-NO_BUILD = "The page comes as soon as the site is built."
+NO_BUILD = "The page appears as soon as the site is built."
 
 
 @dataclass
@@ -80,7 +80,7 @@ def own_file(name: str) -> bytes:
 
 
 def segments_of(address: str) -> Optional[list[bytes]]:
-    """The names that the path of an address has; none where one could lead anywhere else."""
+    """The names in the path of an address; none if one of them could lead out of the site."""
     path = unquote_to_bytes(re.split(r"[?#]", address, maxsplit=1)[0])
     if not path.startswith(b"/") or b"\0" in path:
         return None
@@ -96,7 +96,7 @@ def open_below(folder: Path, segments: list[bytes]) -> Optional[int]:
     try:
         number = os.open(folder, os.O_RDONLY | os.O_DIRECTORY | os.O_NOFOLLOW | os.O_CLOEXEC)
         for segment in segments:
-            # A fifo would else be waited for.
+            # Opening a fifo would otherwise wait.
             inner = os.open(segment, os.O_RDONLY | os.O_NOFOLLOW | os.O_NONBLOCK | os.O_CLOEXEC, dir_fd=number)
             os.close(number)
             number = inner
@@ -132,12 +132,12 @@ class Pages:
         if base and path in ("/", base):
             return Answer(302, moved=base + "/")
         if not path.startswith(base + "/"):
-            return self.missing(host, version, f"The site is below {base}/, as its baseurl says.")
+            return self.missing(host, version, f"The site is at {base}/, as its baseurl says.")
         segments = segments_of(path[len(base) :])
         return self.find(segments, path, host, version) if segments else self.missing(host, version)
 
     def find(self, segments: list[bytes], path: str, host: str, version: str) -> Answer:
-        """The file of this name, with `.html` behind it, or the index of the folder."""
+        """The file of this name, the one with `.html` added, or the index of the folder."""
         *folders, name = segments
         names = [name, name + b".html"] if name else [b"index.html"]
         for candidate in names:
@@ -161,7 +161,7 @@ class Pages:
         return kind == "file"
 
     def missing(self, host: str, version: str, why: str = "") -> Answer:
-        """The site's own page for what it does not have, else one that says so."""
+        """The site's own page for what it does not have, or one that says so."""
         number = None if why else open_below(self.output, [b"404.html"])
         if number is not None and kind_of(number) == "file":
             answer = self.read(number, "404.html", host, version)
@@ -169,8 +169,10 @@ class Pages:
             return answer
         if number is not None:
             os.close(number)
+        if self.output.is_symlink():
+            why = "_site is a link, and no link is followed."
         built = self.output.is_dir()
-        title = "No page is here" if built else "Nothing is built yet"
+        title = "There is no page here" if built else "Nothing has been built yet"
         text = self.empty.substitute(title=title, text=html.escape(why or (NO_PAGE if built else NO_BUILD)))
         return self.whole(404, "text/html; charset=utf-8", text.encode(), host, version)
 

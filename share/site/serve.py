@@ -9,6 +9,7 @@ import threading
 from contextlib import closing
 from dataclasses import asdict
 from http.server import BaseHTTPRequestHandler, ThreadingHTTPServer
+from socketserver import TCPServer
 
 import why
 import words
@@ -19,7 +20,7 @@ from stopping import until_stopped
 
 ADDRESS = "127.0.0.1"
 # A page of another host must not read this site through the browser of whoever writes it.
-OUR_HOSTS = re.compile(r"(localhost|127\.0\.0\.1|\[::1\])(:\d{1,5})?$")
+OUR_HOSTS = re.compile(r"(localhost|127\.0\.0\.1|\[::1\])(:\d{1,5})?", re.IGNORECASE)
 MOST_PORTS = 100
 MOST_CONNECTIONS = 256
 # A client that does not read, or says nothing more, is let go after so many seconds.
@@ -43,17 +44,27 @@ class Server(ThreadingHTTPServer):
         self.told = False
         self.places = threading.BoundedSemaphore(MOST_CONNECTIONS)
 
+    def server_bind(self):
+        # Not as an HTTPServer does it, which asks the name service for a name of the address, and may wait for it.
+        TCPServer.server_bind(self)
+        self.server_name, self.server_port = self.server_address
+
     def configure(self) -> None:
-        """Reads where the site is to be found. Where the configuration cannot be read, it stays where it was."""
+        """Reads the address of the site. If the configuration cannot be read, the address stays as it was."""
         before, self.pages.settings = self.pages.settings, read_settings(self.builder.program, self.builder.folder) or self.pages.settings
         if not self.told or before.baseurl != self.pages.settings.baseurl:
             self.told = True
             say(f"http://{ADDRESS}:{self.server_port}{self.pages.settings.baseurl}/  (Ctrl-C ends it)")
 
     def process_request(self, request, client_address):
-        if self.places.acquire(blocking=False):
+        if not self.places.acquire(blocking=False):
+            self.shutdown_request(request)
+            return
+        try:
             super().process_request(request, client_address)
-        else:
+        except RuntimeError:
+            # The system has no thread for it.
+            self.places.release()
             self.shutdown_request(request)
 
     def process_request_thread(self, request, client_address):
@@ -83,7 +94,7 @@ class Handler(BaseHTTPRequestHandler):
 
     def do_GET(self):
         host = self.headers.get("Host", "")
-        if not OUR_HOSTS.match(host):
+        if not OUR_HOSTS.fullmatch(host):
             self.send(Answer(403, "text/plain; charset=utf-8", b"site serve is there for this machine alone: 127.0.0.1 or localhost\n"))
         elif self.path == OWN + "events":
             self.send_events()
@@ -182,7 +193,6 @@ def main(arguments: list[str], program: str) -> int:
             if server.server_port != given.port:
                 say(f"port {given.port} is taken; this is {server.server_port}")
             builder.on_configuration = server.configure
-            server.configure()
             threading.Thread(target=server.serve_forever, args=(0.1,), daemon=True).start()
             try:
                 builder.run()

@@ -3,6 +3,7 @@ from __future__ import annotations
 
 import errno
 import os
+import select
 import stat
 import subprocess
 from dataclasses import dataclass, field
@@ -50,7 +51,7 @@ class Session:
 
     def __init__(self, program: str, folder: Path, options: list[str]):
         try:
-            # In a group of its own: Ctrl-C in a terminal would else end it in the middle of a page.
+            # In a group of its own: otherwise Ctrl-C in a terminal would end it in the middle of a page.
             self.process = subprocess.Popen(
                 [program, "session", "--why", *options],
                 cwd=folder,
@@ -67,8 +68,12 @@ class Session:
         """Between replies, this can be read when the program has ended."""
         return self.process.stdout.fileno()
 
+    def has_ended(self) -> bool:
+        """Whether the program has ended, or has said something that it was not asked: either way it is of no more use."""
+        return bool(select.select([self], [], [], 0)[0])
+
     def scan(self) -> Optional[Failed]:
-        """Reads the whole folder; nothing where that is done."""
+        """Reads the whole folder. Returns nothing if that is done."""
         reply = self.ask(b"scan\n")
         self.scanned = reply.startswith("scanned ")
         return None if self.scanned else Failed(reply)
@@ -80,7 +85,7 @@ class Session:
         self.done(b"delete %s\n" % path.encode())
 
     def build(self, moment: int) -> Union[Built, Failed]:
-        """Makes `_site` what the files stand for. A session without files would empty it, so a scan has to come first."""
+        """Makes `_site` equal to what the files say. A session without files would empty it, so a scan has to be done first."""
         if not self.scanned:
             raise RuntimeError("a build is asked for before a scan was done")
         self.done(b"time %d\n" % moment)
@@ -124,7 +129,7 @@ class Session:
         try:
             status = self.process.wait(PATIENCE)
         except subprocess.TimeoutExpired:
-            return "the program has closed its output"
+            return "the program has said something unasked"
         said = self.process.stderr.read().decode(errors="replace").strip().splitlines()
         if said:
             return f"the program has ended: {shown(said[0])}"
@@ -168,7 +173,7 @@ def can_be_told(path: str) -> bool:
 
 
 def read_source(folder: Path, path: str) -> Optional[bytes]:
-    """The bytes of a file of the site; nothing where a scan would find no file there. Never waits, as a fifo would let it."""
+    """The bytes of a file of the site; nothing if a scan would find no file there. Never waits, as opening a fifo would."""
     try:
         number = os.open(folder / path, os.O_RDONLY | os.O_NOFOLLOW | os.O_NONBLOCK | os.O_CLOEXEC)
     except OSError as error:

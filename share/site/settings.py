@@ -24,25 +24,25 @@ layout: null
 
 @dataclass(frozen=True)
 class Settings:
-    # Without a `/` at the end; `baseurl` has one in front, where it is not empty.
+    # Without a `/` at the end. `baseurl` begins with one unless it is empty.
     url: str = ""
     baseurl: str = ""
 
 
 def read_settings(program: str, folder: Path) -> Optional[Settings]:
-    """Nothing where the configuration cannot be read."""
+    """Returns nothing if the configuration cannot be read."""
     try:
         configuration = read_source(folder, CONFIGURATION)
     except LeftToScan:
         return None
-    with tempfile.TemporaryDirectory() as room:
-        if configuration is not None:
-            Path(room, CONFIGURATION).write_bytes(configuration)
-        Path(room, f"{PAGE}.json").write_text(QUESTION, encoding="utf-8")
-        subprocess.run([program, "once"], cwd=room, stdin=subprocess.DEVNULL, stdout=subprocess.DEVNULL, stderr=subprocess.DEVNULL)
-        try:
+    try:
+        with tempfile.TemporaryDirectory() as room:
+            if configuration is not None:
+                Path(room, CONFIGURATION).write_bytes(configuration)
+            Path(room, f"{PAGE}.json").write_text(QUESTION, encoding="utf-8")
+            subprocess.run([program, "once"], cwd=room, stdin=subprocess.DEVNULL, stdout=subprocess.DEVNULL, stderr=subprocess.DEVNULL)
             answer = json.loads(Path(room, "_site", f"{PAGE}.json").read_bytes())
-        except (OSError, ValueError):
-            return None
+    except (OSError, ValueError):
+        return None
     baseurl = (answer["baseurl"] or "").strip("/")
     return Settings((answer["url"] or "").rstrip("/"), f"/{baseurl}" if baseurl else "")

@@ -1,4 +1,4 @@
-"""What a build has come to, as far as those who are served have to know it."""
+"""The result of the last build, as far as the server has to know it."""
 from __future__ import annotations
 
 import threading
@@ -43,8 +43,14 @@ class Status:
             self.building = True
             self.changed.wait_for(lambda: self.readers == 0, BUILD_WAITS)
 
+    def done(self) -> None:
+        """It writes no more."""
+        with self.changed:
+            self.building = False
+            self.changed.notify_all()
+
     def end(self, changed: bool, fault: Optional[Fault]) -> None:
-        """It has ended: whether it changed `_site`, and the fault of the site."""
+        """What came of it: whether `_site` changed, and the fault of the site."""
         with self.changed:
             self.building = False
             self.count += changed

@@ -22,7 +22,9 @@ def stop(number, frame) -> None:
 def until_stopped():
     """What is within ends in order at Ctrl-C and SIGTERM."""
     for number in SIGNALS:
-        signal.signal(number, stop)
+        # `nohup` has its way.
+        if number != signal.SIGHUP or signal.getsignal(number) != signal.SIG_IGN:
+            signal.signal(number, stop)
     try:
         yield
     except Stopped:

@@ -1,4 +1,4 @@
-"""Notices which files of a folder were saved: by inotify, and where that is not to be had by looking five times a second."""
+"""Notices which files of a folder were saved: by inotify or, if there is none, by looking five times a second."""
 from __future__ import annotations
 
 import ctypes
@@ -206,7 +206,7 @@ class Looking:
 
     def __init__(self, top: Path, why: str):
         self.top = os.fspath(top)
-        self.says = f"{why}; saves are looked for five times a second"
+        self.says = f"{why}; looking for saves five times a second"
         self.found = Changes()
         self.seen = self.look()
         self.output = mark(self.top, OUTPUT)

@@ -7,6 +7,7 @@ import tempfile
 import time
 from contextlib import closing
 from dataclasses import dataclass
+from itertools import islice
 from pathlib import Path
 from typing import Optional
 
@@ -21,6 +22,8 @@ from settings import CONFIGURATION
 from watching import is_entered, join
 
 MOST_EDITS = 16
+MOST_SHOWN = 100
+NEWLINE = b"\n"
 YAML = (".yml", ".yaml")
 FRONT = re.compile(rb"\A(?:\xef\xbb\xbf)?---[ \t]*\r?\n(.*?)^(?:---|\.\.\.)[ \t]*$", re.DOTALL | re.MULTILINE)
 # A line of YAML whose value is a bare text that ends with a letter.
@@ -54,17 +57,17 @@ def trials(path: str, data: bytes) -> list[Trial]:
 
 
 def value_trials(extension: str, data: bytes) -> list[Trial]:
-    """A letter at the end of each value, or of as many as are looked at."""
+    """A letter at the end of each value that is a plain text, for the first of them."""
     pattern = VALUE if extension in YAML else TEXT if extension == ".json" else FIELD
-    found = []
-    for match in pattern.finditer(data):
-        if extension in YAML and match[0].split()[-1] in TRUTHS:
-            continue
-        begin, end = data.rfind(b"\n", 0, match.start()) + 1, data.find(b"\n", match.end())
-        line = data[begin : end if end >= 0 else len(data)].decode(errors="replace").strip()
-        number = data.count(b"\n", 0, match.end()) + 1
-        found.append(Trial(f"line {number}: {line}", data[: match.end()] + b"x" + data[match.end() :]))
-    return found[:MOST_EDITS]
+    values = (match for match in pattern.finditer(data) if not (extension in YAML and match[0].split()[-1] in TRUTHS))
+    return [value_trial(data, match.end()) for match in islice(values, MOST_EDITS)]
+
+
+def value_trial(data: bytes, at: int) -> Trial:
+    """One more letter at this place."""
+    begin, end = data.rfind(b"\n", 0, at) + 1, data.find(b"\n", at)
+    line = data[begin : end if end >= 0 else len(data)].decode(errors="replace").strip()
+    return Trial(f"line {data.count(NEWLINE, 0, at) + 1}: {line[:MOST_SHOWN]}", data[:at] + b"x" + data[at:])
 
 
 def main(arguments: list[str], program: str) -> int:
@@ -114,7 +117,10 @@ def try_edits(program: str, site: Path, path: str) -> list[Edit]:
     if data is None:
         raise words.Refused(f"{words.shown(path)} is no file of the site {words.shown(os.fspath(site))}")
     with tempfile.TemporaryDirectory(prefix="site-why-") as room:
-        copy_sources(site, Path(room))
+        try:
+            copy_sources(site, Path(room))
+        except (OSError, LeftToScan) as error:
+            raise words.Refused(f"a file of the site cannot be copied, so `site check` has to be clean first ({error or 'too long'})") from error
         try:
             with closing(Session(program, Path(room), [])) as session:
                 failed = session.scan()
@@ -157,7 +163,7 @@ def copy_sources(site: Path, room: Path) -> None:
 
 def copy_file(site: Path, room: Path, path: str) -> None:
     try:
-        # Nothing writes there, so a second name will do, where both are on one disk.
+        # Nothing writes to it, so a second name will do if both are on one disk.
         os.link(site / path, room / path, follow_symlinks=False)
     except OSError:
         data = read_source(site, path)

@@ -26,18 +26,18 @@ class Word:
 
 
 WORDS = {
-    "new": Word("FOLDER", "begins a site in a new folder, with posts, pages, layouts and a style", "site new my-blog"),
+    "new": Word("FOLDER", "starts a new site, with posts, pages, layouts and a style", "site new my-blog"),
     "serve": Word(
         "[FOLDER] [--port N] [--drafts] [--future] [--jobs N]",
-        "builds a site after each save, and shows it in the browser, which reloads by itself",
+        "builds a site after each save and shows it in the browser, which reloads by itself",
         "site serve my-blog",
     ),
     "watch": Word("[FOLDER] [--drafts] [--future] [--jobs N]", "builds a site after each save", "site watch my-blog"),
-    "check": Word("[FOLDER] [--drafts] [--future]", "tells the first fault of a site, and writes nothing", "site check my-blog"),
+    "check": Word("[FOLDER] [--drafts] [--future]", "reports the first fault of a site, and writes nothing", "site check my-blog"),
     "build": Word("[FOLDER] [--drafts] [--future] [--jobs N]", "builds a site into its folder _site", "site build my-blog --jobs 4"),
     "why": Word(
         "FILE [--to PAGE]",
-        "draws which pages an edit of a file touches, and by what they read of it",
+        "shows which pages an edit of a file touches, and why",
         "site why my-blog/_data/menu.yml",
     ),
     "adopt": Word(
@@ -50,11 +50,11 @@ WORDS = {
 
 def listing() -> str:
     """All words, with an example each."""
-    lines = ["site: begins, builds and shows Jekyll sites with sitebuild", ""]
+    lines = ["site: starts, builds and shows Jekyll sites, with sitebuild", ""]
     for name, word in WORDS.items():
         if is_here(name):
             lines += [f"  site {name} {word.usage}", f"      {word.does}", f"      {word.example}"]
-    lines += ["", "Without FOLDER a word takes the current folder. `site WORD --help` tells more."]
+    lines += ["", "Without FOLDER, the current folder is used. `site WORD --help` says more."]
     return "\n".join(lines)
 
 
@@ -87,15 +87,18 @@ def number(least: int, most: int):
 
 
 def a_folder(text: str) -> Path:
-    path = Path(text)
+    try:
+        path = Path(text).resolve(strict=True)
+    except OSError as error:
+        raise argparse.ArgumentTypeError(f"there is no folder {shown(text)} ({error.strerror})") from error
     if not path.is_dir():
-        raise argparse.ArgumentTypeError(f"there is no folder {shown(text)}")
-    return path.resolve()
+        raise argparse.ArgumentTypeError(f"{shown(text)} is no folder")
+    return path
 
 
 def add_site(of: argparse.ArgumentParser, jobs: bool) -> None:
     """The folder of a site, and the options that are passed on to the program."""
-    of.add_argument("folder", nargs="?", default=Path.cwd(), type=a_folder, metavar="FOLDER", help="the folder of the site")
+    of.add_argument("folder", nargs="?", default=".", type=a_folder, metavar="FOLDER", help="the folder of the site")
     of.add_argument("--drafts", action="store_true", help="builds the drafts too")
     of.add_argument("--future", action="store_true", help="builds what has a later date too")
     if jobs:
