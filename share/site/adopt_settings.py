@@ -346,7 +346,7 @@ def mend_values(adoption: Adoption, settings: Settings, config: dict) -> None:
         config.pop("paginate")
     if config.get("excerpt_separator", "x") == "":
         adoption.done(f"{CONFIG}:{settings.line('excerpt_separator')}", "posts have an empty excerpt by defaults now, in place of an empty separator")
-        settings.comment_out("excerpt_separator", "an empty excerpt stands in defaults in its place")
+        settings.comment_out("excerpt_separator", "defaults have an empty excerpt in its place")
         config.pop("excerpt_separator")
         defaults = config.get("defaults") if isinstance(config.get("defaults"), list) else []
         config["defaults"] = [*defaults, {"scope": {"path": "", "type": "posts"}, "values": {"excerpt": ""}}]

@@ -46,7 +46,7 @@ class Settings:
         return [(match["key"], at) for match, at in found if match]
 
     def place(self, key: str) -> Optional[tuple[int, int]]:
-        """The first line of the last block of this key, which counts, and the line behind the block."""
+        """The first line of the last block of this key, which counts, and the line after the block."""
         keys = self.keys()
         for number in range(len(keys) - 1, -1, -1):
             if keys[number][0] == key:

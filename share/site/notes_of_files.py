@@ -14,7 +14,7 @@ from site_notes import Item, Notes, Site
 DATE = re.compile(r"(\d{4})-(\d{1,2})-(\d{1,2})-")
 # A key of YAML that is a number.
 NUMBER = re.compile(r"^[ \t]*(?:- )?-?\d+[ \t]*:(?=\s|$)|[{,][ \t]*-?\d+:[ \t]", re.M)
-# A number that Ruby writes otherwise than it stands.
+# A number that Ruby writes otherwise than it is written.
 ODD_NUMBER = re.compile(r"^[\w-]+[ \t]*:[ \t]*([+-]?(?:0x[0-9A-Fa-f]+|0[0-7]+|\d+\.\d*0))[ \t]*(?:#.*)?\r?$", re.M)
 MOMENT = re.compile(r"(\d{4}-\d\d-\d\d)(?:[ T](\d\d):(\d\d)(?::\d\d)?)?\s*([+-]\d\d:?\d\d)?$")
 PAGES_OF_HTML = (".html", ".htm", ".xhtml")
@@ -55,7 +55,7 @@ def add_name(notes: Notes, site: Site, path: str, has_front_matter: bool) -> Non
     if collection in site.collections() and any(part[:1] in "_.#~" for part in folders[1:]):
         notes.add(path, 0, "nothing comes of a document in such a folder", "write the file in include, or rename the folder: `site adopt` does the first")
     if path.startswith("_data/") and re.search(r"[^A-Za-z0-9_./-]", path):
-        notes.add(path, 0, "the key of this data file is its name as it stands (there its spaces are _)", "call it with letters, digits and _")
+        notes.add(path, 0, "the key of this data file is its name as it is (in Jekyll its spaces are _)", "call it with letters, digits and _")
     if path.startswith("_data/") and ending in (".csv", ".tsv"):
         add_empty_field(notes, path, read_text(site.folder / path), "\t" if ending == ".tsv" else ",")
     if has_front_matter and ending.lower() != ending and site.is_markdown(path[: -len(ending)] + ending.lower()):
@@ -63,7 +63,7 @@ def add_name(notes: Notes, site: Site, path: str, has_front_matter: bool) -> Non
     if has_front_matter and ending in (".scss", ".sass", ".coffee"):
         add_sass(notes, site, path)
     if has_front_matter and re.search(r"[^A-Za-z0-9._/-]", path):
-        notes.add(path, 0, "its address has the signs of its name as they are (there escaped)", "call it with letters, digits and -")
+        notes.add(path, 0, "its address has the signs of its name as they are (in Jekyll escaped)", "call it with letters, digits and -")
     if has_front_matter and read_text(site.folder / path).startswith("\ufeff"):
         notes.add(path, 1, "it begins with a byte-order mark: here its front matter is read, there it is copied", "save it without the mark")
 
@@ -71,7 +71,7 @@ def add_name(notes: Notes, site: Site, path: str, has_front_matter: bool) -> Non
 def add_empty_field(notes: Notes, path: str, text: str, separator: str) -> None:
     for number, record in enumerate(csv.reader(io.StringIO(text), delimiter=separator), 1):
         if "" in record:
-            notes.add(path, number, "an empty field is an empty text (there nil)", 'test it with == ""')
+            notes.add(path, number, "an empty field is an empty text (in Jekyll nil)", 'test it with == ""')
             return
 
 
@@ -108,27 +108,32 @@ def add_item(notes: Notes, site: Site, item: Item) -> None:
         notes.add(item.path, line_of(item.text, number.start()), "a key that is a number is a text (x[1] is nil)", 'ask for it as x["1"]')
     add_categories(notes, site, item, is_post, is_document)
     if "published" in values and values["published"] is None:
-        notes.add(item.path, item.line_of_key("published"), "published without a value is true (there false)", "write published: false: `site adopt` does that")
+        notes.add(item.path, item.line_of_key("published"), "published without a value is true (in Jekyll false)", "write published: false: `site adopt` does that")
     if values.get("excerpt_separator") == "":
-        notes.add(item.path, item.line_of_key("excerpt_separator"), "an empty separator gives the first paragraph as excerpt (there nothing)", 'write excerpt: ""')
+        what = "an empty separator gives the first paragraph as excerpt (in Jekyll nothing)"
+        notes.add(item.path, item.line_of_key("excerpt_separator"), what, 'write excerpt: ""')
     if is_post and values.get("excerpt") is False:
-        notes.add(item.path, item.line_of_key("excerpt"), "excerpt: false gives the text false (there the first paragraph)", "take it out, or write the excerpt")
+        what = "excerpt: false gives the text false (in Jekyll the first paragraph)"
+        notes.add(item.path, item.line_of_key("excerpt"), what, "take it out, or write the excerpt")
     if values.get("render_with_liquid") is False:
         notes.add(item.path, item.line_of_key("render_with_liquid"), "the text is a template all the same", "put {% raw %} around what is none")
-    if not is_document and "published" not in values and any(covers(entry, item.path) and entry["values"].get("published") is False for entry in site.defaults()):
-        notes.add(item.path, 1, "published: false of defaults leaves this page out (there it comes out all the same)", "write published: true into the page, or another scope")
+    hidden = any(entry["values"].get("published") is False and covers(entry, item.path) for entry in site.defaults())
+    if hidden and not is_document and "published" not in values:
+        what = "published: false of defaults leaves this page out (in Jekyll it comes out all the same)"
+        notes.add(item.path, 1, what, "write published: true into the page, or another scope")
     add_permalink(notes, site, item)
     add_date(notes, site, item, is_document)
     add_redirects(notes, site, item)
     for entry in site.defaults():
         for key, value in entry["values"].items():
+            line = item.line_of_key(key)
             if isinstance(value, dict) and isinstance(values.get(key), dict):
-                notes.add(item.path, item.line_of_key(key), f"the hash {key} takes the place of that of defaults, and nothing is merged", "write the hash whole")
+                notes.add(item.path, line, f"the hash {key} takes the place of that of defaults, and nothing is merged", "write the hash whole")
             elif value is not None and values.get(key, value) is None and key != "published":
-                notes.add(item.path, item.line_of_key(key), f"{key} has no value, and hides that of defaults", "take the key out")
+                notes.add(item.path, line, f"{key} has no value, and hides that of defaults", "take the key out")
     odd = ODD_NUMBER.search(item.text[: item.body])
     if odd:
-        notes.add(item.path, line_of(item.text, odd.start()), f"{odd[1]} is a text, and comes out as it stands", "write a whole number, or put it in quotes")
+        notes.add(item.path, line_of(item.text, odd.start()), f"{odd[1]} is a text, and comes out as it is written", "write a whole number, or put it in quotes")
     if is_document and "title" not in values and not item.path.isascii():
         notes.add(item.path, 0, "its title is made of its name, where ASCII letters alone become capitals", "write title")
 
@@ -144,17 +149,17 @@ def add_categories(notes: Notes, site: Site, item: Item, is_post: bool, is_docum
     values = item.values
     from_defaults = any("category" in entry["values"] or "categories" in entry["values"] for entry in site.defaults())
     if is_post and "category" in values and ("categories" in values or from_defaults):
-        notes.add(item.path, item.line_of_key("category"), "category comes before categories in the address (there behind)", "write all of them in categories")
+        notes.add(item.path, item.line_of_key("category"), "category comes before categories in the address (in Jekyll after them)", "write all of them in categories")
     elif is_document and not is_post and "category" in values:
         notes.add(item.path, item.line_of_key("category"), "of a document that is no post category is not put to its categories", "write categories")
     for key in ("tags", "categories"):
         given = values.get(key)
         words = given.split() if isinstance(given, str) else [str(one) for one in given] if isinstance(given, list) else []
         if key == "tags" and len(set(words)) < len(words):
-            notes.add(item.path, item.line_of_key(key), "a tag that stands twice counts once", "write it once")
+            notes.add(item.path, item.line_of_key(key), "a tag that is written twice counts once (in Jekyll twice)", "write it once")
         small = [word.lower() for word in words]
         if key == "categories" and is_post and len(set(small)) < len(set(words)):
-            notes.add(item.path, item.line_of_key(key), "categories that differ in capitals alone both stand in the address (there one)", "write one of them")
+            notes.add(item.path, item.line_of_key(key), "categories that differ in capitals alone are both in the address (in Jekyll one is)", "write one of them")
 
 
 def add_permalink(notes: Notes, site: Site, item: Item) -> None:
@@ -165,7 +170,8 @@ def add_permalink(notes: Notes, site: Site, item: Item) -> None:
     own = re.search(r"(\.[A-Za-z0-9]+)$", permalink)
     out = ".html" if site.is_markdown(item.path) else ending
     if own and own[1] != out:
-        notes.add(item.path, item.line_of_key("permalink"), f"it is written as {permalink.lstrip('/')}{out}, since its own ending is {out}", f"give the file the ending {own[1]}")
+        what = f"it is written as {permalink.lstrip('/')}{out}, since its own ending is {out}"
+        notes.add(item.path, item.line_of_key("permalink"), what, f"give the file the ending {own[1]}")
 
 
 def add_date(notes: Notes, site: Site, item: Item, is_document: bool) -> None:
@@ -180,9 +186,12 @@ def add_date(notes: Notes, site: Site, item: Item, is_document: bool) -> None:
         offset = sign * (int(moment[4][1:3]) * 60 + int(moment[4][-2:]))
         minutes = int(moment[2]) * 60 + int(moment[3]) - offset
         if not 0 <= minutes < 24 * 60:
-            notes.add(item.path, item.line_of_key("date"), "its day is that of UTC, since there is no timezone (there that of the machine)", f'write timezone: "{moment[4][:3]}:{moment[4][-2:]}" in _config.yml')
-    if day > datetime.date.today() + datetime.timedelta(days=1) and site.config.get("future") is not True and not item.path.startswith("_drafts/") and "_posts" not in item.path.split("/"):
-        notes.add(item.path, item.line_of_key("date"), "a document of a later date is not there at all (there its collection lists it)", "future: true, or no date")
+            what = "its day is that of UTC, since there is no timezone (in Jekyll that of the machine)"
+            notes.add(item.path, item.line_of_key("date"), what, f'write timezone: "{moment[4][:3]}:{moment[4][-2:]}" in _config.yml')
+    tomorrow = datetime.date.today() + datetime.timedelta(days=1)
+    if day > tomorrow and site.config.get("future") is not True and not {"_posts", "_drafts"} & set(item.path.split("/")):
+        what = "a document with a later date is not there at all (in Jekyll its collection lists it)"
+        notes.add(item.path, item.line_of_key("date"), what, "write future: true, or no date")
 
 
 def add_redirects(notes: Notes, site: Site, item: Item) -> None:
@@ -202,4 +211,5 @@ def add_undated(notes: Notes, site: Site) -> None:
         dated = [item for item in inner if item.values.get("date") or DATE.match(item.path.rpartition("/")[2])]
         if dated and len(dated) < len(inner):
             undated = next(item for item in inner if item not in dated)
-            notes.add(undated.path, 0, "a document without a date stands behind those that have one (there it has the moment of the build)", f"give all documents of {name} a date, or none")
+            what = "a document without a date comes after those that have one (in Jekyll it has the moment of the build)"
+            notes.add(undated.path, 0, what, f"give all documents of {name} a date, or none")

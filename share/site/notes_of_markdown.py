@@ -10,10 +10,14 @@ HIGHLIGHT = re.compile(r"\{%-?\s*highlight\b.*?\{%-?\s*endhighlight\s*-?%\}|<(sc
 FENCE = re.compile(r"^ {0,3}(`{3,}|~{3,})[ \t]*([^\s`]*)")
 CODE = re.compile(r"(`+)(?!`).*?(?<!`)\1(?!`)")
 # What has quotes and dashes of its own: tags, addresses, definitions of links, tables, and lines that are a rule.
-MARKUP = re.compile(r"<[^>]*>|\]\([^)]*\)|^ {0,3}\[[^\]]+\]:.*$|^[ \t]*\|?[ \t]*:?-+:?[ \t]*(?:\|[ \t]*:?-+:?[ \t]*)*\|?[ \t]*$|^[ \t]*(?:[-*_][ \t]*){3,}$", re.M)
+RULE_OF_TABLE = r"[ \t]*\|?[ \t]*:?-+:?[ \t]*(?:\|[ \t]*:?-+:?[ \t]*)*\|?[ \t]*$"
+MARKUP = re.compile(
+    rf"<[^>]*>|\]\([^)]*\)|^ {{0,3}}\[[^\]]+\]:.*$|^{RULE_OF_TABLE}|^[ \t]*(?:[-*_][ \t]*){{3,}}$",
+    re.M,
+)
 # What is looked for outside of code; what it means here; the remedy.
 FORMS = [
-    (re.compile(r"^.*\|.*\n[ \t]*\|?[ \t]*:?-+:?[ \t]*(?:\|[ \t]*:?-+:?[ \t]*)*\|?[ \t]*$", re.M), "a table is text", "write it in HTML"),
+    (re.compile(rf"^.*\|.*\n{RULE_OF_TABLE}", re.M), "a table is text", "write it in HTML"),
     (re.compile(r"\[\^[^\]\s]+\]"), "footnotes are text", "write them in HTML"),
     (re.compile(r"\{:\s*toc\b|\{::?toc\}"), "a table of contents ({:toc}) is text", "write it in HTML"),
     (re.compile(r"\{:(?!\s*toc\b)[^}]*\}"), "attributes in braces ({: .class}) are text", "write the element in HTML"),
@@ -35,7 +39,7 @@ KNOWN_REFERENCES = set(
     "uuml yacute thorn yuml".split()
 )
 QUOTES = re.compile(r"[\"']|(?<!-)--(?!-)|---|\.\.\.")
-QUOTES_SAID = 'straight quotes, -- and ... stay as they are (there they become “ ” ’ – …)'
+QUOTES_SAID = "straight quotes, -- and ... stay as they are (in Jekyll they become “ ” ’ – …)"
 
 
 def add(notes: Notes, path: str, text: str, start: int) -> None:
@@ -57,7 +61,7 @@ def add(notes: Notes, path: str, text: str, start: int) -> None:
 
 
 def line_at(body: str, found: re.Match) -> int:
-    """The line of a match, counted from 0; of a match that begins with line ends the one behind them."""
+    """The line of a match, counted from 0; of a match that begins with line ends the one after them."""
     return body.count("\n", 0, found.end() - len(found[0].lstrip("\n")))
 
 

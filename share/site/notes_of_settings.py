@@ -39,8 +39,10 @@ USUAL = {"markdown": "kramdown", "highlighter": "rouge", "encoding": "utf-8", "l
 # Plugins whose work is done by what `site adopt` writes, and the file that shows it.
 DONE_BY = {"jekyll-feed": "feed.xml", "jekyll-sitemap": "sitemap.xml"}
 # Plugins that leave nothing to do: their tags are faults, or the program does their work.
-WITHOUT_WORK = {"github-pages", "jekyll-seo-tag", "jekyll-paginate", "jekyll-include-cache", "jekyll-redirect-from", "jekyll-sass-converter", "jekyll-commonmark",
-                "jekyll-watch", "kramdown-parser-gfm"}
+WITHOUT_WORK = {
+    "github-pages", "jekyll-seo-tag", "jekyll-paginate", "jekyll-include-cache", "jekyll-redirect-from", "jekyll-sass-converter", "jekyll-commonmark",
+    "jekyll-watch", "kramdown-parser-gfm",
+}
 
 
 def add(notes: Notes, site: Site) -> None:
@@ -71,7 +73,8 @@ def add_plugins(notes: Notes, site: Site) -> None:
         remedy = f"a template has to make {made[name]}: {ADOPT}" if name in made else "write what it makes as a template"
         notes.add(place, line, f"the plugin {name} is not run", remedy)
     if lacks_pagination(site.config, site.folder):
-        notes.add(CONFIG, site.settings.line("paginate"), "posts are spread over pages (there the plugin jekyll-paginate does that, which the site has not)", f"take it out: {ADOPT}")
+        what = "posts are spread over pages (in Jekyll the plugin jekyll-paginate does that, which the site has not)"
+        notes.add(CONFIG, site.settings.line("paginate"), what, f"take it out: {ADOPT}")
 
 
 def add_lists(notes: Notes, site: Site) -> None:
@@ -126,19 +129,23 @@ def add_scopes(notes: Notes, site: Site) -> None:
 def add_permalinks(notes: Notes, site: Site) -> None:
     given = site.config.get("permalink")
     if isinstance(given, str) and given not in STYLES and not re.search(r":(title|slug|name|basename|path)", given):
-        notes.add(CONFIG, site.settings.line("permalink"), f'permalink "{given}" is no style and names no title, so posts share an address, and one of them comes out', "write date, pretty, ordinal, none, or a template with :title")
+        what = f'permalink "{given}" is no style and names no title, so posts share an address, and one of them comes out'
+        notes.add(CONFIG, site.settings.line("permalink"), what, "write date, pretty, ordinal, none, or a template with :title")
     collections = site.config.get("collections")
     for name, meta in collections.items() if isinstance(collections, dict) else []:
         permalink = meta.get("permalink") if isinstance(meta, dict) else None
         if isinstance(permalink, str) and re.search(r"[^/]:path", permalink):
-            notes.add(CONFIG, site.settings.line_with("collections", permalink), f'permalink "{permalink}": nothing is put between the text and :path (there a /)', "write the / before :path")
+            what = f'permalink "{permalink}": nothing is put between the text and :path (in Jekyll a /)'
+            notes.add(CONFIG, site.settings.line_with("collections", permalink), what, "write the / before :path")
 
 
 def add_collections(notes: Notes, site: Site) -> None:
     collections = site.config.get("collections")
     for name, meta in collections.items() if isinstance(collections, dict) else []:
         for key in meta if isinstance(meta, dict) else ():
+            line = site.settings.line_with("collections", key)
             if key in ("sort_by", "order"):
-                notes.add(CONFIG, site.settings.line_with("collections", key), f"{key} of the collection {name} has no meaning: documents stand by date and path", "sort them where they are listed")
+                what = f"{key} of the collection {name} has no meaning: documents are in the order of date and path"
+                notes.add(CONFIG, line, what, "sort them where they are listed")
             elif key not in ("output", "permalink"):
-                notes.add(CONFIG, site.settings.line_with("collections", key), f"{key} of the collection {name} is nil in templates", "put it into a key of its own, or a data file")
+                notes.add(CONFIG, line, f"{key} of the collection {name} is nil in templates", "put it into a key of its own, or a data file")

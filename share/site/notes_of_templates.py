@@ -39,16 +39,19 @@ FORMS = [
     (re.compile(r"\.relative_directory\b"), ".relative_directory is nil", "write the path"),
     (re.compile(r"\.modified_time\b"), ".modified_time is nil", "give a date"),
     (re.compile(r"\bcollection\.files\b"), "files of a collection is nil", "use site.static_files"),
-    (re.compile(r"\.draft\s*==\s*false"), "draft of a post is nil (there false)", "write draft != true"),
-    (re.compile(r"\bwhere\s*:\s*[\"']\w+\.[\w.]+[\"']"), "a dot in the property of where is a dot (there the way to an inner value)", "use for with if"),
-    (re.compile(r"\b(?:page|post|site|site\.(?:pages|posts|documents))\s*\|\s*jsonify"), "an item as JSON is its address (there all of its variables)", "write the variables that you want"),
+    (re.compile(r"\.draft\s*==\s*false"), "draft of a post is nil (in Jekyll false)", "write draft != true"),
+    (re.compile(r"\bwhere\s*:\s*[\"']\w+\.[\w.]+[\"']"), "a dot in the property of where is a dot (in Jekyll the way to an inner value)", "use for with if"),
+    (
+        re.compile(r"\b(?:page|post|site|site\.(?:pages|posts|documents))\s*\|\s*jsonify"),
+        "an item as JSON is its address (in Jekyll all of its variables)", "write the variables that you want",
+    ),
     (re.compile(r"\bjekyll\.version\b"), "jekyll.version is 4", "write the version that you mean"),
     (re.compile(r"^\{%-?\s*highlight\b"), "code comes out without colours and line numbers", "colour it in the browser by the class language-.."),
 ]
 
 
 def add(notes: Notes, site: Site, path: str, text: str, start: int) -> None:
-    """Looks through the outputs and tags of a template behind its front matter."""
+    """Looks through the outputs and tags of a template after its front matter."""
     if "{%" not in text and "{{" not in text:
         return
     for piece in PIECE.finditer(text, start):
@@ -65,7 +68,7 @@ def add_piece(notes: Notes, site: Site, path: str, line: int, piece: re.Match) -
     if EMPTY_ON_THE_LEFT.search(bare):
         notes.add(path, line, "empty is nil on the left of a comparison", "write it on the right")
     if BLANK.search(bare):
-        notes.add(path, line, "blank is nil, false, and what is empty or white space (there nothing equals it)", "write empty, or nil")
+        notes.add(path, line, "blank is nil, false, and what is empty or white space (in Jekyll nothing equals it)", "write empty, or nil")
     for form, what, remedy in FORMS:
         if form.search(whole):
             notes.add(path, line, what, remedy)
@@ -87,33 +90,34 @@ def add_names_of_items(notes: Notes, site: Site, path: str, line: int, bare: str
     """`page.name` is nil of what is no page."""
     folder = path.partition("/")[0]
     shared = folder in ("_layouts", "_includes")
-    if re.search(r"\bpost\.name\b", bare) or (re.search(r"\bpage\.name\b", bare) and (shared or "_posts" in path.split("/") or folder[1:] in site.collections())):
-        notes.add(path, line, "name of a post or document is nil (there its file's name)", "use path")
+    of_document = shared or "_posts" in path.split("/") or folder[1:] in site.collections()
+    if re.search(r"\bpost\.name\b", bare) or of_document and re.search(r"\bpage\.name\b", bare):
+        notes.add(path, line, "name of a post or document is nil (in Jekyll its file's name)", "use path")
     if folder == "_layouts" and re.search(r"\bpage\.content\b", bare):
-        notes.add(path, line, "page.content of a page is its converted text (there its source)", "use content")
+        notes.add(path, line, "page.content of a page is its converted text (in Jekyll its source)", "use content")
 
 
 def add_lists(notes: Notes, site: Site, path: str, line: int, bare: str) -> None:
-    """Lists of the site that stand in another order, or have other members."""
+    """Lists of the site that are in another order, or have other members."""
     names = site.collections()
     # The configuration's order is not known here: its keys come sorted.
     if re.search(r"\bin\s+site\.collections\b", bare) and (len(names) > 1 or any(name < "posts" for name in names)):
-        notes.add(path, line, "site.collections has posts first, and then the order of the configuration (there that of names)", "sort them by label")
+        notes.add(path, line, "site.collections has posts first, and then the order of the configuration (in Jekyll that of names)", "sort them by label")
     if re.search(r"\bsite\.static_files\b", bare) and site.copied_of_collections():
-        notes.add(path, line, "path of a copied file of a collection is its address, as /c/a.png (there _c/a.png)", "look for its address")
+        notes.add(path, line, "path of a copied file of a collection is its address, as /c/a.png (in Jekyll _c/a.png)", "look for its address")
 
 
 def add_sorts(notes: Notes, site: Site, path: str, line: int, whole: str) -> None:
     for key in re.findall(r"\bsort\s*:\s*[\"'](\w+)[\"']", whole):
         if key in site.decimals():
-            notes.add(path, line, f"{key} has decimals, which are texts: 10.5 stands before 2.5", "write whole numbers")
+            notes.add(path, line, f"{key} has decimals, which are texts: 10.5 comes before 2.5", "write whole numbers")
 
 
 def add_table(notes: Notes, path: str, line: int, piece: re.Match) -> None:
     if piece["name"] == "tablerow" and "cols" not in piece["words"]:
         rest = piece.string[piece.end() :]
         if "col_last" in rest[: max(rest.find("endtablerow"), 0)]:
-            notes.add(path, line, "col_last of a table without cols holds in its last cell (there never)", "give it cols")
+            notes.add(path, line, "col_last of a table without cols holds in its last cell (in Jekyll never)", "give it cols")
 
 
 def add_counters(notes: Notes, site: Site) -> None:
@@ -126,4 +130,4 @@ def add_counters(notes: Notes, site: Site) -> None:
     for name, places in found.items():
         layouts = [place for place in places if place[0].startswith("_layouts/")]
         if layouts and len({path for path, _ in places}) > 1:
-            notes.add(*layouts[0], f"the counter {name} begins anew in each layout (there it goes on)", "give the layout's counter a name of its own")
+            notes.add(*layouts[0], f"the counter {name} begins anew in each layout (in Jekyll it goes on)", "give the layout's counter a name of its own")

@@ -139,7 +139,7 @@ def umask() -> int:
 
 
 def front_matter(text: str) -> Optional[re.Match]:
-    """The front matter: group 1 is its text, and the body begins behind the match."""
+    """The front matter: group 1 is its text, and the body begins after the match."""
     return FRONT_MATTER.match(text)
 
 
