@@ -2,32 +2,37 @@
 from __future__ import annotations
 
 import re
+from typing import Iterable, Iterator
 
 from site_notes import Notes
-from tags import PIECE
+from tags import all_pieces
 
-HIGHLIGHT = re.compile(r"\{%-?\s*highlight\b.*?\{%-?\s*endhighlight\s*-?%\}|<(script|style|pre)\b.*?</\1>", re.S)
+# Code, and what ends it.
+CODE_ENDS = [
+    (re.compile(r"\{%-?\s*highlight\b"), re.compile(r"\{%-?\s*endhighlight\s*-?%\}")),
+    *((re.compile(rf"<{name}\b"), re.compile(f"</{name}>")) for name in ("script", "style", "pre")),
+]
 FENCE = re.compile(r"^ {0,3}(`{3,}|~{3,})[ \t]*([^\s`]*)")
 CODE = re.compile(r"(`+)(?!`).*?(?<!`)\1(?!`)")
 # What has quotes and dashes of its own: tags, addresses, definitions of links, tables, and lines that are a rule.
 RULE_OF_TABLE = r"[ \t]*\|?[ \t]*:?-+:?[ \t]*(?:\|[ \t]*:?-+:?[ \t]*)*\|?[ \t]*$"
+TABLE = re.compile(rf"^{RULE_OF_TABLE}", re.M)
 MARKUP = re.compile(
-    rf"<[^>]*>|\]\([^)]*\)|^ {{0,3}}\[[^\]]+\]:.*$|^{RULE_OF_TABLE}|^[ \t]*(?:[-*_][ \t]*){{3,}}$",
+    rf"<[^<>]*>|\]\([^()\n]*\)|^ {{0,3}}\[[^\[\]\n]+\]:.*$|^{RULE_OF_TABLE}|^[ \t]*(?:[-*_][ \t]*){{3,}}$",
     re.M,
 )
 # What is looked for outside of code; what it means here; the remedy.
 FORMS = [
-    (re.compile(rf"^.*\|.*\n{RULE_OF_TABLE}", re.M), "a table is text", "write it in HTML"),
-    (re.compile(r"\[\^[^\]\s]+\]"), "footnotes are text", "write them in HTML"),
+    (re.compile(r"\[\^[^\[\]\s]+\]"), "footnotes are text", "write them in HTML"),
     (re.compile(r"\{:\s*toc\b|\{::?toc\}"), "a table of contents ({:toc}) is text", "write it in HTML"),
-    (re.compile(r"\{:(?!\s*toc\b)[^}]*\}"), "attributes in braces ({: .class}) are text", "write the element in HTML"),
-    (re.compile(r"\]\(#[^)\s]+\)|\bhref=[\"']#[^\"']+"), "headings have no ids, so a link to one leads nowhere", "write the heading in HTML, with its id"),
-    (re.compile(r"~~[^~\s][^~\n]*~~"), "strikethrough is text", "write <del>"),
+    (re.compile(r"\{:(?!\s*toc\b)[^{}\n]*\}"), "attributes in braces ({: .class}) are text", "write the element in HTML"),
+    (re.compile(r"\]\(#[^()\s]+\)|\bhref=[\"']#[\w-]+"), "headings have no ids, so a link to one leads nowhere", "write the heading in HTML, with its id"),
+    (re.compile(r"~~[^~\s][^~\n]{0,999}~~"), "strikethrough is text", "write <del>"),
     (re.compile(r"^[ \t]*[-*+] \[[ xX]\] ", re.M), "a task list is text", 'write <input type="checkbox" disabled>'),
     (re.compile(r"\$\$"), "mathematics is text", "have it set in the browser, within HTML"),
     (re.compile(r"\bmarkdown=[\"'](?:1|block|span)"), "Markdown within HTML is text", "put blank lines around it"),
     (re.compile(r"(?<=\S\n)[ \t]{0,3}:[ \t]+\S"), "a definition list is text", "write <dl>"),
-    (re.compile(r"^\*\[[^\]\n]+\]:", re.M), "an abbreviation is text", "write <abbr>"),
+    (re.compile(r"^\*\[[^\[\]\n]+\]:", re.M), "an abbreviation is text", "write <abbr>"),
 ]
 REFERENCE = re.compile(r"&([A-Za-z]+);")
 KNOWN_REFERENCES = set(
@@ -48,6 +53,9 @@ def add(notes: Notes, path: str, text: str, start: int) -> None:
     body, fences = prose(text[start:])
     for at in fences[:1]:
         notes.add(path, first + at, "code comes out without colours", "colour it in the browser by the class language-..")
+    for found in TABLE.finditer(body):
+        if "|" in body[body.rfind("\n", 0, max(found.start() - 1, 0)) + 1 : max(found.start() - 1, 0)]:
+            notes.add(path, first + line_at(body, found) - 1, "a table is text", "write it in HTML")
     for form, what, remedy in FORMS:
         found = form.search(body)
         if found:
@@ -58,6 +66,26 @@ def add(notes: Notes, path: str, text: str, start: int) -> None:
     found = QUOTES.search(MARKUP.sub(spaces, body))
     if found:
         notes.add(path, first + line_at(body, found), QUOTES_SAID, "write the signs themselves")
+
+
+def spans(text: str, begin: re.Pattern, end: re.Pattern) -> Iterator[tuple[int, int]]:
+    """Where there is code, from its begin to its end."""
+    opened = begin.search(text)
+    while opened:
+        closed = end.search(text, opened.end())
+        if not closed:
+            return
+        yield opened.start(), closed.end()
+        opened = begin.search(text, closed.end())
+
+
+def without(text: str, parts: Iterable[tuple[int, int]]) -> str:
+    """The text without these parts, but with their line ends."""
+    kept, at = [], 0
+    for start, end in parts:
+        kept += [text[at:start], "\n" * text.count("\n", start, end)]
+        at = end
+    return "".join([*kept, text[at:]]) if kept else text
 
 
 def line_at(body: str, found: re.Match) -> int:
@@ -72,9 +100,9 @@ def spaces(found: re.Match) -> str:
 
 def prose(text: str) -> tuple[str, list[int]]:
     """The text with its lines in their places, and nothing in the place of code, outputs and tags; and the lines of fences with a language."""
-    if "{" in text or "<" in text:
-        for part in (HIGHLIGHT, PIECE):
-            text = part.sub(lambda piece: "\n" * piece[0].count("\n"), text)
+    for begin, end in CODE_ENDS:
+        text = without(text, spans(text, begin, end))
+    text = without(text, ((piece.start, piece.end) for piece in all_pieces(text)))
     lines, fences, fence = text.split("\n"), [], ""
     for at, line in enumerate(lines):
         opened = FENCE.match(line) if "```" in line or "~~~" in line else None

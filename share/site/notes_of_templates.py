@@ -3,9 +3,9 @@ from __future__ import annotations
 
 import re
 
-from site_files import line_of
+from site_files import Lines
 from site_notes import Notes, Site
-from tags import ENVIRONMENT, PIECE
+from tags import ENVIRONMENT, Piece, pieces
 
 # The filters that have a meaning: docs/PROFILE.md, "Filters of Liquid" and "Filters of Jekyll".
 FILTERS = set(
@@ -25,6 +25,8 @@ REMEDIES = {
     "replace_last": "use replace",
     "remove_last": "use remove",
 }
+# So many characters of a table are looked at.
+MOST_OF_A_TABLE = 4000
 QUOTED = re.compile(r"\"[^\"]*\"|'[^']*'")
 FILTER = re.compile(r"\|\s*([A-Za-z_]\w*)")
 EMPTY_ON_THE_LEFT = re.compile(r"\bempty\s*(?:==|!=|<>)")
@@ -54,13 +56,15 @@ def add(notes: Notes, site: Site, path: str, text: str, start: int) -> None:
     """Looks through the outputs and tags of a template after its front matter."""
     if "{%" not in text and "{{" not in text:
         return
-    for piece in PIECE.finditer(text, start):
-        if not piece["alone"]:
-            add_piece(notes, site, path, line_of(text, piece.start()), piece)
+    lines = Lines(text)
+    for piece in pieces(text, start):
+        add_piece(notes, site, path, lines.of(piece.start), piece)
+        if piece.name == "tablerow":
+            add_table(notes, path, lines.of(piece.start), piece, text)
 
 
-def add_piece(notes: Notes, site: Site, path: str, line: int, piece: re.Match) -> None:
-    whole = piece[0]
+def add_piece(notes: Notes, site: Site, path: str, line: int, piece: Piece) -> None:
+    whole = piece.text
     bare = QUOTED.sub("''", whole)
     for name in FILTER.findall(bare):
         if name not in FILTERS:
@@ -83,7 +87,6 @@ def add_piece(notes: Notes, site: Site, path: str, line: int, piece: re.Match) -
     add_names_of_items(notes, site, path, line, bare)
     add_lists(notes, site, path, line, bare)
     add_sorts(notes, site, path, line, whole)
-    add_table(notes, path, line, piece)
 
 
 def add_names_of_items(notes: Notes, site: Site, path: str, line: int, bare: str) -> None:
@@ -113,20 +116,22 @@ def add_sorts(notes: Notes, site: Site, path: str, line: int, whole: str) -> Non
             notes.add(path, line, f"{key} has decimals, which are texts: 10.5 comes before 2.5", "write whole numbers")
 
 
-def add_table(notes: Notes, path: str, line: int, piece: re.Match) -> None:
-    if piece["name"] == "tablerow" and "cols" not in piece["words"]:
-        rest = piece.string[piece.end() :]
-        if "col_last" in rest[: max(rest.find("endtablerow"), 0)]:
-            notes.add(path, line, "col_last of a table without cols holds in its last cell (in Jekyll never)", "give it cols")
+def add_table(notes: Notes, path: str, line: int, piece: Piece, text: str) -> None:
+    cells = text[piece.end : piece.end + MOST_OF_A_TABLE].partition("endtablerow")[0]
+    if "cols" not in piece.words and "col_last" in cells:
+        notes.add(path, line, "col_last of a table without cols holds in its last cell (in Jekyll never)", "give it cols")
 
 
 def add_counters(notes: Notes, site: Site) -> None:
     """A counter goes on from an item to its layouts in Jekyll, and begins anew in each text here."""
     found: dict[str, list[tuple[str, int]]] = {}
     for path, text, start in [*((item.path, item.text, item.body) for item in site.items), *((path, text, 0) for path, text in site.plain.items())]:
-        for piece in PIECE.finditer(text, start):
-            if piece["name"] in ("increment", "decrement"):
-                found.setdefault(piece["words"].strip(), []).append((path, line_of(text, piece.start())))
+        if "crement" not in text:
+            continue
+        lines = Lines(text)
+        for piece in pieces(text, start):
+            if piece.name in ("increment", "decrement"):
+                found.setdefault(piece.words.strip(), []).append((path, lines.of(piece.start)))
     for name, places in found.items():
         layouts = [place for place in places if place[0].startswith("_layouts/")]
         if layouts and len({path for path, _ in places}) > 1:

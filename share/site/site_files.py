@@ -1,6 +1,7 @@
 """The files of a Jekyll site, their front matter, and what the program reads in YAML."""
 from __future__ import annotations
 
+import bisect
 import json
 import os
 import re
@@ -151,6 +152,16 @@ def begins_with_mark(path: Path) -> bool:
 
 def line_of(text: str, at: int) -> int:
     return text.count("\n", 0, at) + 1
+
+
+class Lines:
+    """The lines of places in a text, for many places."""
+
+    def __init__(self, text: str):
+        self.ends = [match.start() for match in re.finditer("\n", text)]
+
+    def of(self, at: int) -> int:
+        return bisect.bisect_left(self.ends, at) + 1
 
 
 @contextmanager

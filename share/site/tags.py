@@ -1,18 +1,67 @@
-"""Rewrites in templates what the program lacks and an include, or another word, can do."""
+"""The outputs and tags of templates, and what is written in place of those that the program lacks."""
 from __future__ import annotations
 
 import re
 from dataclasses import dataclass, field
+from typing import Iterator
 
-from site_files import front_matter, line_of
+from site_files import Lines, front_matter
 
-# A raw block and a comment are left alone; `{{ .. }}` and `{% .. %}` are looked at.
-PIECE = re.compile(
-    r"(?P<alone>\{%-?\s*raw\s*-?%\}.*?\{%-?\s*endraw\s*-?%\}|\{%-?\s*comment\s*-?%\}.*?\{%-?\s*endcomment\s*-?%\})"
-    r"|\{%(?P<left>-?)\s*(?P<name>\w+)\b(?P<words>.*?)(?P<right>-?)%\}|\{\{.*?\}\}",
-    re.S,
-)
+OPENED = re.compile(r"\{[{%]-?")
+# What takes all text up to its end as it is.
+WHOLE = {name: re.compile(rf"\{{%-?\s*end{name}\s*-?%\}}") for name in ("raw", "comment")}
+TAG = re.compile(r"\{%(?P<left>-?)\s*(?P<name>\w+)\b(?P<words>.*?)(?P<right>-?)%\}", re.S)
 ENVIRONMENT = re.compile(r"(?<![\w.\"'-])jekyll\.environment\b")
+
+
+@dataclass(frozen=True)
+class Piece:
+    """An output or a tag, or a raw text or a comment with its end. `name` is that of a tag."""
+
+    text: str
+    start: int
+    name: str = ""
+    words: str = ""
+    left: str = ""
+    right: str = ""
+    is_whole: bool = False
+
+    @property
+    def end(self) -> int:
+        return self.start + len(self.text)
+
+
+def all_pieces(text: str, start: int = 0) -> Iterator[Piece]:
+    """All outputs and tags from here on, raw texts and comments among them. Goes through the text once, whatever it lacks."""
+    at, ends = start, {"{{": "}}", "{%": "%}"}
+    while ends:
+        opened = OPENED.search(text, at)
+        if not opened:
+            return
+        kind = opened[0][:2]
+        end = text.find(ends[kind], opened.end()) if kind in ends else -1
+        if end < 0:
+            # No later one has an end either.
+            ends.pop(kind, None)
+            at = opened.end()
+            continue
+        at = end + 2
+        tag = TAG.fullmatch(text, opened.start(), at) if kind == "{%" else None
+        closed = WHOLE[tag["name"]].search(text, at) if tag and tag["name"] in WHOLE else None
+        if closed:
+            at = closed.end()
+            yield Piece(text[opened.start() : at], opened.start(), is_whole=True)
+        elif tag and tag["name"] in WHOLE:
+            return
+        elif tag:
+            yield Piece(tag[0], opened.start(), tag["name"], tag["words"], tag["left"], tag["right"])
+        else:
+            yield Piece(text[opened.start() : at], opened.start())
+
+
+def pieces(text: str, start: int = 0) -> Iterator[Piece]:
+    """The outputs and tags from here on, without those that are raw or in a comment."""
+    return (piece for piece in all_pieces(text, start) if not piece.is_whole)
 
 
 @dataclass
@@ -24,36 +73,31 @@ class Includes:
     environment: bool = False
 
 
-def pieces(text: str):
-    """The outputs and tags of a template, without those that are raw or a comment."""
-    match = front_matter(text)
-    return (piece for piece in PIECE.finditer(text, match.end() if match else 0) if not piece["alone"])
-
-
 def rewrite(text: str, includes: Includes) -> tuple[str, list[tuple[int, str]]]:
     """The template in its new form, and what was done in which line."""
-    done, parts, at = [], [], 0
-    for piece in pieces(text):
+    match = front_matter(text)
+    done, parts, at, lines = [], [], 0, Lines(text)
+    for piece in pieces(text, match.end() if match else 0):
         new, what = rewritten(piece, includes)
-        if new != piece[0]:
-            parts += [text[at : piece.start()], new]
-            at = piece.end()
-            done.append((line_of(text, piece.start()), what))
+        if new != piece.text:
+            parts += [text[at : piece.start], new]
+            at = piece.end
+            done.append((lines.of(piece.start), what))
     return "".join([*parts, text[at:]]), done
 
 
-def rewritten(piece: re.Match, includes: Includes) -> tuple[str, str]:
+def rewritten(piece: Piece, includes: Includes) -> tuple[str, str]:
     """One output or tag in its new form, and what was done."""
-    name, left, right = piece["name"], piece["left"], piece["right"]
-    if name == "include_cached":
-        return piece[0].replace("include_cached", "include", 1), "include_cached is include now"
-    if name in includes.names:
-        includes.used.add(name)
+    if piece.name == "include_cached":
+        return piece.text.replace("include_cached", "include", 1), "include_cached is include now"
+    if piece.name in includes.names:
+        includes.used.add(piece.name)
         words = ""
-        if name == "seo":
+        if piece.name == "seo":
             # Given in any case: without words an include would see those of the include around it.
-            words = " title=false" if re.search(r"title\s*=\s*false", piece["words"], re.I) else " title=true"
-        return f"{{%{left} include {includes.names[name]}{words} {right}%}}", f"the tag {name} is the include {includes.names[name]} now"
-    new = ENVIRONMENT.sub("site.environment", piece[0])
-    includes.environment |= new != piece[0]
+            words = " title=false" if re.search(r"title\s*=\s*false", piece.words, re.I) else " title=true"
+        new = f"{{%{piece.left} include {includes.names[piece.name]}{words} {piece.right}%}}"
+        return new, f"the tag {piece.name} is the include {includes.names[piece.name]} now"
+    new = ENVIRONMENT.sub("site.environment", piece.text)
+    includes.environment |= new != piece.text
     return new, "jekyll.environment is site.environment now"
