@@ -198,6 +198,11 @@ def other_folders(work: Path, failures: Failures) -> None:
         "l/x.html": "[{{ content }}]", "c/_z/a.html": "---\nlayout: x\n---\na", "c/_posts/2020-01-02-p.html": ITEM, "sub/_posts/2020-01-02-q.html": ITEM,
         "public/old.html": "old",
     })
+    for key in ("layouts_dir", "collections_dir"):
+        write_files(work / "out", {"_config.yml": f"{key}: ../../kept\n", "a.html": ITEM})
+        write_files(work / "kept", {"_z/mine.txt": "mine"})
+        expect_said("a folder outside", adopt(work / "out"), failures, 1, f"{key} leads out of the site")
+        failures.expect("the folder outside", read_files(work / "kept"), {"_z/mine.txt": b"mine"})
     expect_said("other folders", adopt(site), failures, 0, "it is called _config.yml now", "l is called _layouts now", "c/_z is called _z now")
     run([PROGRAM, "once"], work / "s-adopted")
     failures.expect("what comes out", {path: text for path, text in read_files(work / "s-adopted/_site").items()},
@@ -245,6 +250,7 @@ def styles(work: Path, failures: Failures) -> None:
     write_files(site, {
         "a.scss": "---\nc: red\n---\n@import 'part';\nb { color: {{ page.c }}; }\n", "_sass/_part.scss": "i { top: 0; }\n",
         "own.scss": "---\n---\nb { top: 0; }\n", "own.css": "mine\n", "bad.scss": "---\n---\n\nb { top: $no; }\n", "plain.scss": "b { top: $no; }\n",
+        "up.scss": "---\npermalink: /../up.css\n---\nb { top: 0; }\n",
         "out/x.scss": "---\n---\nb { top: 0; }\n", "_config.yml": "exclude: [out/x.scss]\n",
     })
     if not has("sassc"):
@@ -255,6 +261,7 @@ def styles(work: Path, failures: Failures) -> None:
     expect_said("styles", done, failures, 0, "bad.scss:4: sassc refuses it: Undefined variable: \"$no\".", "own.css: this file was not made of own.scss")
     copy = work / "s-adopted"
     failures.expect("the user's own CSS", (copy / "own.css").read_text(), "mine\n")
+    failures.expect("a style that leads out", (copy / "up.css").exists() and not (work / "up.css").exists(), True)
     failures.expect("a style that is excluded", (copy / "out/x.css").exists(), False)
     made = (copy / "a.css").read_text()
     failures.expect("a style", made.splitlines()[:3], ["i { top: 0; }", "", "b { color: red; }"])

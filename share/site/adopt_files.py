@@ -11,7 +11,7 @@ import sass
 from adopt_settings import CONFIG, collections_of, plugins_of, read_mended, texts
 from adoption import Adoption
 from kept_back import Program
-from configuration import Settings
+from configuration import Settings, written
 from site_files import begins_with_mark, front_matter, line_of, read_text, read_values, write_text
 from tags import Includes, rewrite
 from theme import find_gem, locked_version, missing_files
@@ -228,10 +228,10 @@ def write_feeds(adoption: Adoption, config: dict) -> None:
     posts["categories"] = posts.get("categories") or given.get("categories")
     for name, meta in collections.items():
         top = "feed" if name == "posts" else f"feed/{name}"
-        keys = ["layout:"] if name == "posts" else ["layout:", f"feed_collection: {name}"]
+        keys = ["layout:"] if name == "posts" else ["layout:", f"feed_collection: {written(name)}"]
         write_feed(adoption, str(meta.get("path") or f"{top}.xml").lstrip("/"), keys)
         for category in texts(meta.get("categories")):
-            write_feed(adoption, f"{top}/{category}.xml", [*keys, f"feed_category: {category}"])
+            write_feed(adoption, f"{top}/{category}.xml", [*keys, f"feed_category: {written(category)}"])
     if given.get("tags"):
         settings, _ = read_configuration(adoption)
         adoption.left(f"{CONFIG}:{settings.line('feed')}", "feeds by tag are not made; write one as feed.xml with its tag")
@@ -291,7 +291,7 @@ def write_redirect(adoption: Adoption, path: str, text: str, address: str, layou
         if not (adoption.folder / f"{REDIRECTS}/{stem}{number or ''}{ending or '.html'}").exists()
     )
     taken.add(address)
-    keys = [f"layout: {layout}", f'permalink: "{address}"', f'redirect_source: "{path}"']
+    keys = [f"layout: {layout}", f"permalink: {written(address)}", f"redirect_source: {written(path)}"]
     write_page(adoption, place, keys, "", f"is new: leads from {address} to {path}")
     return True
 

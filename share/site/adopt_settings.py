@@ -112,11 +112,11 @@ def refuse_other_source(config: dict) -> None:
 def rename_folders(adoption: Adoption, settings: Settings, config: dict) -> bool:
     """Folders that have names of their own get those that the program knows. Whether collections were moved."""
     for key, name in FOLDERS.items():
-        given = str(config.get(key) or name).strip("/")
+        given = folder_in(settings, config, key) or name
         if given != name:
             move(adoption, settings, key, given, name)
             config.pop(key)
-    given = str(config.get("collections_dir") or "").strip("/")
+    given = folder_in(settings, config, "collections_dir")
     if given:
         # What is at the top is none to Jekyll.
         for name in ("posts", "drafts", *collections_of(config)):
@@ -129,6 +129,14 @@ def rename_folders(adoption: Adoption, settings: Settings, config: dict) -> bool
         settings.comment_out("collections_dir", "its folders are at the top now")
         config.pop("collections_dir")
     return bool(given)
+
+
+def folder_in(settings: Settings, config: dict, key: str) -> str:
+    """The folder that a key names. It has to be in the site: it is going to be moved."""
+    given = str(config.get(key) or "").removeprefix("./").rstrip("/")
+    if any(part in ("", ".", "..") for part in given.split("/")) and given:
+        raise Refused(f"{CONFIG}:{settings.line(key)}: {key} leads out of the site; put the folder into it. Nothing was done")
+    return given
 
 
 def move(adoption: Adoption, settings: Settings, key: str, old: str, new: str) -> None:

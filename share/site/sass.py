@@ -82,7 +82,7 @@ def sass_pages(folder: Path, files: list[str]) -> list[Style]:
         match = front_matter(text)
         if match:
             permalink = re.search(r"^permalink:[ \t]*[\"']?/?([^\s:\"'#]+\.css)[\"']?[ \t]*\r?$", match[1], re.M)
-            css = permalink[1] if permalink else path[: -len(".scss")] + ".css"
+            css = permalink[1] if permalink and ".." not in permalink[1].split("/") else path[: -len(".scss")] + ".css"
             found.append(Style(path, css, line_of(text, match.end())))
     return found
 
