@@ -178,8 +178,10 @@ def settings_that_are_not_read(work: Path, failures: Failures) -> None:
     for number, (text, line) in enumerate([("a: &x 1\nexclude: ['*.key']\n", 1), ("exclude: [\n  '*.key'\n", 1), ("- a\n", 1), ("a: b: c\n", 1)]):
         site = work / f"s{number}"
         write_files(site, {"_config.yml": text, "x.key": "k"})
-        expect_said(f"settings {text!r}", adopt(site), failures, 1, f"_config.yml:{line}: " if number != 2 else "_config.yml:", "Nothing was done")
+        expect_said(f"settings {text!r}", adopt(site), failures, 1, f"_config.yml:{line}: " if number != 2 else "_config.yml:", "othing was done")
         failures.expect("no copy is made", (work / f"s{number}-adopted").exists(), False)
+    write_files(work / "several", {"_config.yml": "a: &x 1\nb: 2\nc: d: e\n"})
+    expect_said("several faults", adopt(work / "several"), failures, 1, "_config.yml:1: ", "_config.yml:3: ")
     site = work / "bytes"
     write_files(site, {})
     (site / "_config.yml").write_bytes(b"a: \xff\n")

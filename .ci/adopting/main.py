@@ -35,7 +35,7 @@ def main() -> int:
         print("bad sites and bad moments: each told in words, and nothing lost")
         missing = [package for package, there in (("jekyll", jekyll), ("jekyll-theme-minima", minima), ("sassc", has("sassc"))) if not there]
         if missing:
-            print(f"not tried: the site of jekyll new, as {' and '.join(missing)} is not installed")
+            print(f"not tried: the site of jekyll new; it needs {', '.join(missing)}")
         else:
             seconds = proof.try_proof(work / "proof", failures)
             print(f"the site of jekyll new, adopted and built in {seconds:.1f} s: the texts and links of Jekyll's own build")

@@ -47,7 +47,7 @@ sass: {style: compressed}
     "_posts/2020-05-02-three.md": "---\ntitle: Three\ndescription: Told by hand\nseo: {type: CreativeWork, name: The three}\nauthor: Bob\n---\nText of three.\n",
     "_films/up.md": "---\ntitle: Up\ndate: 2019-01-01\ntwitter: {card: player}\nimage: https://example.com/up.png\n---\nA film.\n",
     "index.html": "---\nlayout: home\n---\n",
-    "about.md": "---\ntitle: About\npermalink: /about/\nredirect_from: /who\n---\nAbout {{ jekyll.environment }}.\n",
+    "about.md": "---\ntitle: About\npermalink: /about/\nredirect_from: [/who, /v1.2, /old.php]\n---\nAbout {{ jekyll.environment }}.\n",
     "quiet.md": "---\ntitle: Quiet\nsitemap: false\nlocale: de-AT\ncanonical_url: https://elsewhere.example/q\n---\nIn.\n",
     "seo.html": "---\nlayout: null\ntitle: Own\n---\n{% seo title=false %}\n",
     "moved.md": "---\ntitle: Moved\nredirect_to: https://elsewhere.example/x\n---\n",

@@ -64,7 +64,7 @@ def adopt(adoption: Adoption, theme: Optional[Path]) -> None:
 def copy_site(adoption: Adoption) -> None:
     """Copies what is a file of the site. No link is followed out of the folder."""
     found = list_files(adoption.original)
-    refuse_too_much(adoption.original, found.files)
+    refuse_too_much(adoption.original, [path for path in found.files if not is_left_out(path)])
     unread = [f"{shown(path)}: {why}" for path, why in found.odd if "cannot be read" in why]
     if unread:
         raise Refused(f"{unread[0]}; give yourself the right to read it, or take it out of the folder. Nothing was done")
@@ -152,7 +152,7 @@ def write_into(adoption: Adoption, changed: list[str]) -> None:
     changed = [path for path in changed if path in adoption.copied or (new / path).exists()]
     for path in changed:
         place = folder / path
-        if place.parent.resolve() != (folder / path).parent:
+        if place.parent.resolve() != place.parent:
             raise Refused(f"{shown(path)}: a link leads out of the folder there; put the files themselves there. Nothing was written")
         if path in adoption.copied:
             if not place.exists() or place.stat().st_mtime_ns != adoption.copied[path]:

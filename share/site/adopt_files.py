@@ -1,6 +1,7 @@
 """What `site adopt` does to the files of a site: the theme, plugins' tags and files, redirects, and Sass."""
 from __future__ import annotations
 
+import itertools
 import os
 import re
 import shutil
@@ -51,11 +52,10 @@ def with_front_matter(adoption: Adoption) -> dict[str, str]:
     """The texts of the files that begin with front matter, by path."""
     found = {}
     for path in adoption.files():
-        if not path.startswith(("_data/", "_includes/")):
-            if begins_with_mark(adoption.folder / path):
-                text = read_text(adoption.folder / path)
-                if front_matter(text):
-                    found[path] = text
+        if not path.startswith(("_data/", "_includes/")) and begins_with_mark(adoption.folder / path):
+            text = read_text(adoption.folder / path)
+            if front_matter(text):
+                found[path] = text
     return found
 
 
@@ -66,9 +66,9 @@ def yaml_of(text: str) -> str:
 
 def mend_front_matter(adoption: Adoption) -> None:
     """What can be mended without a question: a bracket at its key's indent, and `published` without a value or in quotes."""
-    texts_of = with_front_matter(adoption)
-    values = read_values(adoption.program, {path: yaml_of(text) for path, text in texts_of.items()})
-    for path, text in texts_of.items():
+    items = with_front_matter(adoption)
+    values = read_values(adoption.program, {path: yaml_of(text) for path, text in items.items()})
+    for path, text in items.items():
         if path in values.faults:
             value, fault, mended, moved = read_mended(adoption.program, path, yaml_of(text))
             if fault or not moved:
@@ -78,7 +78,8 @@ def mend_front_matter(adoption: Adoption) -> None:
             write_text(adoption.folder / path, text)
         else:
             value = values.of[path]
-        if isinstance(value, dict) and "published" in value and not isinstance(value["published"], bool):
+        has_other = isinstance(value, dict) and not isinstance(value.get("published", True), bool)
+        if has_other and not path.startswith("_layouts/"):
             mend_published(adoption, path, text, value["published"])
 
 
@@ -254,6 +255,8 @@ def write_sitemap(adoption: Adoption, config: dict) -> None:
 def write_redirects(adoption: Adoption) -> None:
     """A page at each old address, without a title, since a menu lists what has one."""
     _, config = read_configuration(adoption)
+    if "jekyll-redirect-from" not in plugins_of(config, adoption.original):
+        return
     program = Program(texts(config.get("include")), texts(config.get("exclude")))
     items = {path: text for path, text in with_front_matter(adoption).items() if program.comes_out(path, collections_of(config))}
     asking = {path: text for path, text in items.items() if re.search(r"^redirect_(from|to|source)[ \t]*:", front_matter(text)[1], re.M)}
@@ -284,12 +287,8 @@ def write_redirect(adoption: Adoption, path: str, text: str, address: str, layou
         adoption.left(f"{path}:{line}", f"no page can be at the old address {shown(address)}; write one by hand")
         return False
     stem = re.sub(r"[^A-Za-z0-9]+", "-", os.path.splitext(address)[0]).strip("-") or "index"
-    ending = os.path.splitext(address)[1] if not address.endswith("/") else ""
-    place = next(
-        f"{REDIRECTS}/{stem}{number or ''}{ending or '.html'}"
-        for number in range(10**6)
-        if not (adoption.folder / f"{REDIRECTS}/{stem}{number or ''}{ending or '.html'}").exists()
-    )
+    names = (f"{REDIRECTS}/{stem}{number or ''}.html" for number in itertools.count())
+    place = next(name for name in names if not (adoption.folder / name).exists())
     taken.add(address)
     keys = [f"layout: {layout}", f"permalink: {written(address)}", f"redirect_source: {written(path)}"]
     write_page(adoption, place, keys, "", f"is new: leads from {address} to {path}")

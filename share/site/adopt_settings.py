@@ -4,15 +4,17 @@ from __future__ import annotations
 import datetime
 import os
 import re
+from dataclasses import replace
 from pathlib import Path
 from typing import Optional
+from zoneinfo import ZoneInfo
 
 from adoption import Adoption
+from configuration import Settings
 from kept_back import Jekyll, Program, Replaced, Rules, is_glob, lists_of_paths, names, shortened
 from kept_back import pattern as fnmatch
 from scopes import mend as mend_scopes
 from scopes import published_by_defaults
-from configuration import Settings
 from site_files import OUTPUT, Fault, begins_with_mark, front_matter, list_files, read_text, read_values, write_text
 from words import Refused, shown
 
@@ -79,7 +81,7 @@ def read_mended(program: str, name: str, text: str) -> tuple[object, Optional[Fa
         if fault is None:
             return values.of[name], None, text, moved
         mended = mend_brackets(text, fault.line) if fault.sentence.startswith(BRACKETS) else None
-        # A bracket is moved twice at most: its key may be indented itself.
+        # Its key may be indented itself.
         if mended is None or moved.count(mended[1]) > 8:
             return None, fault, text, moved
         text = mended[0]
@@ -90,14 +92,25 @@ def readable(adoption: Adoption, text: str) -> tuple[str, dict]:
     """The text as the program reads it, and what it says. Of settings that are not read nobody knows what must not come out."""
     config, fault, text, moved = read_mended(adoption.program, CONFIG, text)
     if fault:
-        raise Refused(
-            f"{CONFIG}:{fault.line}: {fault.sentence} ({fault.code}); run this again then. Nothing was done, since nobody knows what must not come out"
-        )
+        tell_faults(adoption.program, text, fault)
+        raise Refused(f"{CONFIG}: nobody knows what must not come out, so nothing was done; mend these lines, and run this again")
     for line in sorted(set(moved)):
         adoption.done(f"{CONFIG}:{line}", "the bracket is moved in: at its key's indent it is not read")
     if config is not None and not isinstance(config, dict):
         raise Refused(f"{CONFIG}: it is no mapping; write key: value. Nothing was done")
     return text, config or {}
+
+
+def tell_faults(program: str, text: str, fault: Optional[Fault]) -> None:
+    """Says the first fault of each key."""
+    settings = Settings(text)
+    while fault:
+        print(f"left: {replace(fault, path=CONFIG)}")
+        key = settings.key_at(fault.line)
+        if key is None:
+            return
+        settings.remove(key)
+        fault = read_values(program, {CONFIG: settings.text()}).faults.get(CONFIG)
 
 
 def refuse_other_source(config: dict) -> None:
@@ -365,10 +378,8 @@ def mend_zone(adoption: Adoption, settings: Settings, config: dict, zone: str) -
     """A named zone becomes its offset today."""
     place = f"{CONFIG}:{settings.line('timezone')}"
     try:
-        from zoneinfo import ZoneInfo
-
         now = datetime.datetime.now(ZoneInfo(zone))
-    except Exception:  # An unknown name is told by many kinds of exceptions.
+    except (KeyError, ValueError, OSError):
         adoption.left(place, f"the zone {shown(zone)} is not known on this machine; write an offset, as \"+01:00\"")
         return
     offset = now.strftime("%z")

@@ -123,7 +123,8 @@ def add_item(notes: Notes, site: Site, item: Item) -> None:
         notes.add(item.path, 1, what, "write published: true into the page, or another scope")
     add_permalink(notes, site, item)
     add_date(notes, site, item, is_document)
-    add_redirects(notes, site, item)
+    if "jekyll-redirect-from" in site.plugins():
+        add_redirects(notes, site, item)
     for entry in site.defaults():
         for key, value in entry["values"].items():
             line = item.line_of_key(key)

@@ -3,7 +3,7 @@ from __future__ import annotations
 
 import re
 
-from adopt_settings import kept_by_front, lacks_pagination, plugins_of, rules_of, texts, unpublished_copies
+from adopt_settings import kept_by_front, lacks_pagination, rules_of, texts, unpublished_copies
 from kept_back import READ_FOLDERS, Lists, Program, Rules, is_glob, leaks, lists_of_paths, shortened
 from scopes import mend
 from site_notes import Notes, Site
@@ -41,7 +41,7 @@ DONE_BY = {"jekyll-feed": "feed.xml", "jekyll-sitemap": "sitemap.xml"}
 # Plugins that leave nothing to do: their tags are faults, or the program does their work.
 WITHOUT_WORK = {
     "github-pages", "jekyll-seo-tag", "jekyll-paginate", "jekyll-include-cache", "jekyll-redirect-from", "jekyll-sass-converter", "jekyll-commonmark",
-    "jekyll-watch", "kramdown-parser-gfm",
+    "jekyll-watch", "jekyll-remote-theme", "kramdown-parser-gfm",
 }
 
 
@@ -66,7 +66,7 @@ def add_plugins(notes: Notes, site: Site) -> None:
     feed = site.config.get("feed")
     path = str(feed.get("path") or "feed.xml") if isinstance(feed, dict) else "feed.xml"
     made = {**DONE_BY, "jekyll-feed": path.lstrip("/")}
-    for name in plugins_of(site.config, site.folder):
+    for name in site.plugins():
         if name in WITHOUT_WORK or made.get(name) in site.files:
             continue
         place, line = (CONFIG, site.settings.line_with("plugins", name)) if name in texts(site.config.get("plugins")) else ("Gemfile", 0)

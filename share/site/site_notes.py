@@ -7,7 +7,7 @@ from dataclasses import dataclass, field
 from pathlib import Path
 from typing import Optional
 
-from adopt_settings import collections_of, texts
+from adopt_settings import collections_of, plugins_of, texts
 from configuration import Settings
 from kept_back import Program
 from site_files import begins_with_mark, front_matter, line_of, list_files, read_text, read_values
@@ -66,6 +66,7 @@ class Site:
     # Texts of the includes, and of layouts without front matter.
     plain: dict[str, str] = field(default_factory=dict)
     found_decimals: Optional[set[str]] = None
+    found_plugins: Optional[list[str]] = None
 
     def list_of(self, key: str) -> list:
         given = self.config.get(key)
@@ -73,6 +74,11 @@ class Site:
 
     def collections(self) -> list[str]:
         return collections_of(self.config)
+
+    def plugins(self) -> list[str]:
+        if self.found_plugins is None:
+            self.found_plugins = plugins_of(self.config, self.folder)
+        return self.found_plugins
 
     def defaults(self) -> list[dict]:
         return [one for one in self.list_of("defaults") if isinstance(one, dict) and isinstance(one.get("values"), dict)]
