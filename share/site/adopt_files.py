@@ -283,11 +283,14 @@ def write_redirect(adoption: Adoption, path: str, text: str, address: str, layou
     if address in taken:
         return True
     line = line_of(text, text.find("redirect_from"))
-    if not re.fullmatch(r"[^\s?#\x00-\x1f:\"\\]+", address) or ".." in address.split("/"):
+    ending = os.path.splitext(address)[1]
+    odd = not re.fullmatch(r"[^\s?#\x00-\x1f:\"\\]+", address) or ".." in address.split("/")
+    if odd or ending[1:] in ("markdown", "mkdown", "mkdn", "mkd", "md"):
         adoption.left(f"{path}:{line}", f"no page can be at the old address {shown(address)}; write one by hand")
         return False
     stem = re.sub(r"[^A-Za-z0-9]+", "-", os.path.splitext(address)[0]).strip("-") or "index"
-    names = (f"{REDIRECTS}/{stem}{number or ''}.html" for number in itertools.count())
+    # An address keeps an ending of its own when the file has it.
+    names = (f"{REDIRECTS}/{stem}{number or ''}{ending or '.html'}" for number in itertools.count())
     place = next(name for name in names if not (adoption.folder / name).exists())
     taken.add(address)
     keys = [f"layout: {layout}", f"permalink: {written(address)}", f"redirect_source: {written(path)}"]
