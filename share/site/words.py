@@ -40,7 +40,11 @@ WORDS = {
         "shows which pages an edit of a file touches, and why",
         "site why my-blog/_data/menu.yml",
     ),
-    "adopt": Word("[FOLDER]", "looks through a site that was written for Jekyll", "site adopt my-jekyll-site"),
+    "adopt": Word(
+        "FOLDER [--write] [--theme FOLDER]",
+        "makes a Jekyll site ready, in a copy beside it, and says what was done and what is left",
+        "site adopt my-jekyll-site",
+    ),
 }
 
 

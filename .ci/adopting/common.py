@@ -1,0 +1,69 @@
+"""What the checks of `site adopt` share."""
+from __future__ import annotations
+
+import os
+import shutil
+import subprocess
+import sys
+from dataclasses import dataclass, field
+from pathlib import Path
+
+TOP = Path(__file__).resolve().parents[2]
+PARTS = TOP / "share" / "site"
+PROGRAM = os.environ["SITEBUILD"]
+sys.path.insert(0, str(PARTS))
+
+
+@dataclass
+class Failures:
+    """What was found wrong."""
+
+    found: list[str] = field(default_factory=list)
+
+    def add(self, what: str) -> None:
+        self.found.append(what)
+        print(f"WRONG: {what}", flush=True)
+
+    def expect(self, what: str, got: object, wanted: object) -> None:
+        if got != wanted:
+            self.add(f"{what}: {got!r} in place of {wanted!r}")
+
+
+def write_files(folder: Path, files: dict[str, str]) -> None:
+    folder.mkdir(parents=True, exist_ok=True)
+    for path, text in files.items():
+        place = folder / path
+        place.parent.mkdir(parents=True, exist_ok=True)
+        place.write_bytes(text.encode())
+
+
+def read_files(folder: Path) -> dict[str, bytes]:
+    """All files below a folder, by path."""
+    return {str(path.relative_to(folder)): path.read_bytes() for path in sorted(folder.rglob("*")) if path.is_file()}
+
+
+def run(words: list, folder: Path, **environment: str) -> subprocess.CompletedProcess:
+    return subprocess.run(
+        [str(word) for word in words], cwd=folder, stdin=subprocess.DEVNULL, capture_output=True, text=True, errors="backslashreplace",
+        env={**os.environ, **environment},
+    )
+
+
+def adopt(folder: Path, *words: object, **environment: str) -> subprocess.CompletedProcess:
+    """`site adopt FOLDER WORD ..`, called from above the folder."""
+    return run([sys.executable, "-B", "-X", "utf8", PARTS / "main.py", PROGRAM, "adopt", *words, "--", folder], folder.parent, **environment)
+
+
+def has(command: str) -> bool:
+    return shutil.which(command) is not None
+
+
+def build_by_jekyll(folders: list[Path], environment: dict[str, str]) -> dict[str, str]:
+    """Builds sites into FOLDER-jekyll; what Jekyll says of those that it refuses."""
+    done = subprocess.run(
+        ["ruby", str(Path(__file__).with_name("jekyll_builds.rb"))],
+        input="".join(f"{folder}\n" for folder in folders), capture_output=True, text=True, env={**os.environ, **environment},
+    )
+    if done.returncode:
+        raise RuntimeError(done.stderr)
+    return dict(line.split("\t", 1) for line in done.stdout.splitlines() if "\t" in line)

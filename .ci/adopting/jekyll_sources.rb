@@ -1,0 +1,12 @@
+# The sources of what Jekyll lets come out of the sites whose folders stand on standard input, a line each, as JSON.
+require "jekyll"
+require "json"
+Jekyll.logger.log_level = :error
+STDIN.each_line(chomp: true) do |folder|
+  site = Jekyll::Site.new(Jekyll.configuration("source" => folder, "quiet" => true, "disable_disk_cache" => true, "show_drafts" => true))
+  site.reset
+  site.read
+  paths = []
+  site.each_site_file { |item| paths << item.relative_path.delete_prefix("/") if item.write? }
+  puts JSON.generate([folder, paths.uniq])
+end

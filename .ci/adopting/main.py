@@ -1,0 +1,53 @@
+"""The checks of `site adopt` and of the lines that `site check` says of a Jekyll site. usage: main.py, with the program in SITEBUILD"""
+from __future__ import annotations
+
+import sys
+import tempfile
+from pathlib import Path
+
+import hostile
+import plugins
+import proof
+import random_sites
+import rows
+from common import Failures, has
+
+SITES_BY_CHANCE = 100
+THEME = Path("/usr/share/rubygems-integration/all/gems")
+
+
+def main() -> int:
+    failures = Failures()
+    jekyll, minima = has("jekyll") and has("ruby"), any(THEME.glob("minima-*"))
+    with tempfile.TemporaryDirectory() as name:
+        work = Path(name)
+        work.chmod(0o755)
+        for part in ("rows", "chance", "hostile", "proof", "plugins"):
+            (work / part).mkdir()
+        count = rows.try_rows(work / "rows", failures, jekyll)
+        print(f"{count} sites that are read otherwise: " + ("here and there as listed" if jekyll else "here as listed; not tried by Jekyll, which is not installed"))
+        if jekyll:
+            random_sites.try_sites(work / "chance", failures, SITES_BY_CHANCE)
+            print(f"{SITES_BY_CHANCE} sites by chance: nothing comes out that Jekyll leaves out")
+        else:
+            print("not tried: sites by chance, as jekyll is not installed")
+        hostile.try_all(work / "hostile", failures)
+        print("bad sites and bad moments: each told in words, and nothing lost")
+        missing = [package for package, there in (("jekyll", jekyll), ("jekyll-theme-minima", minima), ("sassc", has("sassc"))) if not there]
+        if missing:
+            print(f"not tried: the site of jekyll new; it needs {', '.join(missing)}")
+        else:
+            seconds = proof.try_proof(work / "proof", failures)
+            print(f"the site of jekyll new, adopted and built in {seconds:.1f} s: the texts and links of Jekyll's own build")
+        if missing or not plugins.are_installed():
+            print(f"not tried: a site with plugins; it needs {', '.join('ruby-' + name for name in plugins.PLUGINS)} too")
+        else:
+            plugins.try_plugins(work / "plugins", failures)
+            print("a site with four plugins, adopted and built: the texts and links of Jekyll's own build")
+    if failures.found:
+        print(f"{len(failures.found)} wrong")
+    return 1 if failures.found else 0
+
+
+if __name__ == "__main__":
+    sys.exit(main())

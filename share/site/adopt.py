@@ -1,0 +1,176 @@
+"""`site adopt FOLDER`: makes a Jekyll site ready for the program, in a copy beside it, and says what was done and what is left."""
+from __future__ import annotations
+
+import filecmp
+import os
+import shutil
+import sys
+import tempfile
+from pathlib import Path
+from typing import Optional
+
+from adopt_files import adopt_templates, adopt_theme, mend_front_matter, write_feeds, write_redirects, write_sitemap, write_styles
+from adopt_settings import adopt_configuration
+from adoption import Adoption
+from first_faults import all_faults
+from notes import differences
+from site_files import PASSED_OVER, NotRead, list_files, write_bytes
+from words import Refused, a_folder, parser, shown
+
+# The limits of a site: docs/PROFILE.md.
+MOST_FILES = 50_000
+MOST_BYTES = 536_870_912
+# What the copy does not need, besides what the program passes over.
+NOT_COPIED = {"_site", "vendor/bundle", "vendor/cache", "vendor/gems", "vendor/ruby"}
+
+
+def main(arguments: list[str], program: str) -> int:
+    of = parser("adopt")
+    of.add_argument("folder", metavar="FOLDER", type=a_folder, help="the folder of the site")
+    of.add_argument("--write", action="store_true", help="changes the site itself, and makes no copy")
+    of.add_argument("--theme", metavar="FOLDER", type=a_folder, help="the folder of the site's theme")
+    given = of.parse_args(arguments)
+    folder = given.folder
+    if not folder.name:
+        raise Refused("a site is in a folder that has a name")
+    beside = folder.parent / f"{folder.name}-adopted"
+    try:
+        # The copy that will stay is made where it will stay, so that it gets its name in one step.
+        with tempfile.TemporaryDirectory(prefix=f".{folder.name[:100]}-adopted.", dir=None if given.write else folder.parent) as room:
+            adoption = Adoption(Path(room, "site"), program, folder)
+            copy_site(adoption)
+            adopt(adoption, given.theme)
+            return finish(adoption, None if given.write else beside)
+    except OSError as error:
+        raise Refused(f"{shown(str(error.filename or folder))}: {error.strerror or error}") from error
+    except NotRead as error:
+        raise Refused(str(error)) from error
+
+
+def adopt(adoption: Adoption, theme: Optional[Path]) -> None:
+    """Does all that can be done. What must not come out is looked after first."""
+    config = adopt_configuration(adoption)
+    mend_front_matter(adoption)
+    adopt_theme(adoption, config, theme)
+    adopt_templates(adoption)
+    write_feeds(adoption, config)
+    write_sitemap(adoption, config)
+    write_redirects(adoption)
+    write_styles(adoption)
+    adoption.left_lines += [str(fault) for fault in all_faults(adoption.folder, adoption.program)]
+    adoption.left_lines += differences(adoption.folder, adoption.program)
+
+
+def copy_site(adoption: Adoption) -> None:
+    """Copies what is a file of the site. No link is followed out of the folder."""
+    found = list_files(adoption.original)
+    refuse_too_much(adoption.original, [path for path in found.files if not is_left_out(path)])
+    unread = [f"{shown(path)}: {why}" for path, why in found.odd if "cannot be read" in why]
+    if unread:
+        raise Refused(f"{unread[0]}; give yourself the right to read it, or take it out of the folder. Nothing was done")
+    for path, why in found.odd:
+        adoption.left(shown(path), f"{why}, so it is no part of the site; rename it, or take it away")
+    for path in found.files:
+        if not is_left_out(path):
+            adoption.copied[path] = (adoption.original / path).stat().st_mtime_ns
+            copy_file(adoption.original / path, adoption.folder / path)
+    for path in found.links:
+        adopt_link(adoption, path)
+
+
+def refuse_too_much(folder: Path, files: list[str]) -> None:
+    """What the program would refuse is not copied."""
+    if len(files) > MOST_FILES:
+        raise Refused(f"{shown(str(folder))}: has more than {MOST_FILES:,} files, so it is no site; name the folder of the site")
+    if sum((folder / path).stat().st_size for path in files) > MOST_BYTES:
+        raise Refused(f"{shown(str(folder))}: all files together are longer than 512 MiB; take long files out of the site first")
+
+
+def is_left_out(path: str) -> bool:
+    return path.startswith(tuple(f"{name}/" for name in NOT_COPIED))
+
+
+def copy_file(source: Path, target: Path) -> None:
+    target.parent.mkdir(parents=True, exist_ok=True)
+    shutil.copy2(source, target, follow_symlinks=False)
+
+
+def adopt_link(adoption: Adoption, path: str) -> None:
+    """A link to a file of the site becomes that file; of another it is said that it is passed over."""
+    source = adoption.original / path
+    try:
+        target = source.resolve(strict=True)
+        inside = target.relative_to(adoption.original)
+    except (OSError, RuntimeError, ValueError):
+        adoption.left(path, "a link that leads out of the site, or nowhere; links are passed over: put the file itself there")
+        return
+    if not target.is_file() or inside.parts[0] in PASSED_OVER | {"_site"}:
+        adoption.left(path, f"a link to {inside}, which is no file of the site; links are passed over: put the files themselves there")
+        return
+    copy_file(target, adoption.folder / path)
+    adoption.done(path, f"a link to {inside} is that file now: links are passed over")
+
+
+def finish(adoption: Adoption, beside: Optional[Path]) -> int:
+    """Puts the copy in its place, or what differs into the folder, and says what there is to say."""
+    folder = adoption.original
+    changed = not_the_same(adoption.folder, folder)
+    for line in adoption.done_lines:
+        print(f"done: {shown(line)}")
+    for line in adoption.left_lines:
+        print(f"left: {shown(line)}")
+    counts = f"{len(adoption.done_lines)} done, {len(adoption.left_lines)} left"
+    if not changed:
+        print(f"{shown(str(folder))}: there is nothing to adopt ({counts})")
+    elif beside is None:
+        write_into(adoption, changed)
+        print(f"{shown(str(folder))}: adopted in place ({counts})")
+    elif not os.path.lexists(beside):
+        os.rename(adoption.folder, beside)
+        print(f"{shown(str(beside))}: the site, adopted ({counts})")
+    elif not not_the_same(adoption.folder, beside):
+        print(f"{shown(str(beside))}: is there already, and nothing has changed since ({counts})")
+    else:
+        raise Refused(
+            f"{shown(str(beside))}: is there already, and {shown(not_the_same(adoption.folder, beside)[0])} in it is another; nothing was written. "
+            f"Go on there with `site adopt --write`, or take it away to begin anew"
+        )
+    return 0
+
+
+def not_the_same(new: Path, old: Path) -> list[str]:
+    """The paths of the files that are not the same in both folders, `_config.yml` first."""
+    here, there = set(list_files(new).files), {path for path in list_files(old).files if not is_left_out(path)}
+    both = here & there
+    changed = (here ^ there) | {path for path in both if not filecmp.cmp(new / path, old / path, shallow=False)}
+    return sorted(changed, key=lambda path: (path != "_config.yml", path))
+
+
+def write_into(adoption: Adoption, changed: list[str]) -> None:
+    """Writes what differs into the site's own folder, each file whole or not at all. Nothing is written when one of them must not be."""
+    new, folder = adoption.folder, adoption.original
+    changed = [path for path in changed if path in adoption.copied or (new / path).exists()]
+    for path in changed:
+        place = folder / path
+        if place.parent.resolve() != place.parent:
+            raise Refused(f"{shown(path)}: a link leads out of the folder there; put the files themselves there. Nothing was written")
+        if path in adoption.copied:
+            if not place.exists() or place.stat().st_mtime_ns != adoption.copied[path]:
+                raise Refused(f"{shown(path)}: it was saved meanwhile; run this again. Nothing was written")
+        elif os.path.lexists(place) and not place.is_symlink():
+            raise Refused(f"{shown(path)}: it came meanwhile; run this again. Nothing was written")
+    for path in changed:
+        if (new / path).exists():
+            write_bytes(folder / path, (new / path).read_bytes())
+    # Those that have another name now, under which they are written.
+    for path in changed:
+        if not (new / path).exists():
+            (folder / path).unlink()
+
+
+if __name__ == "__main__":
+    try:
+        sys.exit(main(sys.argv[1:], os.environ["SITEBUILD"]))
+    except Refused as refused:
+        print(f"site: {refused}", file=sys.stderr)
+        sys.exit(refused.status)

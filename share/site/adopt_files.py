@@ -1,0 +1,334 @@
+"""What `site adopt` does to the files of a site: the theme, plugins' tags and files, redirects, and Sass."""
+from __future__ import annotations
+
+import itertools
+import os
+import re
+import shutil
+from pathlib import Path
+from typing import Optional
+
+import sass
+from adopt_settings import CONFIG, collections_of, plugins_of, read_mended, texts
+from adoption import Adoption
+from kept_back import Program
+from configuration import Settings, written
+from site_files import begins_with_mark, front_matter, line_of, read_text, read_values, write_text
+from tags import Includes, rewrite
+from theme import find_gem, locked_version, missing_files
+from words import shown
+
+TEMPLATES = Path(__file__).resolve().parent / "templates"
+# Keys that a theme's configuration never sets: Jekyll has defaults of its own for them.
+JEKYLLS_OWN = set(
+    "source destination collections_dir cache_dir plugins_dir layouts_dir data_dir includes_dir collections safe include exclude "
+    "keep_files encoding markdown_ext strict_front_matter show_drafts limit_posts future unpublished whitelist plugins markdown "
+    "highlighter lsi excerpt_separator incremental detach port host baseurl show_dir_listing permalink paginate_path timezone quiet "
+    "verbose defaults liquid kramdown".split()
+)
+REDIRECTS = "redirects"
+
+
+def template(name: str) -> str:
+    return (TEMPLATES / name).read_text(encoding="utf-8")
+
+
+def read_configuration(adoption: Adoption) -> tuple[Settings, dict]:
+    """The configuration of the copy, and what it says."""
+    path = adoption.folder / CONFIG
+    text = read_text(path) if path.is_file() else ""
+    config = read_values(adoption.program, {CONFIG: text}).of.get(CONFIG)
+    return Settings(text), config if isinstance(config, dict) else {}
+
+
+def save(adoption: Adoption, settings: Settings) -> None:
+    write_text(adoption.folder / CONFIG, settings.text())
+
+
+# ---- front matter
+
+
+def with_front_matter(adoption: Adoption) -> dict[str, str]:
+    """The texts of the files that begin with front matter, by path."""
+    found = {}
+    for path in adoption.files():
+        if not path.startswith(("_data/", "_includes/")) and begins_with_mark(adoption.folder / path):
+            text = read_text(adoption.folder / path)
+            if front_matter(text):
+                found[path] = text
+    return found
+
+
+def yaml_of(text: str) -> str:
+    """The front matter as a text of YAML, with the lines that it has in its file."""
+    return "---\n" + front_matter(text)[1]
+
+
+def mend_front_matter(adoption: Adoption) -> None:
+    """What can be mended without a question: a bracket at its key's indent, and `published` without a value or in quotes."""
+    items = with_front_matter(adoption)
+    values = read_values(adoption.program, {path: yaml_of(text) for path, text in items.items()})
+    for path, text in items.items():
+        if path in values.faults:
+            value, fault, mended, moved = read_mended(adoption.program, path, yaml_of(text))
+            if fault or not moved:
+                continue
+            text = text.replace(front_matter(text)[1], mended[len("---\n") :], 1)
+            adoption.done(f"{path}:{min(moved)}", "the bracket is moved in: at its key's indent it is not read")
+            write_text(adoption.folder / path, text)
+        else:
+            value = values.of[path]
+        has_other = isinstance(value, dict) and not isinstance(value.get("published", True), bool)
+        if has_other and not path.startswith("_layouts/"):
+            mend_published(adoption, path, text, value["published"])
+
+
+def mend_published(adoption: Adoption, path: str, text: str, value: object) -> None:
+    """Jekyll leaves out what has `published` without a value, and builds what has any other."""
+    match = front_matter(text)
+    line = re.compile(r"^(published[ \t]*:).*?(\r?)$", re.M)
+    found = line.search(match[1])
+    if not found:
+        return
+    new = "false" if value is None else "true"
+    changed = line.sub(rf"\1 {new}\2", match[1])
+    write_text(adoption.folder / path, text[: match.start(1)] + changed + text[match.end(1) :])
+    why = "without a value Jekyll leaves it out" if value is None else "Jekyll builds it"
+    adoption.done(f"{path}:{line_of(text, match.start(1) + found.start())}", f"published is {new} now: {why}")
+
+
+# ---- the theme
+
+
+def adopt_theme(adoption: Adoption, config: dict, given: Optional[Path]) -> None:
+    """The theme's files go in where the site has none of the name, and the keys of its configuration too."""
+    key = next((key for key in ("remote_theme", "theme") if isinstance(config.get(key), str)), None)
+    name = config[key] if key else ""
+    settings, _ = read_configuration(adoption)
+    place = f"{CONFIG}:{settings.line(key)}" if key else CONFIG
+    folder = given
+    if folder is None and key == "theme":
+        folder = find_gem(name, adoption.original, locked_version(adoption.original, name))
+    if folder is None:
+        if key:
+            how = "clone it" if key == "remote_theme" else "apt-get install, or gem install, it"
+            adoption.left(place, f"the theme {shown(name)} is not on this machine; {how}, and run this again with --theme FOLDER")
+        return
+    added = missing_files(folder, adoption.files())
+    for path in added:
+        target = adoption.folder / path
+        target.parent.mkdir(parents=True, exist_ok=True)
+        shutil.copyfile(folder / path, target, follow_symlinks=False)
+    if added:
+        by_folder = ", ".join(f"{sum(path.startswith(top + '/') for path in added)} of {top}" for top in sorted({path.split("/")[0] for path in added}))
+        adoption.done(place, f"{len(added)} files of the theme in {folder} are in the site now ({by_folder})")
+    adopt_theme_keys(adoption, settings, config, folder, place)
+    if key:
+        settings.comment_out(key, "its files are in the site now")
+        config.pop(key)
+        save(adoption, settings)
+
+
+def adopt_theme_keys(adoption: Adoption, settings: Settings, config: dict, folder: Path, place: str) -> None:
+    """The keys of the theme's `_config.yml` that the site has not."""
+    path = folder / CONFIG
+    if not path.is_file() or path.is_symlink() or config.get("ignore_theme_config") is True:
+        return
+    values, fault, _, _ = read_mended(adoption.program, CONFIG, read_text(path))
+    if fault:
+        adoption.left(place, f"the theme's own settings are not read: {path}:{fault.line}: {fault.sentence}; copy what you want of them")
+        return
+    for key, value in (values if isinstance(values, dict) else {}).items():
+        if key in JEKYLLS_OWN or key == "theme":
+            continue
+        merged = merge(value, config[key]) if key in config else value
+        if key not in config or merged != config[key]:
+            settings.set(key, merged)
+            config[key] = merged
+            adoption.done(place, f"{key} of the theme's settings is in {CONFIG} now")
+
+
+def merge(under: object, over: object) -> object:
+    """A hash with the keys of both; of two values of one key the second counts."""
+    if isinstance(under, dict) and isinstance(over, dict):
+        return {**under, **{key: merge(under[key], value) if key in under else value for key, value in over.items()}}
+    return over
+
+
+# ---- templates
+
+
+def own_name(adoption: Adoption, folder: str, name: str, text: str) -> str:
+    """A name for a file of this text: `name`, or another when the site has a file of its own there."""
+    stem, ending = os.path.splitext(name)
+    for candidate in (name, f"jekyll-{stem}{ending}", f"adopted-{stem}{ending}"):
+        path = adoption.folder / folder / candidate
+        if not path.exists() or read_text(path) == text:
+            return candidate
+    raise FileExistsError(17, "this name is taken", f"{folder}/{name}")
+
+
+def adopt_templates(adoption: Adoption) -> None:
+    """Plugins' tags become includes, and `jekyll.environment` a key of the configuration."""
+    includes = Includes(
+        {tag: own_name(adoption, "_includes", f"{tag}.html", template(f"{tag}.html")) for tag in ("seo", "feed_meta")}
+    )
+    items = with_front_matter(adoption)
+    layouts = [path for path in adoption.files() if path.startswith(("_includes/", "_layouts/"))]
+    for path in [*layouts, *items]:
+        text = read_text(adoption.folder / path)
+        if "{%" not in text and "{{" not in text:
+            continue
+        new, done = rewrite(text, includes)
+        for line, what in done:
+            adoption.done(f"{path}:{line}", what)
+        if done:
+            write_text(adoption.folder / path, new)
+    for tag in sorted(includes.used):
+        name = f"_includes/{includes.names[tag]}"
+        if not (adoption.folder / name).exists():
+            write_text(adoption.folder / name, template(f"{tag}.html"))
+            adoption.done(name, f"is new: what the plugin's tag {tag} writes")
+    if includes.environment:
+        set_environment(adoption)
+
+
+def set_environment(adoption: Adoption) -> None:
+    settings, config = read_configuration(adoption)
+    if "environment" in config:
+        if not isinstance(config["environment"], str):
+            adoption.left(f"{CONFIG}:{settings.line('environment')}", "templates compare it with production now; give it a text")
+        return
+    settings.set("environment", "production")
+    save(adoption, settings)
+    adoption.done(CONFIG, "environment is production now, which templates ask for in place of jekyll.environment")
+
+
+# ---- what plugins make
+
+
+def write_page(adoption: Adoption, path: str, keys: list[str], body: str, what: str) -> None:
+    """A new page, where nothing is yet, and which a sitemap does not list."""
+    if (adoption.folder / path).exists() or (adoption.folder / path).is_symlink():
+        return
+    write_text(adoption.folder / path, "".join(f"{line}\n" for line in ["---", *keys, "sitemap: false", "---"]) + body)
+    adoption.done(path, what)
+
+
+def write_feeds(adoption: Adoption, config: dict) -> None:
+    """The feeds of jekyll-feed, as templates."""
+    if "jekyll-feed" not in plugins_of(config, adoption.original):
+        return
+    given = config.get("feed") if isinstance(config.get("feed"), dict) else {}
+    collections = given.get("collections")
+    if isinstance(collections, list):
+        collections = {str(name): {} for name in collections}
+    collections = {name: dict(meta or {}) for name, meta in (collections or {}).items()} if isinstance(collections, dict) else {}
+    posts = collections.setdefault("posts", {})
+    posts["path"] = posts.get("path") or given.get("path")
+    posts["categories"] = posts.get("categories") or given.get("categories")
+    for name, meta in collections.items():
+        top = "feed" if name == "posts" else f"feed/{name}"
+        keys = ["layout:"] if name == "posts" else ["layout:", f"feed_collection: {written(name)}"]
+        write_feed(adoption, str(meta.get("path") or f"{top}.xml").lstrip("/"), keys)
+        for category in texts(meta.get("categories")):
+            write_feed(adoption, f"{top}/{category}.xml", [*keys, f"feed_category: {written(category)}"])
+    if given.get("tags"):
+        settings, _ = read_configuration(adoption)
+        adoption.left(f"{CONFIG}:{settings.line('feed')}", "feeds by tag are not made; write one as feed.xml with its tag")
+
+
+def write_feed(adoption: Adoption, path: str, keys: list[str]) -> None:
+    if ".." in path.split("/") or not path.endswith(".xml"):
+        adoption.left(CONFIG, f"the feed {shown(path)} is not made; give it a path that ends with .xml")
+        return
+    write_page(adoption, path, keys, template("feed.xml"), "is new: what jekyll-feed makes, as a template")
+
+
+def write_sitemap(adoption: Adoption, config: dict) -> None:
+    """The files of jekyll-sitemap, as templates."""
+    if "jekyll-sitemap" in plugins_of(config, adoption.original):
+        write_page(adoption, "sitemap.xml", ["layout:"], template("sitemap.xml"), "is new: what jekyll-sitemap makes, as a template")
+        write_page(adoption, "robots.txt", ["layout:"], template("robots.txt"), "is new: what jekyll-sitemap makes, as a template")
+
+
+def write_redirects(adoption: Adoption) -> None:
+    """A page at each old address, without a title, since a menu lists what has one."""
+    _, config = read_configuration(adoption)
+    if "jekyll-redirect-from" not in plugins_of(config, adoption.original):
+        return
+    program = Program(texts(config.get("include")), texts(config.get("exclude")))
+    items = {path: text for path, text in with_front_matter(adoption).items() if program.comes_out(path, collections_of(config))}
+    asking = {path: text for path, text in items.items() if re.search(r"^redirect_(from|to|source)[ \t]*:", front_matter(text)[1], re.M)}
+    values = read_values(adoption.program, {path: yaml_of(text) for path, text in asking.items()}).of
+    layout = os.path.splitext(own_name(adoption, "_layouts", "redirect.html", template("redirect.html")))[0]
+    used = False
+    taken = {str(values[path].get("permalink")) for path in values if path.startswith(f"{REDIRECTS}/")}
+    for path, value in values.items():
+        if path.startswith(f"{REDIRECTS}/") or not isinstance(value, dict) or value.get("published") is False:
+            continue
+        old = value.get("redirect_from")
+        for address in [str(one) for one in (old if isinstance(old, list) else [old]) if one is not None]:
+            used |= write_redirect(adoption, path, items[path], address, layout, taken)
+        if value.get("redirect_to"):
+            used |= redirect_page(adoption, path, items[path], layout)
+    if used and not (adoption.folder / f"_layouts/{layout}.html").exists():
+        write_text(adoption.folder / f"_layouts/{layout}.html", template("redirect.html"))
+        adoption.done(f"_layouts/{layout}.html", "is new: what jekyll-redirect-from writes")
+
+
+def write_redirect(adoption: Adoption, path: str, text: str, address: str, layout: str, taken: set[str]) -> bool:
+    """Whether a page for this old address is there in the end."""
+    address = "/" + address.lstrip("/")
+    if address in taken:
+        return True
+    line = line_of(text, text.find("redirect_from"))
+    ending = os.path.splitext(address)[1]
+    odd = not re.fullmatch(r"[^\s?#\x00-\x1f:\"\\]+", address) or ".." in address.split("/")
+    if odd or ending[1:] in ("markdown", "mkdown", "mkdn", "mkd", "md"):
+        adoption.left(f"{path}:{line}", f"no page can be at the old address {shown(address)}; write one by hand")
+        return False
+    stem = re.sub(r"[^A-Za-z0-9]+", "-", os.path.splitext(address)[0]).strip("-") or "index"
+    # An address keeps an ending of its own when the file has it.
+    names = (f"{REDIRECTS}/{stem}{number or ''}{ending or '.html'}" for number in itertools.count())
+    place = next(name for name in names if not (adoption.folder / name).exists())
+    taken.add(address)
+    keys = [f"layout: {layout}", f"permalink: {written(address)}", f"redirect_source: {written(path)}"]
+    write_page(adoption, place, keys, "", f"is new: leads from {address} to {path}")
+    return True
+
+
+def redirect_page(adoption: Adoption, path: str, text: str, layout: str) -> bool:
+    """A page that leads elsewhere has the layout that says so, in place of its own."""
+    match = front_matter(text)
+    line = re.compile(r"^layout[ \t]*:.*?(\r?)$", re.M)
+    new = line.sub(rf"layout: {layout}\1", match[1]) if line.search(match[1]) else f"{match[1]}layout: {layout}\n"
+    if not re.search(r"^sitemap[ \t]*:", match[1], re.M):
+        new += "sitemap: false\n"
+    if new != match[1]:
+        write_text(adoption.folder / path, text[: match.start(1)] + new + text[match.end(1) :])
+        adoption.done(f"{path}:{line_of(text, text.find('redirect_to'))}", f"its layout is {layout} now, which leads to redirect_to")
+    return True
+
+
+# ---- Sass
+
+
+def write_styles(adoption: Adoption) -> None:
+    """The CSS of each page of Sass is put beside it, and the page into `exclude`."""
+    settings, config = read_configuration(adoption)
+    sheets = sass.read_sheets(adoption.folder, adoption.program)
+    files = adoption.files()
+    styles = sass.published(sass.sass_pages(adoption.folder, files), sheets)
+    if not styles:
+        for line in sass.compile_styles(adoption.folder, adoption.program):
+            adoption.left_lines.append(line)
+        return
+    said = sass.compile_all(adoption.folder, adoption.program, styles)
+    adoption.left_lines += said
+    made = [style for style in styles if sass.is_ours(adoption.folder / style.css, style.source)]
+    for style in made:
+        adoption.done(style.source, f"sassc made {style.css} of it, and it is in exclude now; `site serve` and `site watch` make it anew")
+    if made:
+        settings.set("exclude", texts(config.get("exclude")) + [style.source for style in made])
+        save(adoption, settings)

@@ -1,0 +1,391 @@
+"""What `site adopt` does to `_config.yml`. What must not come out is looked after first."""
+from __future__ import annotations
+
+import datetime
+import os
+import re
+from dataclasses import replace
+from pathlib import Path
+from typing import Optional
+from zoneinfo import ZoneInfo
+
+from adoption import Adoption
+from configuration import Settings
+from kept_back import Jekyll, Program, Replaced, Rules, is_glob, lists_of_paths, names, shortened
+from kept_back import pattern as fnmatch
+from scopes import mend as mend_scopes
+from scopes import published_by_defaults
+from site_files import OUTPUT, Fault, begins_with_mark, front_matter, list_files, read_text, read_values, write_text
+from words import Refused, shown
+
+CONFIG = "_config.yml"
+OFFSET = re.compile(r"(?:Etc/)?UTC|Z|[+-]\d\d:?\d\d")
+# The front of a date as Jekyll's sites write it.
+MOMENT = re.compile(r"(\d{4})-(\d\d?)-(\d\d?)(?:[ T](?P<hour>\d\d):(?P<minute>\d\d)(?::(?P<second>\d\d))?[ ]?(?P<offset>[+-]\d\d:?\d\d)?)?")
+# Plugins that spread posts over pages.
+PAGINATION = {"jekyll-paginate", "jekyll-paginate-v2", "github-pages"}
+BRACKETS = "a list or mapping in brackets"
+# Folders that Jekyll reads under another name, and the names that the program knows.
+FOLDERS = {"layouts_dir": "_layouts", "includes_dir": "_includes", "data_dir": "_data"}
+
+
+def adopt_configuration(adoption: Adoption) -> dict:
+    """Mends the configuration; what it says in the end."""
+    find_configuration(adoption)
+    path = adoption.folder / CONFIG
+    before = read_text(path) if path.is_file() else ""
+    text, config = readable(adoption, before)
+    settings = Settings(text)
+    refuse_other_source(config)
+    moved = rename_folders(adoption, settings, config)
+    files = adoption.files()
+    mend_lists(adoption, settings, config, files, moved)
+    mend_limit(adoption, settings, config, files)
+    mend_copied(adoption, settings, config, files)
+    mend_kept(adoption, settings, config)
+    mend_defaults(adoption, settings, config, files)
+    mend_values(adoption, settings, config)
+    if settings.lines != Settings(before).lines:
+        write_text(path, settings.text())
+    return config
+
+
+def find_configuration(adoption: Adoption) -> None:
+    """Jekyll reads `_config.yaml` and `_config.toml` where there is no `_config.yml`."""
+    if (adoption.folder / CONFIG).is_file():
+        return
+    if (adoption.folder / "_config.yaml").is_file():
+        os.rename(adoption.folder / "_config.yaml", adoption.folder / CONFIG)
+        adoption.done("_config.yaml", "it is called _config.yml now; no other name is read")
+    elif (adoption.folder / "_config.toml").is_file():
+        raise Refused("_config.toml: it is not read; write its settings as _config.yml, and run this again. Nothing was done")
+
+
+def mend_brackets(text: str, line: int) -> Optional[tuple[str, int]]:
+    """Moves the first bracket that is alone in its line in, from this line on; the text, and the bracket's line."""
+    lines = text.splitlines(keepends=True)
+    for at in range(line, len(lines)):
+        match = re.match(r"[ ]*[\]}]", lines[at])
+        if match:
+            lines[at] = "  " + lines[at]
+            return "".join(lines), at + 1
+    return None
+
+
+def read_mended(program: str, name: str, text: str) -> tuple[object, Optional[Fault], str, list[int]]:
+    """What a text says, its fault, the text with brackets moved in, and their lines."""
+    moved: list[int] = []
+    while True:
+        values = read_values(program, {name: text})
+        fault = values.faults.get(name)
+        if fault is None:
+            return values.of[name], None, text, moved
+        mended = mend_brackets(text, fault.line) if fault.sentence.startswith(BRACKETS) else None
+        # Its key may be indented itself.
+        if mended is None or moved.count(mended[1]) > 8:
+            return None, fault, text, moved
+        text = mended[0]
+        moved.append(mended[1])
+
+
+def readable(adoption: Adoption, text: str) -> tuple[str, dict]:
+    """The text as the program reads it, and what it says. Of settings that are not read nobody knows what must not come out."""
+    config, fault, text, moved = read_mended(adoption.program, CONFIG, text)
+    if fault:
+        tell_faults(adoption.program, text, fault)
+        raise Refused(f"{CONFIG}: nobody knows what must not come out, so nothing was done; mend these lines, and run this again")
+    for line in sorted(set(moved)):
+        adoption.done(f"{CONFIG}:{line}", "the bracket is moved in: at its key's indent it is not read")
+    if config is not None and not isinstance(config, dict):
+        raise Refused(f"{CONFIG}: it is no mapping; write key: value. Nothing was done")
+    return text, config or {}
+
+
+def tell_faults(program: str, text: str, fault: Optional[Fault]) -> None:
+    """Says the first fault of each key."""
+    settings = Settings(text)
+    while fault:
+        print(f"left: {replace(fault, path=CONFIG)}")
+        key = settings.key_at(fault.line)
+        if key is None:
+            return
+        settings.remove(key)
+        fault = read_values(program, {CONFIG: settings.text()}).faults.get(CONFIG)
+
+
+def refuse_other_source(config: dict) -> None:
+    source = str(config.get("source") or ".").strip("/")
+    if source not in (".", ""):
+        raise Refused(
+            f"{CONFIG}: the site is in its folder {shown(source)} (source), which is not read; move _config.yml there, take the key out, "
+            "and adopt that folder. Nothing was done"
+        )
+
+
+def rename_folders(adoption: Adoption, settings: Settings, config: dict) -> bool:
+    """Folders that have names of their own get those that the program knows. Whether collections were moved."""
+    for key, name in FOLDERS.items():
+        given = folder_in(settings, config, key) or name
+        if given != name:
+            move(adoption, settings, key, given, name)
+            config.pop(key)
+    given = folder_in(settings, config, "collections_dir")
+    if given:
+        # What is at the top is none to Jekyll.
+        for name in ("posts", "drafts", *collections_of(config)):
+            if any(path.startswith(f"_{name}/") for path in adoption.files()):
+                raise Refused(f"_{name}: Jekyll does not read it, since collections_dir is {shown(given)}; take it out of the folder. Nothing was done")
+        inner = adoption.folder / given
+        for entry in sorted(inner.iterdir()) if inner.is_dir() else []:
+            if entry.name.startswith("_") and entry.is_dir():
+                move(adoption, settings, "collections_dir", f"{given}/{entry.name}", entry.name)
+        settings.comment_out("collections_dir", "its folders are at the top now")
+        config.pop("collections_dir")
+    return bool(given)
+
+
+def folder_in(settings: Settings, config: dict, key: str) -> str:
+    """The folder that a key names. It has to be in the site: it is going to be moved."""
+    given = str(config.get(key) or "").removeprefix("./").rstrip("/")
+    if any(part in ("", ".", "..") for part in given.split("/")) and given:
+        raise Refused(f"{CONFIG}:{settings.line(key)}: {key} leads out of the site; put the folder into it. Nothing was done")
+    return given
+
+
+def move(adoption: Adoption, settings: Settings, key: str, old: str, new: str) -> None:
+    if not (adoption.folder / old).is_dir():
+        return
+    if (adoption.folder / new).exists():
+        raise Refused(f"{CONFIG}:{settings.line(key)}: {shown(old)} has to be called {new}, which is there already; put them together. Nothing was done")
+    os.rename(adoption.folder / old, adoption.folder / new)
+    adoption.done(f"{CONFIG}:{settings.line(key)}", f"{old} is called {new} now; no other name is read ({key})")
+    if key != "collections_dir":
+        settings.comment_out(key, f"the folder is called {new} now")
+
+
+def texts(value: object) -> list[str]:
+    return [one if isinstance(one, str) else str(one) for one in value] if isinstance(value, list) else []
+
+
+def plugins_of(config: dict, folder: Path) -> list[str]:
+    """The plugins of a site: of its configuration, and of the group jekyll_plugins of its Gemfile."""
+    found = texts(config.get("plugins")) + texts(config.get("gems"))
+    try:
+        lines = read_text(folder / "Gemfile").splitlines()
+    except OSError:
+        lines = []
+    in_group = False
+    for line in lines:
+        in_group = in_group and line.strip() != "end" or bool(re.match(r"\s*group\b.*:jekyll_plugins\b", line))
+        gem = re.match(r"\s*gem\s+[\"']([\w.-]+)[\"']", line)
+        if gem and gem[1] not in found and (in_group or ":jekyll_plugins" in line):
+            found.append(gem[1])
+    return found
+
+
+def lacks_pagination(config: dict, folder: Path) -> bool:
+    """Whether Jekyll makes no pages by `paginate`. A site that names no plugin, gem or theme was not written for Jekyll."""
+    of_jekyll = any(config.get(key) is not None for key in ("plugins", "gems", "theme", "remote_theme")) or (folder / "Gemfile").is_file()
+    return of_jekyll and bool(config.get("paginate")) and not PAGINATION & set(plugins_of(config, folder))
+
+
+def collections_of(config: dict) -> list[str]:
+    given = config.get("collections")
+    return [str(one) for one in given] if isinstance(given, (dict, list)) else []
+
+
+def rules_of(config: dict) -> Rules:
+    rules = Rules(exclude=texts(config.get("exclude")), collections=collections_of(config))
+    if config.get("include") is not None:
+        rules.include = texts(config["include"])
+    destination = str(config.get("destination") or "").strip("/")
+    rules.destination = destination.removeprefix("./") if destination != OUTPUT else ""
+    rules.collections_in = str(config.get("collections_dir") or "").strip("/") or None
+    given = config.get("collections")
+    metas = given if isinstance(given, dict) else {}
+    rules.hidden = [name for name in rules.collections if not (isinstance(metas.get(name), dict) and metas[name].get("output") is True)]
+    return rules
+
+
+def mend_lists(adoption: Adoption, settings: Settings, config: dict, files: list[str], moved: bool) -> None:
+    """`exclude` and `include` get the paths that they name now. The globs stay in a key of their own, for new files."""
+    rules = rules_of(config)
+    rules.collections_in = "" if moved else None
+    excluded, globs = rules.exclude, texts(config.get("exclude_globs"))
+    rules.exclude = excluded + [glob for glob in globs if glob not in excluded]
+    lists = lists_of_paths(rules, files)
+    told = [one for one in lists.replaced_excludes if one.paths or one.entry in excluded]
+    tell(adoption, settings, "exclude", told)
+    tell(adoption, settings, "include", lists.replaced_includes)
+    line = settings.line("destination") if rules.destination else settings.line("exclude")
+    for path in lists.added:
+        adoption.done(f"{CONFIG}:{line}", f"{path} is in exclude now, since Jekyll leaves it out")
+    globs += [one.entry for one in told if is_glob(one.entry) and one.entry not in globs]
+    for key, value in (("exclude", lists.exclude), ("include", lists.include), ("exclude_globs", globs)):
+        if value != (rules.include if key == "include" else texts(config.get(key))):
+            settings.set(key, value)
+            config[key] = value
+
+
+def mend_limit(adoption: Adoption, settings: Settings, config: dict, files: list[str]) -> None:
+    """`limit_posts`: the older posts go into `exclude`."""
+    limit = config.get("limit_posts")
+    if not isinstance(limit, int) or limit <= 0:
+        return
+    program = Program(rules_of(config).include, texts(config.get("exclude")))
+    posts = dated_posts(adoption, config, files)
+    older = [path for path in posts[: max(len(posts) - limit, 0)] if program.comes_out(path, collections_of(config)) or program.is_draft(path)]
+    place = f"{CONFIG}:{settings.line('limit_posts')}"
+    if older:
+        adoption.done(place, f"the posts past the newest {limit} are in exclude now: {shortened(older)}")
+        config["exclude"] = texts(config.get("exclude")) + older
+        settings.set("exclude", config["exclude"])
+    settings.comment_out("limit_posts", "the older posts are in exclude now")
+    config.pop("limit_posts")
+
+
+def dated_posts(adoption: Adoption, config: dict, files: list[str]) -> list[str]:
+    """The posts that Jekyll makes now, the oldest first; the drafts too where they are built."""
+    jekyll = Jekyll(rules_of(config), files)
+    wanted = jekyll.comes_out() | (jekyll.drafts() if config.get("show_drafts") is True else set())
+    found = [path for path in wanted if {"_posts", "_drafts"} & set(path.split("/")) and path.partition("/")[0][1:] not in collections_of(config)]
+    heads = {path: front_matter(read_text(adoption.folder / path)) for path in found}
+    values = read_values(adoption.program, {path: "---\n" + match[1] for path, match in heads.items() if match}).of
+    now = datetime.datetime.now(datetime.timezone.utc)
+    dated = []
+    for path in found:
+        own = values.get(path) if isinstance(values.get(path), dict) else {}
+        defaults = config.get("defaults") if isinstance(config.get("defaults"), list) else []
+        published = bool(own["published"]) if "published" in own else published_by_defaults(defaults, path, "posts")
+        moment = moment_of(path, own)
+        if (published or config.get("unpublished") is True) and (moment <= now or config.get("future") is True):
+            dated.append((moment, path))
+    return [path for _, path in sorted(dated)]
+
+
+def mend_copied(adoption: Adoption, settings: Settings, config: dict, files: list[str]) -> None:
+    """Copied files that have `published: false` of `defaults` go into `exclude`."""
+    hidden = unpublished_copies(adoption.folder, config, files)
+    if hidden:
+        place = f"{CONFIG}:{settings.line_with('defaults', 'published')}"
+        adoption.done(place, f"published of defaults does not reach copied files, so they are in exclude now: {shortened(hidden)}")
+        config["exclude"] = texts(config.get("exclude")) + hidden
+        settings.set("exclude", config["exclude"])
+
+
+def unpublished_copies(folder: Path, config: dict, files: list[str]) -> list[str]:
+    """The copied files that come out here, and that Jekyll leaves out by its defaults."""
+    defaults = config.get("defaults")
+    if not isinstance(defaults, list) or not any("published" in str(entry) for entry in defaults):
+        return []
+    program = Program(rules_of(config).include, texts(config.get("exclude")))
+    collections = collections_of(config)
+    found = []
+    for path in files:
+        label = path.partition("/")[0][1:] if path.startswith("_") else ""
+        kind = label if label in collections else None
+        address = path[1:] if kind else path
+        if program.comes_out(path, collections) and not published_by_defaults(defaults, address, kind) and not begins_with_mark(folder / path):
+            found.append(path)
+    return found
+
+
+def moment_of(path: str, own: dict) -> datetime.datetime:
+    """The moment of a post: its own date, else that of its name; of a draft now."""
+    name = "" if "_drafts" in path.split("/") else path.rpartition("/")[2]
+    for match in (MOMENT.match(str(own.get("date", ""))), re.match(r"(\d{4})-(\d\d?)-(\d\d?)-", name)):
+        if match:
+            parts = match.groupdict() or {}
+            time = [int(parts.get(key) or 0) for key in ("hour", "minute", "second")]
+            sign, hours, minutes = re.match(r"([+-]?)(\d\d):?(\d\d)", parts.get("offset") or "+00:00").groups()
+            offset = datetime.timedelta(hours=int(hours), minutes=int(minutes)) * (-1 if sign == "-" else 1)
+            try:
+                return datetime.datetime(*map(int, match.groups()[:3]), *time, tzinfo=datetime.timezone(offset))
+            except ValueError:
+                continue
+    return datetime.datetime.now(datetime.timezone.utc)
+
+
+def tell(adoption: Adoption, settings: Settings, key: str, replaced: list[Replaced]) -> None:
+    for one in replaced:
+        what = f'{key} "{one.entry}": {one.reason}; it names now: {shortened(one.paths)}'
+        later = "; a new file of that kind has to be added there (`site check` tells)" if is_glob(one.entry) and key == "exclude" else ""
+        adoption.done(f"{CONFIG}:{settings.line_with(key, one.entry)}", what + later)
+
+
+def mend_kept(adoption: Adoption, settings: Settings, config: dict) -> None:
+    """`keep_files`: Jekyll takes an entry for the front of a path in the output."""
+    entries = texts(config.get("keep_files"))
+    kept = [entry for entry in entries if not is_glob(entry)]
+    for entry, paths in kept_by_front(entries, adoption.original / OUTPUT):
+        kept += paths
+        if paths or is_glob(entry):
+            tell(adoption, settings, "keep_files", [Replaced(entry, paths, "a glob" if is_glob(entry) else "the front of a path in Jekyll")])
+    if kept != entries:
+        settings.set("keep_files", kept)
+        config["keep_files"] = kept
+
+
+def kept_by_front(entries: list[str], output: Path) -> list[tuple[str, list[str]]]:
+    """By each entry of `keep_files` the files of the output that it names to Jekyll and not to the program."""
+    present = list_files(output).files if entries and output.is_dir() and not output.is_symlink() else []
+    plain = [entry.strip("/") for entry in entries if not is_glob(entry)]
+    left = [path for path in present if not any(names(one, path) for one in plain)]
+    found = []
+    for entry in entries:
+        front = entry.strip("/")
+        paths = [path for path in left if front and (path.startswith(front) or fnmatch(front).fullmatch(path))]
+        left = [path for path in left if path not in paths]
+        found.append((entry, paths))
+    return found
+
+
+def mend_defaults(adoption: Adoption, settings: Settings, config: dict, files: list[str]) -> None:
+    given = config.get("defaults")
+    if not isinstance(given, list):
+        return
+    mended = mend_scopes(given, files, ["posts", "drafts", "pages", *collections_of(config)])
+    for one in mended.differences:
+        adoption.done(f"{CONFIG}:{settings.line_with('defaults', one.part)}", f"{one.otherwise}; {one.now}")
+    if mended.differences:
+        settings.set("defaults", mended.defaults)
+        config["defaults"] = mended.defaults
+
+
+def mend_values(adoption: Adoption, settings: Settings, config: dict) -> None:
+    """Values that Jekyll takes and the program does not."""
+    zone = config.get("timezone")
+    if isinstance(zone, str) and not OFFSET.fullmatch(zone):
+        mend_zone(adoption, settings, config, zone)
+    if config.get("paginate", 1) in (0, False) and config.get("paginate") is not None:
+        adoption.done(f"{CONFIG}:{settings.line('paginate')}", "paginate is taken out: so it is off here")
+        settings.comment_out("paginate", "paginate is off without this key")
+        config.pop("paginate")
+    elif lacks_pagination(config, adoption.original):
+        adoption.done(f"{CONFIG}:{settings.line('paginate')}", "paginate is taken out: without the plugin jekyll-paginate Jekyll makes no such pages")
+        settings.comment_out("paginate", "Jekyll makes no such pages without its plugin")
+        config.pop("paginate")
+    if config.get("excerpt_separator", "x") == "":
+        adoption.done(f"{CONFIG}:{settings.line('excerpt_separator')}", "posts have an empty excerpt by defaults now, in place of an empty separator")
+        settings.comment_out("excerpt_separator", "defaults have an empty excerpt in its place")
+        config.pop("excerpt_separator")
+        defaults = config.get("defaults") if isinstance(config.get("defaults"), list) else []
+        config["defaults"] = [*defaults, {"scope": {"path": "", "type": "posts"}, "values": {"excerpt": ""}}]
+        settings.set("defaults", config["defaults"])
+
+
+def mend_zone(adoption: Adoption, settings: Settings, config: dict, zone: str) -> None:
+    """A named zone becomes its offset today."""
+    place = f"{CONFIG}:{settings.line('timezone')}"
+    try:
+        now = datetime.datetime.now(ZoneInfo(zone))
+    except (KeyError, ValueError, OSError):
+        adoption.left(place, f"the zone {shown(zone)} is not known on this machine; write an offset, as \"+01:00\"")
+        return
+    offset = now.strftime("%z")
+    offset = f"{offset[:3]}:{offset[3:5]}"
+    settings.set("timezone", offset)
+    config["timezone"] = offset
+    summer = {ZoneInfo(zone).utcoffset(datetime.datetime(now.year, month, 1)) for month in range(1, 13)}
+    later = "; it holds all year, so give the dates of the other half of the year their own offset" if len(summer) > 1 else ""
+    adoption.done(place, f'timezone {zone} is its offset today now, "{offset}"{later}')

@@ -1,0 +1,126 @@
+"""The first fault of each file of a site.
+
+The program tells one fault. In a scratch copy the faulty part is taken out, in a way that makes no fault of another file, and the program looks again.
+"""
+from __future__ import annotations
+
+from dataclasses import replace
+from pathlib import Path
+
+from configuration import Settings
+from site_files import Fault, NotRead, begins_with_mark, first_fault, front_matter, list_files, read_text, run, scratch, write_text
+
+CONFIG = "_config.yml"
+# A file of more bytes that is no template has its size alone in the scratch copy.
+WHOLE = 1 << 20
+# The keys that have a form: docs/PROFILE.md, "The configuration".
+KEYS = (
+    "baseurl", "url", "permalink", "markdown_ext", "include", "exclude", "keep_files", "collections", "defaults", "paginate", "paginate_path",
+    "excerpt_separator", "timezone", "future", "unpublished", "show_drafts",
+)
+# What to do where the program's own sentence says too little.
+REMEDIES = {
+    "permalink": "it is a text: date, pretty, ordinal, none, or a template",
+    "include": "it is a list of paths",
+    "exclude": "it is a list of paths",
+    "defaults": 'each entry has a scope with a path (perhaps ""), perhaps a type that there is, and values; `site adopt` writes what is missing',
+    "paginate": "it is a whole number from 1; `site adopt` takes 0 and false out",
+    "excerpt_separator": 'it is a text that is not empty; `site adopt` writes excerpt: "" into defaults',
+    "timezone": 'it is an offset, as "+01:00"; `site adopt` writes that of a named zone',
+    "future": "it is true or false",
+    "unpublished": "it is true or false",
+    "show_drafts": "it is true or false",
+}
+TEXTS = ("_layouts/", "_includes/", "_data/", CONFIG)
+
+
+def all_faults(folder: Path, program: str, *options: str) -> list[Fault]:
+    """The first fault of each file, and each faulty key of the configuration, in the order in which the program tells them."""
+    found: list[Fault] = []
+    with scratch() as room:
+        copy(folder, room)
+        steps: dict[str, int] = {}
+        # Each round takes something out for good, so this ends.
+        while True:
+            said = run(program, room, "check", *options)
+            fault = first_fault(said)
+            if fault is None:
+                if said.returncode and not found:
+                    raise NotRead(said.stderr.strip() or f"the program ended with status {said.returncode}")
+                return found
+            if fault.path == CONFIG and fault.code == "F6":
+                fault = with_key(fault, room, program)
+            if fault.path == CONFIG or fault.path not in steps:
+                found.append(fault)
+            steps[fault.path] = steps.get(fault.path, 0) + 1
+            if not take_out(room, fault, steps[fault.path]):
+                return found
+
+
+def with_key(fault: Fault, room: Path, program: str) -> Fault:
+    """The fault of a setting, with its key and its line: the program tells neither."""
+    text = read_text(room / CONFIG)
+    with scratch() as alone:
+        for key in KEYS:
+            settings = Settings(text)
+            place = settings.place(key)
+            if place is None:
+                continue
+            for other in KEYS:
+                # A scope may name a collection.
+                if other != key and not (key == "defaults" and other == "collections"):
+                    settings.remove(other)
+            write_text(alone / CONFIG, settings.text())
+            if first_fault(run(program, alone, "check")):
+                return replace(fault, line=place[0] + 1, sentence=f"{key}: {REMEDIES.get(key, fault.sentence)}", key=key)
+    return fault
+
+
+def copy(folder: Path, room: Path) -> None:
+    for path in list_files(folder).files:
+        source, target = folder / path, room / path
+        size = source.stat().st_size
+        if size <= WHOLE or path.startswith(TEXTS):
+            write_plain(target, source.read_bytes())
+            continue
+        if begins_with_mark(source):
+            write_plain(target, source.read_bytes())
+        else:
+            write_plain(target, b"")
+            with open(target, "r+b") as file:
+                file.truncate(size)
+
+
+def write_plain(path: Path, data: bytes) -> None:
+    path.parent.mkdir(parents=True, exist_ok=True)
+    path.write_bytes(data)
+
+
+def take_out(room: Path, fault: Fault, step: int) -> bool:
+    """Takes out what has the fault; whether that could be done."""
+    path = room / fault.path
+    if fault.path == CONFIG:
+        settings = Settings(read_text(path))
+        key = settings.key_at(fault.line)
+        if key is None:
+            return False
+        settings.remove(key)
+        write_text(path, settings.text())
+        return True
+    if not path.is_file():
+        # An output that is also a folder of another has no file of its name here.
+        return False
+    if step > 3 or fault.code == "F9":
+        path.unlink()
+    elif fault.code == "F2":
+        write_plain(path, b"")
+    elif fault.path.startswith("_includes/"):
+        write_plain(path, b"")
+    elif fault.path.startswith("_layouts/"):
+        write_plain(path, b"{{ content }}")
+    elif fault.path.startswith("_data/"):
+        write_plain(path, b"" if fault.path.endswith((".csv", ".tsv")) else b"{}")
+    else:
+        match = front_matter(read_text(path)) if step == 1 and fault.code not in ("F4", "F5", "F6", "F7") else None
+        write_plain(path, f"---\n{match[1]}---\n".encode("utf-8", "surrogateescape") if match else b"---\n---\n")
+    return True

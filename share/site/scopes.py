@@ -1,0 +1,154 @@
+"""The scopes of `defaults`: Jekyll takes a path for a pattern or the front of a path, the program for a file or a folder."""
+from __future__ import annotations
+
+import re
+from dataclasses import dataclass, field
+from functools import lru_cache
+from typing import Optional
+
+from kept_back import ANY_NAME, names, shortened
+
+OLD_TYPES = {"post": "posts", "page": "pages", "draft": "drafts"}
+
+
+@lru_cache(maxsize=None)
+def glob(pattern: str) -> re.Pattern:
+    """Ruby's Dir.glob for one path: a star stops at slashes and does not begin with a dot."""
+    parts = []
+    for part in re.split(r"(\*\*/|\*+|\?|\[[^\]]+\]|\{[^}]*\})", pattern):
+        at_front = not parts or parts[-1].endswith("/")
+        dot = r"(?!\.)" if at_front else ""
+        if part == "**/":
+            parts.append(r"(?:(?!\.)[^/]+/)*")
+        elif part.startswith("*"):
+            parts.append(dot + "[^/]*")
+        elif part == "?":
+            parts.append(dot + "[^/]")
+        elif part.startswith("["):
+            parts.append("[" + re.sub(r"^[!^]", "^", part[1:-1].replace("\\", "")) + "]")
+        elif part.startswith("{"):
+            parts.append("(?:" + "|".join(re.escape(one) for one in part[1:-1].split(",")) + ")")
+        elif part:
+            parts.append(re.escape(part))
+    return re.compile("".join(parts))
+
+
+def covers_in_jekyll(scope: str, path: str) -> bool:
+    if "*" not in scope:
+        return path.startswith(scope)
+    steps = path.split("/")
+    return any(
+        glob(scope).fullmatch(name) and path.startswith(name) for name in ("/".join(steps[:count]) for count in range(1, len(steps) + 1))
+    ) or any(glob(scope).fullmatch(name + "/") for name in ("/".join(steps[:count]) for count in range(1, len(steps))))
+
+
+@dataclass(frozen=True)
+class Difference:
+    """What is read otherwise, and what is written in its place. `part` is in the line of the old text."""
+
+    part: str
+    otherwise: str
+    now: str
+
+
+@dataclass
+class Mended:
+    """Defaults that the program reads as Jekyll does the old ones, and how they differ from these."""
+
+    defaults: list[object]
+    differences: list[Difference] = field(default_factory=list)
+
+    def tell(self, part: str, otherwise: str, now: str) -> None:
+        self.differences.append(Difference(part, otherwise, now))
+
+
+def mend(defaults: list, files: list[str], types: list[str]) -> Mended:
+    """`types` are the types that the site has, the names of its collections among them."""
+    mended = Mended([])
+    for entry in defaults:
+        if not isinstance(entry, dict) or not isinstance(entry.get("values"), dict):
+            mended.tell("", "an entry of defaults has no values, and does nothing in Jekyll", "it is taken out")
+            continue
+        scope = entry.get("scope")
+        if not isinstance(scope, dict):
+            mended.tell("", "an entry of defaults has no scope, and is for all files in Jekyll", "its path is empty now")
+            scope = {}
+        mended.defaults += mend_entry(entry["values"], scope, files, types, mended)
+    return mended
+
+
+def mend_entry(values: dict, scope: dict, files: list[str], types: list[str], mended: Mended) -> list[dict]:
+    path, kind = scope.get("path"), scope.get("type")
+    if not isinstance(path, str):
+        mended.tell("scope", "a scope has no path, and is for all files in Jekyll", 'its path is "" now')
+        path = ""
+    if kind in OLD_TYPES:
+        mended.tell(f"type: {kind}", f"the type {kind} is an old name", f"it is {OLD_TYPES[kind]} now")
+        kind = OLD_TYPES[kind]
+    if "type" in scope and kind not in types or kind == "drafts" and any(one.startswith("_drafts/") for one in files):
+        mended.tell(f"{kind}", f"the type {kind} is for nothing in Jekyll", "its defaults are taken out")
+        return []
+    if "published" in values and kind == "pages":
+        mended.tell("published", "published of defaults says nothing of pages in Jekyll", "it is taken out")
+        values = {key: value for key, value in values.items() if key != "published"}
+    elif "published" in values and values["published"] is None:
+        mended.tell("published", "published has no value, which Jekyll takes for false", "it is false now")
+        values = {**values, "published": False}
+    paths = paths_of(path, files)
+    if paths != [path]:
+        what = "is a glob" if "*" in path else "is the front of a path in Jekyll"
+        mended.tell(path, f'the scope "{path}" {what}', f"it names now: {shortened(paths)}; a new file of that kind has to be added")
+    return [
+        {"scope": {"path": one, **({"type": kind} if kind is not None else {})}, "values": values} for one in paths
+    ]
+
+
+def paths_of(scope: str, files: list[str]) -> list[str]:
+    """The paths that the program takes for what Jekyll takes the scope for: the scope alone when it means the same."""
+    if not scope:
+        return [scope]
+    wanted = [path for path in files if covers_in_jekyll(scope, path)]
+    same = "*" not in scope and not scope.startswith("/")
+    if same and all(names(scope, path) for path in wanted):
+        return [scope]
+    found = [scope] if same and any(names(scope, path) for path in wanted) else []
+    for path in wanted:
+        if any(names(one, path) for one in found):
+            continue
+        steps = path.split("/")
+        folders = ("/".join(steps[:count]) for count in range(1, len(steps)))
+        found.append(next((one for one in folders if covers_in_jekyll(scope, f"{one}/{ANY_NAME}")), path))
+    return found
+
+
+def published_by_defaults(defaults: list, path: str, kind: Optional[str]) -> bool:
+    """Whether Jekyll lets a copied file come out: its defaults say so, which do not reach it here. `path` is that of its address."""
+    merged: dict = {}
+    before: Optional[dict] = None
+    for entry in defaults:
+        if not isinstance(entry, dict) or not isinstance(entry.get("values"), dict):
+            continue
+        scope = entry["scope"] if isinstance(entry.get("scope"), dict) else {}
+        if "type" in scope and OLD_TYPES.get(scope["type"], scope["type"]) != kind or not covers_in_jekyll(path_of(scope), path):
+            continue
+        if before is None or comes_after(scope, before):
+            merged, before = merge(merged, entry["values"]), scope
+        else:
+            merged = merge(entry["values"], merged)
+    return bool(merged.get("published", True))
+
+
+def path_of(scope: dict) -> str:
+    return scope["path"] if isinstance(scope.get("path"), str) else ""
+
+
+def comes_after(scope: dict, before: dict) -> bool:
+    """Whether Jekyll lets this scope win over the one before."""
+    if len(path_of(scope)) != len(path_of(before)):
+        return len(path_of(scope)) > len(path_of(before))
+    return "type" in scope or "type" not in before
+
+
+def merge(under: dict, over: dict) -> dict:
+    """The values of both; what has no value hides nothing."""
+    return {**under, **{key: value for key, value in over.items() if value is not None or key not in under}}

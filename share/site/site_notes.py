@@ -1,0 +1,126 @@
+"""A site as the notes look at it, and the lines that they say."""
+from __future__ import annotations
+
+import os
+import re
+from dataclasses import dataclass, field
+from pathlib import Path
+from typing import Optional
+
+from adopt_settings import collections_of, plugins_of, texts
+from configuration import Settings
+from kept_back import Program
+from site_files import begins_with_mark, front_matter, line_of, list_files, read_text, read_values
+
+CONFIG = "_config.yml"
+DECIMAL = re.compile(r"^([\w-]+)[ \t]*:[ \t]*-?\d+\.\d+[ \t]*(?:#.*)?\r?$", re.M)
+
+
+@dataclass
+class Notes:
+    """The lines, by kind. Of each kind the first place is named, and the other files are counted."""
+
+    first: dict[str, str] = field(default_factory=dict)
+    files: dict[str, set[str]] = field(default_factory=dict)
+
+    def add(self, path: str, line: int, what: str, remedy: str) -> None:
+        said = f"{what}; {remedy}"
+        self.first.setdefault(said, f"{path}:{line}" if line else path)
+        self.files.setdefault(said, set()).add(path)
+
+    def lines(self) -> list[str]:
+        told = []
+        for said, place in self.first.items():
+            more = len(self.files[said]) - 1
+            told.append(f"{place}: {said}" + (f" (and in {more} more file{'s' if more > 1 else ''})" if more else ""))
+        return told
+
+
+@dataclass
+class Item:
+    """A page, a post, a document or a layout: a file with front matter."""
+
+    path: str
+    text: str
+    values: dict
+    body: int
+
+    def line_of_key(self, key: str) -> int:
+        """The line of a key of the front matter; 1 where it has no line of its own."""
+        found = re.search(rf"^{re.escape(key)}[ \t]*:", self.text[: self.body], re.M)
+        return line_of(self.text, found.start()) if found else 1
+
+
+@dataclass
+class Site:
+    """A site as the notes look at it."""
+
+    folder: Path
+    files: list[str]
+    # Those of them that are left out by nothing.
+    looked_at: list[str]
+    links: list[str]
+    config: dict
+    settings: Settings
+    items: list[Item] = field(default_factory=list)
+    # Texts of the includes, and of layouts without front matter.
+    plain: dict[str, str] = field(default_factory=dict)
+    found_decimals: Optional[set[str]] = None
+    found_plugins: Optional[list[str]] = None
+
+    def list_of(self, key: str) -> list:
+        given = self.config.get(key)
+        return given if isinstance(given, list) else []
+
+    def collections(self) -> list[str]:
+        return collections_of(self.config)
+
+    def plugins(self) -> list[str]:
+        if self.found_plugins is None:
+            self.found_plugins = plugins_of(self.config, self.folder)
+        return self.found_plugins
+
+    def defaults(self) -> list[dict]:
+        return [one for one in self.list_of("defaults") if isinstance(one, dict) and isinstance(one.get("values"), dict)]
+
+    def decimals(self) -> set[str]:
+        """The keys of front matter that have a decimal somewhere."""
+        if self.found_decimals is None:
+            self.found_decimals = {key for item in self.items for key in DECIMAL.findall(item.text[: item.body])}
+        return self.found_decimals
+
+    def copied_of_collections(self) -> bool:
+        """Whether a collection has files without front matter."""
+        items = {item.path for item in self.items}
+        folders = tuple(f"_{name}/" for name in self.collections() if name != "posts")
+        return any(path.startswith(folders) and path not in items for path in self.looked_at) if folders else False
+
+    def is_markdown(self, path: str) -> bool:
+        endings = str(self.config.get("markdown_ext") or "markdown,mkdown,mkdn,mkd,md").split(",")
+        return os.path.splitext(path)[1][1:] in [ending.strip() for ending in endings]
+
+
+def read_site(folder: Path, program: str) -> Site:
+    """Reads all that the notes look at. What has a fault is passed over: the program tells it."""
+    found = list_files(folder)
+    text = read_text(folder / CONFIG) if CONFIG in found.files else ""
+    config = read_values(program, {CONFIG: text}).of.get(CONFIG)
+    site = Site(folder, found.files, [], found.links, config if isinstance(config, dict) else {}, Settings(text))
+    begun: dict[str, str] = {}
+    rules = Program(texts(site.config.get("include")), texts(site.config.get("exclude")))
+    for path in found.files:
+        if not path.startswith(("_includes/", "_layouts/")) and rules.is_excluded(path):
+            continue
+        site.looked_at.append(path)
+        has_mark = begins_with_mark(folder / path)
+        if path.startswith("_includes/") or path.startswith("_layouts/") and not has_mark:
+            site.plain[path] = read_text(folder / path)
+        elif has_mark and not path.startswith("_data/"):
+            begun[path] = read_text(folder / path)
+    heads = {path: match for path, match in ((path, front_matter(text)) for path, text in begun.items()) if match}
+    values = read_values(program, {path: "---\n" + match[1] for path, match in heads.items()}).of
+    for path, match in heads.items():
+        value = values.get(path)
+        site.items.append(Item(path, begun[path], value if isinstance(value, dict) else {}, match.end()))
+    return site
+
