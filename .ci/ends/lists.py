@@ -15,9 +15,8 @@ from room import Ran, Room, case, tree
 
 # Makes and removes names in a folder and in one below it, as fast as it can.
 CHURN = """
-import os, sys
+import contextlib, os, sys
 kind = sys.argv[1]
-os.makedirs('deep/er', exist_ok=True)
 def files(name):
     os.close(os.open(name, os.O_WRONLY | os.O_CREAT))
     os.unlink(name)
@@ -31,11 +30,10 @@ turn = {'files': files, 'folders': folders, 'links': links}[kind]
 while True:
     for number in range(30):
         for folder in ('', 'deep/', 'deep/er/'):
-            try:
-                turn(f'{folder}{kind}{number}')
-            except OSError:
-                # The program was there first, or took the empty folder away.
+            # The program may be there first, and takes empty folders away.
+            with contextlib.suppress(OSError):
                 os.makedirs('deep/er', exist_ok=True)
+                turn(f'{folder}{kind}{number}')
 """
 
 

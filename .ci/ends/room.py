@@ -22,21 +22,22 @@ class PassedOver(Exception):
 
 @dataclass(frozen=True)
 class Case:
-    """What is to happen, what tries it, and the seconds after which it counts as hanging."""
+    """What is to happen, what tries it, the seconds after which it counts as hanging, and whether its folder is in memory where that can be."""
 
     name: str
     play: Callable[[Room], None]
     seconds: float
+    in_memory: bool
 
 
 CASES: list[Case] = []
 
 
-def case(name: str, seconds: float = 10) -> Callable[[Callable[[Room], None]], Callable[[Room], None]]:
+def case(name: str, seconds: float = 10, in_memory: bool = False) -> Callable[[Callable[[Room], None]], Callable[[Room], None]]:
     """Enters a function as the case of this name."""
 
     def enter(play: Callable[[Room], None]) -> Callable[[Room], None]:
-        CASES.append(Case(name, play, seconds))
+        CASES.append(Case(name, play, seconds, in_memory))
         return play
 
     return enter
