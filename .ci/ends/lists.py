@@ -126,6 +126,14 @@ def kept_file_in_the_way(room: Room) -> None:
     room.has("x/y/mine.txt", "mine")
 
 
+@case("a kept file above a page's place stays, and the page is marked")
+def kept_file_above(room: Room) -> None:
+    room.make({"_config.yml": "keep_files: [x]\n", "x/y.txt": "y", "b.txt": "b", "_site/x": "mine"})
+    room.is_marked(room.once(), "x/y.txt")
+    room.has("x", "mine")
+    room.has("b.txt", "b")
+
+
 @case("empty folders that come to a page's place in a session are removed")
 def empty_folders_in_a_session(room: Room) -> None:
     room.make({"page.txt": "old"})
@@ -141,10 +149,46 @@ def empty_folders_in_a_session(room: Room) -> None:
 
 @case("other empty folders go when the build is done; kept ones, .git's and _site itself stay")
 def empty_folders_elsewhere(room: Room) -> None:
-    room.make({"_config.yml": "keep_files: [k]\n", "a/b.txt": "b", "_site/e/f/g/": "", "_site/e/h/": "", "_site/a/e/": "", "_site/k/l/m/": "", "_site/.git/refs/": ""})
+    empty = ("e/f/g", "e/h", "a/e", "k/l/m", "d/e", "d/f", "u/v", ".git/refs")
+    room.make({"_config.yml": "keep_files: [k, d/e, u/]\n", "a/b.txt": "b", **{f"_site/{folder}/": "" for folder in empty}})
     room.is_built(room.once())
     folders = sorted(path for path, what in tree(room.out).items() if what == "a folder")
-    room.same("the folders in _site", [".git", ".git/refs", "a", "k", "k/l", "k/l/m"], folders)
+    room.same("the folders in _site", [".git", ".git/refs", "a", "d", "d/e", "k", "k/l", "k/l/m", "u", "u/v"], folders)
+
+
+@case("empty folders behind a link are not removed")
+def empty_folders_behind_a_link(room: Room) -> None:
+    (room.outside / "e/f").mkdir(parents=True)
+    room.make({"_config.yml": "keep_files: [l]\n", "page.txt": "old", "a/b.txt": "b", "_site/": ""})
+    before = tree(room.outside)
+    (room.out / "l").symlink_to("../../outside")
+    room.is_built(room.once())
+    with room.session() as session:
+        session.scans_and_builds()
+        (room.out / "more").symlink_to("../../outside")
+        (room.out / "a/more").symlink_to("../../../outside")
+        session.put("page.txt", "new")
+        session.ask("delete a/b.txt")
+        session.builds()
+        room.same("the status of the session", 0, session.end().status)
+    room.same_tree("outside", before, room.outside)
+
+
+@case("a folder in the way with a link in it, that comes in a session, stays, and the page is marked")
+def link_in_a_folder_in_the_way(room: Room) -> None:
+    (room.outside / "e/f").mkdir(parents=True)
+    before = tree(room.outside)
+    room.make({"page.txt": "old"})
+    with room.session() as session:
+        session.scans_and_builds()
+        (room.out / "page.txt").unlink()
+        room.make({"_site/page.txt/e/": ""})
+        (room.out / "page.txt/l").symlink_to("../../../outside")
+        session.put("page.txt", "new")
+        session.marks("page.txt")
+        room.same("the status of the session", 0, session.end().status)
+    room.same_tree("outside", before, room.outside)
+    room.same("what is in the way", True, (room.out / "page.txt/l").is_symlink())
 
 
 @case("_site stays when nothing is in it")

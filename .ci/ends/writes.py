@@ -59,7 +59,7 @@ def same_bytes_without_rights(room: Room) -> None:
 def page_that_cannot_be_read(room: Room) -> None:
     room.make({"page.txt": "new", "_site/page.txt": "old"})
     room.open_to_all()
-    (room.out / "page.txt").chmod(0o200)
+    (room.out / "page.txt").chmod(0o222)
     room.is_built(room.once(under=room.unprivileged))
     (room.out / "page.txt").chmod(0o600)
     room.has("page.txt", "new")
