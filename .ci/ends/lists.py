@@ -159,9 +159,10 @@ def empty_folders_elsewhere(room: Room) -> None:
 @case("empty folders behind a link are not removed")
 def empty_folders_behind_a_link(room: Room) -> None:
     (room.outside / "e/f").mkdir(parents=True)
-    room.make({"_config.yml": "keep_files: [l]\n", "page.txt": "old", "a/b.txt": "b", "_site/": ""})
+    room.make({"_config.yml": "keep_files: [l, k/m]\n", "page.txt": "old", "a/b.txt": "b", "_site/k/e/": ""})
     before = tree(room.outside)
     (room.out / "l").symlink_to("../../outside")
+    (room.out / "k/m").symlink_to("../../../outside")
     room.is_built(room.once())
     with room.session() as session:
         session.scans_and_builds()

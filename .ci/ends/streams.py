@@ -1,6 +1,7 @@
 """Standard input and output that vanish, are closed, are full, or do not block."""
 from __future__ import annotations
 
+import fcntl
 import os
 import subprocess
 import time
@@ -9,13 +10,15 @@ from typing import Iterable, Iterator, Optional
 
 from room import Ran, Room, case
 
+F_SETPIPE_SZ = 1031
 SCRIPT = b"scan\nbuild\nend\n"
 
 
 @contextmanager
 def pipe() -> Iterator[tuple[int, int]]:
-    """The two ends of a pipe; each may be closed before."""
+    """The two ends of a pipe that holds 4 KiB; each may be closed before."""
     ends = os.pipe()
+    fcntl.fcntl(ends[1], F_SETPIPE_SZ, 4096)
     try:
         yield ends
     finally:
@@ -152,21 +155,21 @@ def slow_reader(room: Room, script: bytes, is_read: bool) -> tuple[Optional[int]
 
 @case("a standard output that does not block is waited for when it is full, without work")
 def output_that_does_not_block(room: Room) -> None:
-    status, got, worked = slow_reader(room, b"time 1\n" * 60000, True)
+    status, got, worked = slow_reader(room, b"time 1\n" * 6000, True)
     room.same("less than 0.5 processor seconds while it waited", True, worked < 0.5)
     room.same("the status", 0, status)
-    room.same("the replies", True, got == b"ok\n" * 60000)
+    room.same("the replies", True, got == b"ok\n" * 6000)
 
 
 @case("a reader that vanishes while it is waited for gives status 6")
 def reader_that_vanishes_while_waited_for(room: Room) -> None:
-    status, _, _ = slow_reader(room, b"time 1\n" * 60000, False)
+    status, _, _ = slow_reader(room, b"time 1\n" * 6000, False)
     room.same("the status", 6, status)
 
 
 @case("a standard output that does not block gets all replies of a build")
 def output_of_a_build_that_does_not_block(room: Room) -> None:
-    room.make({f"{number:04}.html": "---\n---\nx" for number in range(3000)})
+    room.make({f"{number:03}.html": "---\n---\nx" for number in range(800)})
     with pipe() as (reading, writing):
         os.set_blocking(writing, False)
         process = room.start(["build", "--why"], stdout=writing)
@@ -176,4 +179,4 @@ def output_of_a_build_that_does_not_block(room: Room) -> None:
             got = file.read()
         process.communicate()
     room.same("the status", 0, process.returncode)
-    room.same("the number of replies", 3002, got.count(b"\n"))
+    room.same("the number of replies", 802, got.count(b"\n"))
