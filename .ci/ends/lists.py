@@ -9,7 +9,7 @@ from pathlib import Path
 from typing import Iterable
 
 from folders import lengthen
-from room import Ran, Room, case, tree
+from room import Ran, Room, case, described, tree
 
 # ---- names that vanish
 
@@ -198,6 +198,16 @@ def empty_site_stays(room: Room) -> None:
     room.is_built(room.once())
     room.same("_site", "a folder", "a folder" if room.out.is_dir() else "nothing")
     room.same("what is in it", {}, tree(room.out))
+
+
+@case("a site with a fault makes no _site, and takes nothing out of one")
+def fault_makes_no_site(room: Room) -> None:
+    room.make({"page.html": "---\n---\n{% none %}\n"})
+    room.ends(room.once(), 1, "scanned 1", "fault F11 1 page.html")
+    room.same("_site", "nothing", described(room.out))
+    room.make({"_site/e/": "", "_site/old.txt": "old"})
+    room.ends(room.once(), 1, "scanned 1", "fault F11 1 page.html")
+    room.same("what is in _site", ["e", "old.txt"], sorted(tree(room.out)))
 
 
 @case("an empty folder that a process stands in is no failure")

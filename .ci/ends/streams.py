@@ -3,6 +3,7 @@ from __future__ import annotations
 
 import fcntl
 import os
+import signal
 import subprocess
 import time
 from contextlib import contextmanager, suppress
@@ -116,7 +117,11 @@ def input_that_does_not_block(room: Room) -> None:
         time.sleep(0.3)
         with suppress(BrokenPipeError):
             os.write(writing, b"sc")
-            time.sleep(0.3)
+            time.sleep(0.2)
+            # Whoever stops a program from the keyboard and lets it go on does not end it.
+            for number in (signal.SIGSTOP, signal.SIGCONT):
+                process.send_signal(number)
+                time.sleep(0.1)
             waited = seconds_of(process.pid)
             os.write(writing, b"an\nbuild\nput page.txt 5\nne")
             time.sleep(0.1)

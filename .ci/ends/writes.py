@@ -163,16 +163,40 @@ def modes_by_umask(room: Room) -> None:
         room.same(f"the mode of {path}", "644", f"{(room.out / path).stat().st_mode & 0o777:o}")
 
 
-@case("the mode that a page was given in _site stays when its bytes change")
-def modes_stay(room: Room) -> None:
+def rights(room: Room, path: str) -> str:
+    """The mode, the owner and the group of a page."""
+    there = (room.out / path).stat()
+    return f"{there.st_mode & 0o7777:o} {there.st_uid}:{there.st_gid}"
+
+
+@case("the mode, the owner and the group that a page was given in _site stay when its bytes change")
+def rights_stay(room: Room) -> None:
+    paths = ("run.cgi", "long.cgi")
     room.make({"run.cgi": "#!old", "long.cgi": "o" * 100000})
     room.is_built(room.once())
-    for path in ("run.cgi", "long.cgi"):
+    for path in paths:
+        if os.geteuid() == 0:
+            os.chown(room.out / path, 1234, 4321)
         (room.out / path).chmod(0o750)
+    before = [rights(room, path) for path in paths]
     room.make({"run.cgi": "#!new", "long.cgi": "n" * 100000})
     room.is_built(room.once())
-    for path in ("run.cgi", "long.cgi"):
-        room.same(f"the mode of {path}", "750", f"{(room.out / path).stat().st_mode & 0o777:o}")
+    room.same("the rights of both", before, [rights(room, path) for path in paths])
+    room.has("long.cgi", "n" * 100000)
+
+
+# The file that takes its place is the one's who builds, and its bytes come from the site.
+@case("a page that takes the place of another takes no setuid and no setgid from it")
+def rights_that_are_not_taken(room: Room) -> None:
+    room.make({"run": "o" * 100000, "linked": "old"})
+    room.is_built(room.once())
+    os.link(room.out / "linked", room.outside / "linked")
+    for path in ("run", "linked"):
+        (room.out / path).chmod(0o6755)
+    room.make({"run": "n" * 100000, "linked": "new"})
+    room.is_built(room.once())
+    for path in ("run", "linked"):
+        room.same(f"setuid and setgid of {path}", 0, (room.out / path).stat().st_mode & 0o6000)
 
 
 @case("a page with a name of more than 255 bytes is marked, and the others are right")
