@@ -69,6 +69,9 @@ def refused_in_turn(script: str, goes_on: bool, room: Room) -> None:
     room.is_built(run_refused(room, library, 0, script, goes_on))
     if room.differences:
         return
+    renew_output(room)
+    if run_refused(room, library, 1, script, True).status == 0:
+        raise PassedOver("this program does not take its memory by the C library's malloc")
     statuses, well = Counter(), 0
     for number in range(1, MOST):
         renew_output(room)
@@ -79,7 +82,7 @@ def refused_in_turn(script: str, goes_on: bool, room: Room) -> None:
         well = well + 1 if ran.status == 0 else 0
         if well == ENOUGH:
             break
-    room.same(f"whether growths were refused, and all of them ({dict(statuses)})", (True, True), (statuses[8] > 0, well == ENOUGH))
+    room.same(f"whether all growths were refused ({dict(statuses)})", ENOUGH, well)
 
 
 for name, script in (("once", ""), ("a session", SCRIPT)):
@@ -101,4 +104,6 @@ def address_space(room: Room) -> None:
         statuses[process.returncode] += 1
         room.same(f"with {size} KiB: whether the status is 0 or 8", True, process.returncode in (0, 8))
         room.same(f"with {size} KiB: whether a fault is replied", False, "fault" in text_of(replies))
+    if not statuses:
+        raise PassedOver("this program cannot be started in so little memory")
     room.same(f"whether both came ({dict(statuses)})", {0, 8}, set(statuses))

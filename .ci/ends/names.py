@@ -68,13 +68,15 @@ case("a bad name below what exclude names is passed over")(partial(is_passed_ove
 case("a bad name below what is always excluded is passed over")(partial(is_passed_over, {"vendor/bundle/a\tb": "x"}))
 
 
-@case("a fifo and a link with bad names are passed over")
-def special_with_a_bad_name(room: Room) -> None:
+def link_is_passed_over(name: str, room: Room) -> None:
     room.make({"b.txt": "b"})
-    (room.site / "a\tb").symlink_to("b.txt")
-    (room.site / "caf\udce9").symlink_to("b.txt")
+    (room.site / name).symlink_to("b.txt")
     room.is_built(room.once())
     room.has("b.txt", "b")
+
+
+case("a link with a tab in its name is passed over")(partial(link_is_passed_over, "a\tb"))
+case("a link with a name that is not UTF-8 is passed over")(partial(link_is_passed_over, "caf\udce9"))
 
 
 # ---- what is shown, and what is replied

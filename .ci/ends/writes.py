@@ -321,21 +321,28 @@ def file_size_limit(room: Room) -> None:
 
 
 PAGES = 160
-# The texts of both states; the second is longer, so that some pages need more blocks, and all others fewer or as many.
-TEXTS = ("old text. " * 5, "a new text " * 5)
+# The two includes of both states. The second are longer, so that some pages need more blocks, and others as many.
+SHORT = ("old text. " * 5, "a new text " * 5)
+LONG = ("old lines\n" * 500, "a new line\n" * 500)
 
 
-def times(number: int) -> int:
-    """How often a page has the text: most are of one block, some of several, a few are too long to be written over."""
-    return 1500 if number % 40 == 0 else 80 if number % 4 == 0 else 200 if number % 5 == 0 else number % 35
+def parts(number: int) -> tuple[int, int]:
+    """How often a page has the short text and the long one: most are of one block, some of several, a few are too long to be written over."""
+    return number % 35, 15 if number % 40 == 0 else 1 + number % 7 if number % 4 == 0 else 0
 
 
 def page(number: int, state: int) -> str:
-    return TEXTS[state] * times(number) + f"{number}\n"
+    short, long = parts(number)
+    return SHORT[state] * short + LONG[state] * long + f"{number}\n"
+
+
+def source_of(number: int) -> str:
+    short, long = parts(number)
+    return "---\n---\n" + "{% include short %}" * short + "{% include long %}" * long + f"{number}\n"
 
 
 def make_state(room: Room, state: int) -> None:
-    room.make({"_includes/text": TEXTS[state]})
+    room.make({"_includes/short": SHORT[state], "_includes/long": LONG[state]})
 
 
 def torn(room: Room) -> list[str]:
@@ -366,7 +373,7 @@ def after_a_build(room: Room, state: int) -> None:
 
 @case("200 kills in the middle of a build: at most one page is neither old nor new, and the next build mends it", 40)
 def kills(room: Room) -> None:
-    room.make({f"{number}.txt": f"---\n---\n{'{% include text %}' * times(number)}{number}\n" for number in range(PAGES)})
+    room.make({f"{number}.txt": source_of(number) for number in range(PAGES)})
     make_state(room, 0)
     room.is_built(room.once())
     started = time.monotonic()
