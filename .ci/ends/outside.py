@@ -1,17 +1,13 @@
-"""Nothing outside of the output is touched: links, `.git`, and what is neither a file nor a folder."""
+"""Nothing outside of the output is touched: links at its place and in it."""
 from __future__ import annotations
 
 import os
 import shutil
-import socket
-import stat
 from functools import partial
 from pathlib import Path
-from typing import Callable
 
-from room import PassedOver, Room, case, needs_root, tree
-
-Make = Callable[[Path], None]
+from room import Room, case, tree
+from special import SPECIAL, Make
 
 
 def make_link(target: str, place: Path) -> None:
@@ -21,24 +17,6 @@ def make_link(target: str, place: Path) -> None:
 def make_file(place: Path) -> None:
     place.write_text("mine")
 
-
-def make_socket(place: Path) -> None:
-    # The path of a socket is short, so it is made from its folder.
-    os.chdir(place.parent)
-    with socket.socket(socket.AF_UNIX) as it:
-        it.bind(place.name)
-
-
-def make_device(place: Path) -> None:
-    """One that takes all that is written, as /dev/null."""
-    needs_root()
-    try:
-        os.mknod(place, stat.S_IFCHR | 0o666, os.makedev(1, 3))
-    except PermissionError as error:
-        raise PassedOver("devices cannot be made here") from error
-
-
-SPECIAL: dict[str, Make] = {"a fifo": os.mkfifo, "a socket": make_socket, "a device": make_device}
 
 # ---- _site is no folder
 
@@ -69,6 +47,7 @@ for name, make in LINKS.items():
 case("_site is a file: its list fails, and nothing is touched")(partial(site_is, make_file, r"_site.*\b(a file|no folder)\b"))
 for name, make in SPECIAL.items():
     case(f"_site is {name}: its list fails, and nothing is touched")(partial(site_is, make, "_site"))
+
 
 # ---- links in _site
 
@@ -199,133 +178,3 @@ def hard_links(room: Room) -> None:
     room.has("source.txt", "a source")
     room.same("the source page.txt", "new!", (room.site / "page.txt").read_text())
     room.same_tree("outside", before, room.outside)
-
-
-# ---- .git
-
-GIT = {"_site/.git/config": "mine", "_site/.git/objects/12/34": "mine", "_site/.git/refs/tags/": ""}
-
-
-def git_page(path: str, text: str = "new") -> dict[str, str]:
-    """A source that has its page at this path of the output."""
-    return {"page": f"---\npermalink: /{path}\n---\n{text}"}
-
-
-@case("a page at .git/config is not written, but marked with a sentence of its own")
-def page_in_git(room: Room) -> None:
-    room.make({**GIT, **git_page(".git/config"), "b.txt": "b"})
-    before = tree(room.out / ".git")
-    ran = room.once()
-    room.is_marked(ran, ".git/config")
-    room.matches("standard error", r"\.git\b", ran.said)
-    room.has("b.txt", "b")
-    room.same_tree("_site/.git", before, room.out / ".git")
-
-
-@case("a page at .git/config is marked where there is no .git, and none is made")
-def page_in_no_git(room: Room) -> None:
-    room.make(git_page(".git/config"))
-    ran = room.once()
-    room.is_marked(ran, ".git/config")
-    room.matches("standard error", r"\.git\b", ran.said)
-    room.lacks(".git")
-
-
-@case("a page below a folder .git deeper in _site is marked, and nothing is made")
-def page_in_deep_git(room: Room) -> None:
-    room.make({**git_page("a/b/.git/hooks/pre-commit"), "a/b/c.txt": "c"})
-    room.is_marked(room.once(), "a/b/.git/hooks/pre-commit")
-    room.has("a/b/c.txt", "c")
-    room.lacks("a/b/.git")
-
-
-@case("a page whose own name is .git is marked")
-def page_named_git(room: Room) -> None:
-    room.make({**git_page(".git"), "_site/.git": "gitdir: ../../outside"})
-    room.is_marked(room.once(), ".git")
-    room.has(".git", "gitdir: ../../outside")
-
-
-@case("names that only begin with .git are pages as others")
-def names_like_git(room: Room) -> None:
-    room.make({"_config.yml": "include: [.gitignore, .github]\n", ".gitignore": "i", ".github/x": "x", **git_page("a/.gitx/y")})
-    room.is_built(room.once())
-    for path, text in {".gitignore": "i", ".github/x": "x", "a/.gitx/y": "new"}.items():
-        room.has(path, text)
-
-
-@case("a page that was marked below .git is no fault any more when its source is gone")
-def page_in_git_goes(room: Room) -> None:
-    room.make({**GIT, **git_page(".git/config")})
-    before = tree(room.out / ".git")
-    with room.session() as session:
-        room.matches("the reply to scan", "^scanned ", session.ask("scan")[0])
-        session.marks(".git/config")
-        session.marks(".git/config")
-        session.ask("delete page")
-        session.builds()
-        room.same("the status of the session", 0, session.end().status)
-    room.same_tree("_site/.git", before, room.out / ".git")
-
-
-@case("_site/.git stays with its empty folders, whatever keep_files says")
-def git_stays(room: Room) -> None:
-    room.make({**GIT, "_config.yml": "keep_files: [other]\n", "b.txt": "b", "_site/old.txt": "old"})
-    before = tree(room.out / ".git")
-    room.is_built(room.once())
-    room.lacks("old.txt")
-    room.same_tree("_site/.git", before, room.out / ".git")
-
-
-@case("a file _site/.git, a worktree's, stays, whatever keep_files says")
-def git_file_stays(room: Room) -> None:
-    room.make({"_config.yml": "keep_files: [other]\n", "b.txt": "b", "_site/.git": "gitdir: ../../outside"})
-    room.is_built(room.once())
-    room.has(".git", "gitdir: ../../outside")
-
-
-@case("_site/.git is not walked: names that no page can have do not matter there")
-def git_is_not_walked(room: Room) -> None:
-    room.make({**GIT, "b.txt": "b", "_site/.git/refs/heads/caf\udce9": "mine", "_site/.git/a\tb": "mine"})
-    before = tree(room.out / ".git")
-    room.is_built(room.once())
-    room.same_tree("_site/.git", before, room.out / ".git")
-
-
-# ---- what is neither a file nor a folder
-
-
-def special_at_a_page(make: Make, room: Room) -> None:
-    room.make({"_config.yml": "keep_files: [kept.txt]\n", "page.txt": "new", "kept.txt": "new", "long.txt": "n" * 100000, "a/b.txt": "b", "_site/": ""})
-    for path in ("page.txt", "kept.txt", "long.txt", "surplus.txt", "a"):
-        make(room.out / path)
-    room.is_built(room.once())
-    for path in ("page.txt", "kept.txt"):
-        room.has(path, "new")
-    room.has("long.txt", "n" * 100000)
-    room.has("a/b.txt", "b")
-    room.lacks("surplus.txt")
-
-
-def special_in_a_session(make: Make, room: Room) -> None:
-    room.make({"page.txt": "old"})
-    with room.session() as session:
-        session.scans_and_builds()
-        (room.out / "page.txt").unlink()
-        make(room.out / "page.txt")
-        session.put("page.txt", "new")
-        session.builds()
-        room.same("the status of the session", 0, session.end().status)
-    room.has("page.txt", "new")
-
-
-def special_in_the_source(make: Make, room: Room) -> None:
-    room.make({"page.txt": "new"})
-    make(room.site / "special")
-    room.ends(room.once(), 0, "scanned 1", "built rendered=0 reused=0 written=1 removed=0")
-
-
-for name, make in SPECIAL.items():
-    case(f"{name} at a page's place, above one, or besides, is removed and replaced")(partial(special_at_a_page, make))
-    case(f"{name} that comes to a page's place in a session is removed and replaced")(partial(special_in_a_session, make))
-    case(f"{name} in the source is passed over")(partial(special_in_the_source, make))

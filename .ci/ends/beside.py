@@ -1,0 +1,90 @@
+"""The name at which a page is written before it takes the place of the old one."""
+from __future__ import annotations
+
+import ctypes
+import os
+import re
+import struct
+from pathlib import Path
+from typing import Callable
+
+from room import Room, case
+
+IN_CREATE, IN_MOVED_TO = 0x100, 0x80
+
+
+def names_made(folder: Path, play: Callable[[], object]) -> set[str]:
+    """The names that come into a folder while something is played."""
+    libc = ctypes.CDLL(None, use_errno=True)
+    watch = libc.inotify_init1(os.O_NONBLOCK)
+    libc.inotify_add_watch(watch, os.fsencode(folder), IN_CREATE | IN_MOVED_TO)
+    play()
+    try:
+        events = os.read(watch, 1 << 20)
+    except BlockingIOError:
+        events = b""
+    at, names = 0, set()
+    while at < len(events):
+        length = struct.unpack_from("iIII", events, at)[3]
+        names.add(os.fsdecode(events[at + 16:at + 16 + length].rstrip(b"\0")))
+        at += 16 + length
+    os.close(watch)
+    return names
+
+
+def name_beside(room: Room) -> str:
+    """The name by which pages are written beside: it comes into _site besides the pages'. Empty where there is none."""
+    room.make({"a.txt": "o" * 100000, "b/c.txt": "o" * 100000})
+    room.is_built(room.once())
+    room.make({"a.txt": "n" * 100000, "b/c.txt": "n" * 100000})
+    made = names_made(room.out, lambda: room.is_built(room.once())) - {"a.txt"}
+    if len(made) != 1:
+        room.differs("the names that came into _site", "one besides the pages'", sorted(made))
+    return made.pop() if made else ""
+
+
+@case("the name beside is one at the top of _site that no page can have, and does not stay")
+def the_name_beside(room: Room) -> None:
+    beside = name_beside(room)
+    room.same(f"whether {beside!r} has a control character", True, bool(re.search("[\x01-\x1f\x7f]", beside)))
+    room.same("the names in _site", ["a.txt", "b"], sorted(os.listdir(room.out)))
+
+
+LEFT: dict[str, Callable[[Path], None]] = {
+    "a file": lambda place: place.write_text("half a page"),
+    "a link to a file outside": lambda place: place.symlink_to("../../outside/file"),
+    "a link to nothing": lambda place: place.symlink_to("../../outside/nothing"),
+    "a fifo": os.mkfifo,
+}
+
+
+@case("what stands at the name beside is removed by the next run, and no link there is followed")
+def left_beside(room: Room) -> None:
+    (room.outside / "file").write_text("mine")
+    beside = name_beside(room)
+    if not beside:
+        return
+    for what, make in LEFT.items():
+        for text in ("n" * 100000, what * 20000):
+            make(room.out / beside)
+            room.make({"a.txt": text})
+            room.is_built(room.once())
+            room.has("a.txt", text)
+            room.same(f"the names in _site, where {what} stood beside", ["a.txt", "b"], sorted(os.listdir(room.out)))
+            room.same("the names outside", ["file"], os.listdir(room.outside))
+            room.same("the file outside", "mine", (room.outside / "file").read_text())
+
+
+@case("a link that comes to the name beside in a session is not followed")
+def link_beside_in_a_session(room: Room) -> None:
+    (room.outside / "file").write_text("mine")
+    beside = name_beside(room)
+    if not beside:
+        return
+    with room.session() as session:
+        session.scans_and_builds()
+        (room.out / beside).symlink_to("../../outside/file")
+        session.put("a.txt", "m" * 100000)
+        replies = session.ask("build")
+        room.same("whether the page is written or marked", True, replies[0].startswith("built ") or replies == ["out-fault 1", "marked a.txt"])
+    room.same("the file outside", "mine", (room.outside / "file").read_text())
