@@ -63,28 +63,28 @@ def all_are_built(room: Room, runs: Iterable[Ran]) -> None:
     room.same("whether there were runs", True, count > 0)
 
 
-@case("names that vanish while _site is listed are passed over, and no old file stays", 15)
+@case("names that vanish while _site is listed are passed over, and no old file stays", 15, in_memory=True)
 def names_vanish_in_the_output(room: Room) -> None:
     room.make({"page.txt": "new", "a/b.txt": "b"})
     all_are_built(room, churned(room, room.out, ("files", "folders", "links"), 2))
     room.has("a/b.txt", "b")
 
 
-@case("folders and links that vanish while the source is listed are passed over", 15)
+@case("folders and links that vanish while the source is listed are passed over", 15, in_memory=True)
 def names_vanish_in_the_source(room: Room) -> None:
     room.make({"page.txt": "new", "a/b.txt": "b"})
     all_are_built(room, churned(room, room.site / "busy", ("folders", "links"), 1.5))
     room.has("a/b.txt", "b")
 
 
-@case("files that vanish while the source is scanned are passed over", 15)
+@case("files that vanish while the source is scanned are passed over", 15, in_memory=True)
 def files_vanish_in_the_source(room: Room) -> None:
     room.make({"page.txt": "new", "a/b.txt": "b"})
     all_are_built(room, churned(room, room.site / "busy", ("files",), 1.5))
     room.has("a/b.txt", "b")
 
 
-@case("folders that vanish at the top of the source are passed over", 15)
+@case("folders that vanish at the top of the source are passed over", 15, in_memory=True)
 def names_vanish_at_the_top(room: Room) -> None:
     room.make({"page.txt": "new"})
     all_are_built(room, churned(room, room.site, ("folders", "links"), 1))

@@ -20,7 +20,7 @@ def make_chain(folder: Path, depth: int, file: str = "") -> None:
     os.chdir("/")
 
 
-@case("a chain of 3,000 folders in the source, with nothing in them, is no fault and takes no time", 5)
+@case("a chain of 3,000 folders in the source, with nothing in them, is no fault and takes no time", 5, in_memory=True)
 def chain_in_the_source(room: Room) -> None:
     room.make({"page.txt": "new"})
     make_chain(room.site, 3000)
@@ -28,7 +28,7 @@ def chain_in_the_source(room: Room) -> None:
     room.has("page.txt", "new")
 
 
-@case("a file at the end of 3,000 folders fails the scan by name, or counts as nothing", 5)
+@case("a file at the end of 3,000 folders fails the scan by name, or counts as nothing", 5, in_memory=True)
 def file_at_the_end_of_a_chain(room: Room) -> None:
     room.make({"page.txt": "new"})
     make_chain(room.site, 3000, "file")
@@ -36,7 +36,7 @@ def file_at_the_end_of_a_chain(room: Room) -> None:
     room.same("whether the end is one of the two", True, (ran.status, ran.lines[-1]) in ((0, "built rendered=0 reused=0 written=1 removed=0"), (3, "scan-fault")))
 
 
-@case("a chain of 3,000 folders in _site is no failure, and takes no time", 5)
+@case("a chain of 3,000 folders in _site is no failure, and takes no time", 5, in_memory=True)
 def chain_in_the_output(room: Room) -> None:
     room.make({"page.txt": "new"})
     make_chain(room.out, 3000)
@@ -45,7 +45,7 @@ def chain_in_the_output(room: Room) -> None:
     room.is_built(room.once())
 
 
-@case("a chain of 3,000 folders in the way of a page is removed, or the page marked", 5)
+@case("a chain of 3,000 folders in the way of a page is removed, or the page marked", 5, in_memory=True)
 def chain_in_the_way(room: Room) -> None:
     room.make({"d": "new", "e.txt": "e"})
     make_chain(room.out, 3000)
@@ -77,7 +77,7 @@ def peak(process: int) -> int:
     return 0
 
 
-@case("20,000 folders at the end of a long path take memory by their names and not by their paths", 20)
+@case("20,000 folders at the end of a long path take memory by their names and not by their paths", 20, in_memory=True)
 def memory_of_a_walk(room: Room) -> None:
     within = room.site / "/".join(["f" * 190] * 5)
     within.mkdir(parents=True)
