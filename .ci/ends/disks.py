@@ -102,6 +102,24 @@ def other_disk_within(room: Room) -> None:
         room.has(path, (room.site / path).read_text())
 
 
+@case("a page on another disk within _site, that has a name outside too, is replaced and not written through")
+def other_disk_with_hard_links(room: Room) -> None:
+    own_mounts()
+    disk = room.top / "disk"
+    mount_disk(disk, "1m")
+    for folder in (disk / "m", room.out / "m"):
+        folder.mkdir(parents=True)
+    command("mount", "--bind", disk / "m", room.out / "m")
+    for name in ("page.txt", "long.txt"):
+        (disk / name).write_text("mine")
+        os.link(disk / name, disk / "m" / name)
+    room.make({"m/page.txt": "new!", "m/long.txt": "n" * 80000})
+    room.is_built(room.once())
+    room.has("m/page.txt", "new!")
+    room.has("m/long.txt", "n" * 80000)
+    room.same("the names outside", ["mine", "mine"], [(disk / name).read_text() for name in ("page.txt", "long.txt")])
+
+
 @case("_site on a disk that cannot be written: every path is marked, and what is right is no failure")
 def disk_that_cannot_be_written(room: Room) -> None:
     own_mounts()

@@ -57,13 +57,14 @@ def empty_folders_in_a_session(room: Room) -> None:
     room.has("page.txt", "new")
 
 
-@case("other empty folders go when the build is done; kept ones, .git's and _site itself stay")
+# Some of them may be kept, and Subversion needs some of its own.
+@case("empty folders that are in no page's way stay, and are no failure")
 def empty_folders_elsewhere(room: Room) -> None:
-    empty = ("e/f/g", "e/h", "a/e", "k/l/m", "d/e", "d/f", "u/v", ".git/refs")
-    room.make({"_config.yml": "keep_files: [k, d/e, u/]\n", "a/b.txt": "b", **{f"_site/{folder}/": "" for folder in empty}})
+    empty = ("e/f/g", "e/h", "a/e", "k/l/m", "u/v", ".git/refs", ".svn/tmp")
+    room.make({"_config.yml": "keep_files: [k, u/]\n", "a/b.txt": "b", **{f"_site/{folder}/": "" for folder in empty}})
+    before = set(tree(room.out))
     room.is_built(room.once())
-    folders = sorted(path for path, what in tree(room.out).items() if what == "a folder")
-    room.same("the folders in _site", [".git", ".git/refs", "a", "d", "d/e", "k", "k/l", "k/l/m", "u", "u/v"], folders)
+    room.same("what is in _site", before | {"a/b.txt"}, set(tree(room.out)))
 
 
 @case("empty folders behind a link are not removed")
@@ -102,11 +103,11 @@ def link_in_a_folder_in_the_way(room: Room) -> None:
     room.same("what is in the way", True, (room.out / "page.txt/l").is_symlink())
 
 
-@case("_site stays when nothing is in it")
+@case("_site stays when nothing is in it, and folders that a removal leaves empty go")
 def empty_site_stays(room: Room) -> None:
-    room.make({"_config.yml": "title: T\n", "_site/e/f/": ""})
+    room.make({"_config.yml": "title: T\n", "_site/e/f/old.txt": "old", "_site/old.txt": "old"})
     room.is_built(room.once())
-    room.same("_site", "a folder", "a folder" if room.out.is_dir() else "nothing")
+    room.same("_site", "a folder", described(room.out))
     room.same("what is in it", {}, tree(room.out))
 
 

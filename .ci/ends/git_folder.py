@@ -1,6 +1,8 @@
 """`.git` in the output, which belongs to Git."""
 from __future__ import annotations
 
+import os
+
 from room import Room, case, tree
 
 GIT = {"_site/.git/config": "mine", "_site/.git/objects/12/34": "mine", "_site/.git/refs/tags/": ""}
@@ -90,3 +92,12 @@ def git_is_not_walked(room: Room) -> None:
     before = tree(room.out / ".git")
     room.is_built(room.once())
     room.same_tree("_site/.git", before, room.out / ".git")
+
+
+@case("removed=N counts no file that stays, as one in .GIT")
+def git_in_capitals(room: Room) -> None:
+    room.make({"b.txt": "b", "_site/.GIT/x": "old", "_site/.Git": "old"})
+    ran = room.once()
+    room.is_built(ran)
+    left = sum(os.path.lexists(room.out / path) for path in (".GIT/x", ".Git"))
+    room.matches("the last reply", f" removed={2 - left}$", ran.lines[-1])

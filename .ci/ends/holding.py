@@ -1,7 +1,10 @@
 """Two runs on one output: the second is refused, and goes when the first has ended."""
 from __future__ import annotations
 
-from room import Room, case
+import os
+from contextlib import ExitStack
+
+from room import Room, case, meddling
 
 
 def is_held(room: Room, *words: str) -> None:
@@ -60,3 +63,18 @@ def session_without_a_build(room: Room) -> None:
     with room.session() as first:
         first.ask("scan")
         room.is_built(room.once())
+
+
+@case("of several runs that begin in one moment without a _site, one builds and the others are refused", in_memory=True)
+def runs_in_one_moment(room: Room) -> None:
+    room.make({"page.txt": "new"})
+    # Each waits before it makes a folder, so that all of them have seen that there is none.
+    slow = {**os.environ, "LD_PRELOAD": str(meddling(room)), "SLOW_MKDIR": "300000"}
+    with ExitStack() as stack:
+        sessions = [stack.enter_context(room.session(env=slow)) for _ in range(4)]
+        for session in sessions:
+            session.ask("scan")
+        for session in sessions:
+            session.send("build")
+        replies = sorted(session.reply()[0].split()[0] for session in sessions)
+    room.same("the replies", ["built", "out-fault", "out-fault", "out-fault"], replies)

@@ -8,7 +8,7 @@ from collections import Counter
 from functools import partial
 from pathlib import Path
 
-from room import PassedOver, Ran, Room, case, text_of
+from room import PassedOver, Ran, Room, case, meddling, text_of
 
 # So many runs one after another that went well: the growths that are refused lie behind the last.
 ENOUGH = 40
@@ -25,20 +25,6 @@ SOURCE = {
 }
 OUTPUT = {"same.txt": "same", "short.txt": "old", "surplus/old.txt": "old", "way/e/": "", "kept/k": "mine"}
 SCRIPT = "scan\nbuild\nput short.txt 5\nnewerput more/x.txt 1\nxdelete a/b/page.html\nscan\nbuild\nend\n"
-
-
-def refusing(room: Room) -> Path:
-    """The library that refuses memory."""
-    compiler = shutil.which("cc") or shutil.which("gcc") or shutil.which("clang")
-    if not compiler:
-        raise PassedOver("it needs a compiler of C")
-    # Beside the program: what lies in memory is not run on some machines.
-    made = room.program.with_name(f"refuse{room.top.name}.so")
-    source = Path(__file__).with_name("refuse.c")
-    ran = subprocess.run([compiler, "-shared", "-fPIC", "-O1", "-o", made, source], stderr=subprocess.PIPE, text=True)
-    if ran.returncode != 0:
-        raise PassedOver(f"refuse.c does not compile here: {ran.stderr}")
-    return made
 
 
 def run_refused(room: Room, library: Path, number: int, script: str, goes_on: bool) -> Ran:
@@ -63,7 +49,7 @@ def is_right(ran: Ran) -> bool:
 
 def refused_in_turn(script: str, goes_on: bool, room: Room) -> None:
     """Refuses each growth in turn, and tells those that were answered otherwise than as want of memory."""
-    library = refusing(room)
+    library = meddling(room)
     room.make(SOURCE)
     renew_output(room)
     room.is_built(run_refused(room, library, 0, script, goes_on))

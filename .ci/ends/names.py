@@ -28,6 +28,8 @@ for name, (bad, shown) in BAD_NAMES.items():
     case(f"a name with {name} in a folder fails the scan, and is shown with ?")(partial(fails_by_name, f"sub/{bad}", rf"\bsub/{shown}"))
     case(f"a folder's name with {name} fails the scan, and is shown with ?")(partial(fails_by_name, f"{bad}/in.txt", rf"\b{shown}"))
 case("a name that is not UTF-8 in a folder fails the scan, and its folder is told")(partial(fails_by_name, "sub/caf\udce9.txt", r"\bsub\b"))
+# The folder is listed before the configuration is read.
+case("a bad name below what exclude names fails the scan, and is shown with ?")(partial(fails_by_name, "tmp/a\tb.txt", r"\btmp/a\?b\.txt"))
 # U+009B begins an escape on some terminals; it makes a path, so that alone this name would be no fault.
 case("a bad name with U+009B in it is shown with ?, too")(partial(fails_by_name, "a\x9bb\tc", r"\ba\?{1,2}b\?c"))
 
@@ -59,24 +61,22 @@ case("a hidden name with a tab at the top is passed over")(partial(is_passed_ove
 case("a hidden name with a tab in a folder is passed over")(partial(is_passed_over, {"sub/.x\ty": "x"}))
 case("names with a tab that _, # and ~ mark are passed over")(partial(is_passed_over, {"_x\ty": "x", "#x\ty#": "x", "x\ty~": "x", "~x\ty": "x"}))
 case("a hidden folder's name with a tab is passed over")(partial(is_passed_over, {".x\ty/in.txt": "x"}))
-case("a hidden name that is not UTF-8 is passed over")(partial(is_passed_over, {".caf\udce9.swp": "x"}))
+case("names that are not UTF-8 below a hidden folder are passed over")(partial(is_passed_over, {".cache/caf\udce9": "x", "sub/#x/y/caf\udce9": "x"}))
 case("bad names below tools' folders are passed over")(
     partial(is_passed_over, {f"{tool}/a\tb": "x" for tool in ("node_modules", ".git", ".svn", ".hg", ".jekyll-cache", ".sass-cache", "sub/node_modules")})
 )
 case("names that are not UTF-8 below tools' folders are passed over")(partial(is_passed_over, {"node_modules/caf\udce9": "x", ".git/caf\udce9": "x"}))
-case("a bad name below what exclude names is passed over")(partial(is_passed_over, {"_config.yml": "exclude: [tmp]\n", "tmp/a\tb": "x"}))
-case("a bad name below what is always excluded is passed over")(partial(is_passed_over, {"vendor/bundle/a\tb": "x"}))
+case("bad names below what is always excluded are passed over")(
+    partial(is_passed_over, {f"{folder}/a\tb": "x" for folder in ("vendor/bundle", "vendor/cache", "vendor/gems/x", "vendor/ruby", "gemfiles")})
+)
 
 
-def link_is_passed_over(name: str, room: Room) -> None:
+@case("a link with a tab in its name is passed over")
+def link_with_a_bad_name(room: Room) -> None:
     room.make({"b.txt": "b"})
-    (room.site / name).symlink_to("b.txt")
+    (room.site / "a\tb").symlink_to("b.txt")
     room.is_built(room.once())
     room.has("b.txt", "b")
-
-
-case("a link with a tab in its name is passed over")(partial(link_is_passed_over, "a\tb"))
-case("a link with a name that is not UTF-8 is passed over")(partial(link_is_passed_over, "caf\udce9"))
 
 
 # ---- what is shown, and what is replied

@@ -48,9 +48,28 @@ def needs_root() -> None:
         raise PassedOver("it needs root")
 
 
+def meddling(room: Room) -> Path:
+    """A library that does to a program what meddle.c says."""
+    compiler = shutil.which("cc") or shutil.which("gcc") or shutil.which("clang")
+    if not compiler:
+        raise PassedOver("it needs a compiler of C")
+    # Beside the program: what lies in memory is not run on some machines.
+    made = room.program.with_name(f"meddle{room.top.name}.so")
+    source = Path(__file__).with_name("meddle.c")
+    ran = subprocess.run([compiler, "-shared", "-fPIC", "-O1", "-o", made, source], stderr=subprocess.PIPE, text=True)
+    if ran.returncode != 0:
+        raise PassedOver(f"meddle.c does not compile here: {ran.stderr}")
+    return made
+
+
 def text_of(data: bytes) -> str:
     """Bytes as a text; those that are not UTF-8 stay apart."""
     return data.decode("utf-8", "surrogateescape")
+
+
+def shortened(value: object) -> str:
+    text = str(value)
+    return text if len(text) <= 400 else f"{text[:400]} .. ({len(text)} characters)"
 
 
 @dataclass(frozen=True)
@@ -152,13 +171,13 @@ class Room:
     def once(self, **how: object) -> Ran:
         return self.run("once", **how)
 
-    def session(self, under: Iterable[str] = ()) -> Session:
-        return Session(self, self.start(["session"], under, stdin=subprocess.PIPE))
+    def session(self, **how: object) -> Session:
+        return Session(self, self.start(["session"], stdin=subprocess.PIPE, **how))
 
     # ---- what is to be
 
     def differs(self, what: str, wanted: object, came: object) -> None:
-        self.differences += [f"{what}", f"    wanted: {wanted}", f"    came:   {came}"]
+        self.differences += [what, f"    wanted: {shortened(wanted)}", f"    came:   {shortened(came)}"]
 
     def same(self, what: str, wanted: object, came: object) -> None:
         if wanted != came:
@@ -227,8 +246,14 @@ class Session:
             self.process.communicate()
 
     def ask(self, line: str, body: str = "") -> list[str]:
+        self.send(line, body)
+        return self.reply()
+
+    def send(self, line: str, body: str = "") -> None:
         self.process.stdin.write(os.fsencode(f"{line}\n{body}"))
         self.process.stdin.flush()
+
+    def reply(self) -> list[str]:
         lines = [self.line()]
         count = re.fullmatch(r"out-fault (\d+)", lines[0])
         return lines + [self.line() for _ in range(int(count[1]) if count else 0)]

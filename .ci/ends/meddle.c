@@ -1,7 +1,11 @@
-/* Refuses memory to a program that is started with it in LD_PRELOAD: the growth whose number REFUSE names, counted from 1, and with REFUSE_ON each one
-   after it too. What a program frees is not counted. */
+/* What a run meets seldom, done to a program that is started with this in LD_PRELOAD. It is refused memory: the growth whose number REFUSE names, counted
+   from 1, and with REFUSE_ON each one after it too (what a program frees is not counted). With SLOW_MKDIR it waits so many microseconds before it makes a
+   folder, so that another one is first. */
+#include <fcntl.h>
 #include <stddef.h>
 #include <stdlib.h>
+#include <sys/stat.h>
+#include <unistd.h>
 
 extern void *__libc_malloc(size_t size);
 extern void *__libc_realloc(void *old, size_t size);
@@ -34,4 +38,13 @@ void *malloc(size_t size)
 void *realloc(void *old, size_t size)
 {
     return is_refused() ? NULL : __libc_realloc(old, size);
+}
+
+int mkdir(const char *path, mode_t mode)
+{
+    const char *wait = getenv("SLOW_MKDIR");
+
+    if (wait)
+        usleep(atoi(wait));
+    return mkdirat(AT_FDCWD, path, mode);
 }
