@@ -75,6 +75,19 @@ def left_beside(room: Room) -> None:
             room.same("the file outside", "mine", (room.outside / "file").read_text())
 
 
+@case("a folder at the name beside is removed, or told by its name")
+def folder_beside(room: Room) -> None:
+    beside = name_beside(room)
+    if not beside:
+        return
+    room.make({f"_site/{beside}/e/": "", f"_site/{beside}/x": "mine", "a.txt": "m" * 100000})
+    ran = room.once()
+    if ran.status == 0:
+        room.has("a.txt", "m" * 100000)
+    else:
+        room.matches("standard error", re.escape(re.sub("[\x01-\x1f\x7f]", "?", beside)), ran.said)
+
+
 @case("a link that comes to the name beside in a session is not followed")
 def link_beside_in_a_session(room: Room) -> None:
     (room.outside / "file").write_text("mine")

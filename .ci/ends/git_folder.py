@@ -86,6 +86,17 @@ def git_file_stays(room: Room) -> None:
     room.has(".git", "gitdir: ../../outside")
 
 
+@case("a link _site/.git stays, and nothing is written through it")
+def git_link_stays(room: Room) -> None:
+    room.make({"_config.yml": "keep_files: [other]\n", **git_page(".git/config"), "b.txt": "b", "_site/": ""})
+    (room.outside / "config").write_text("mine")
+    before = tree(room.outside)
+    (room.out / ".git").symlink_to("../../outside")
+    room.is_marked(room.once(), ".git/config")
+    room.same("what .git is", True, (room.out / ".git").is_symlink())
+    room.same_tree("outside", before, room.outside)
+
+
 @case("_site/.git is not walked: names that no page can have do not matter there")
 def git_is_not_walked(room: Room) -> None:
     room.make({**GIT, "b.txt": "b", "_site/.git/refs/heads/caf\udce9": "mine", "_site/.git/a\tb": "mine"})
