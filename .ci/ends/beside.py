@@ -50,6 +50,12 @@ def the_name_beside(room: Room) -> None:
     room.same("the names in _site", ["a.txt", "b"], sorted(os.listdir(room.out)))
 
 
+@case("the name beside has no byte below 32, which FAT and many a network disk refuse")
+def name_for_other_disks(room: Room) -> None:
+    beside = name_beside(room)
+    room.same(f"bytes below 32 in {beside!r}", [], re.findall("[\x01-\x1f]", beside))
+
+
 LEFT: dict[str, Callable[[Path], None]] = {
     "a file": lambda place: place.write_text("half a page"),
     "a link to a file outside": lambda place: place.symlink_to("../../outside/file"),
