@@ -1,35 +1,13 @@
 """The name at which a page is written before it takes the place of the old one."""
 from __future__ import annotations
 
-import ctypes
 import os
 import re
-import struct
 from pathlib import Path
 from typing import Callable
 
 from room import Room, case
-
-IN_CREATE, IN_MOVED_TO = 0x100, 0x80
-
-
-def names_made(folder: Path, play: Callable[[], object]) -> set[str]:
-    """The names that come into a folder while something is played."""
-    libc = ctypes.CDLL(None, use_errno=True)
-    watch = libc.inotify_init1(os.O_NONBLOCK)
-    libc.inotify_add_watch(watch, os.fsencode(folder), IN_CREATE | IN_MOVED_TO)
-    play()
-    try:
-        events = os.read(watch, 1 << 20)
-    except BlockingIOError:
-        events = b""
-    at, names = 0, set()
-    while at < len(events):
-        length = struct.unpack_from("iIII", events, at)[3]
-        names.add(os.fsdecode(events[at + 16:at + 16 + length].rstrip(b"\0")))
-        at += 16 + length
-    os.close(watch)
-    return names
+from watching import IN_CREATE, IN_MOVED_TO, Watch
 
 
 def name_beside(room: Room) -> str:
@@ -37,7 +15,9 @@ def name_beside(room: Room) -> str:
     room.make({"a.txt": "o" * 100000, "b/c.txt": "o" * 100000})
     room.is_built(room.once())
     room.make({"a.txt": "n" * 100000, "b/c.txt": "n" * 100000})
-    made = names_made(room.out, lambda: room.is_built(room.once())) - {"a.txt"}
+    with Watch(room.out, IN_CREATE | IN_MOVED_TO) as watch:
+        room.is_built(room.once())
+        made = watch.names() - {"a.txt"}
     if len(made) != 1:
         room.differs("the names that came into _site", "one besides the pages'", sorted(made))
     return made.pop() if made else ""

@@ -4,8 +4,10 @@ from __future__ import annotations
 import os
 import random
 import time
+from pathlib import Path
 
 from room import CONTROL, Room, case
+from watching import IN_MODIFY, IN_MOVED_TO, Watch
 
 
 @case("after `trap '' XFSZ` a page past `ulimit -f` is marked, and the old one is whole")
@@ -35,28 +37,31 @@ def file_size_limit_of_a_short_page(room: Room) -> None:
 
 
 PAGES = 160
-# The two includes of both states. The second are longer, so that some pages need more blocks, and others as many.
-SHORT = ("old text. " * 5, "a new text " * 5)
-LONG = ("old lines\n" * 500, "a new line\n" * 500)
-
-
-def parts(number: int) -> tuple[int, int]:
-    """How often a page has the short text and the long one: most are of one block, some of several, a few are too long to be written over."""
-    return number % 35, 15 if number % 40 == 0 else 1 + number % 7 if number % 4 == 0 else 0
+LINES = ("an old line\n", "this line is new\n")
 
 
 def page(number: int, state: int) -> str:
-    short, long = parts(number)
-    return SHORT[state] * short + LONG[state] * long + f"{number}\n"
+    """A page in one of its two states: most are of one block, some of several, a few are too long to be written over. The second state is longer, so that some
+    pages need more blocks, and others as many."""
+    count = 5000 if number % 40 == 0 else number * 7 if number % 4 == 0 else number
+    return LINES[state] * count + f"{number}\n"
 
 
-def source_of(number: int) -> str:
-    short, long = parts(number)
-    return "---\n---\n" + "{% include short %}" * short + "{% include long %}" * long + f"{number}\n"
+def make_states(room: Room) -> list[Path]:
+    """Makes a site in each state; the output is moved from one to the other."""
+    folders = [room.top / "old", room.top / "new"]
+    for state, folder in enumerate(folders):
+        folder.mkdir()
+        for number in range(PAGES):
+            (folder / f"{number}.txt").write_text(page(number, state))
+    return folders
 
 
-def make_state(room: Room, state: int) -> None:
-    room.make({"_includes/short": SHORT[state], "_includes/long": LONG[state]})
+def enter(room: Room, folder: Path) -> None:
+    """From here on the program runs in this folder, with the output of before."""
+    if room.out.exists():
+        room.out.rename(folder / "_site")
+    room.site, room.out = folder, folder / "_site"
 
 
 def torn(room: Room) -> list[str]:
@@ -85,27 +90,43 @@ def after_a_build(room: Room, state: int) -> None:
     room.same("the number of names after the next build", PAGES, len(os.listdir(room.out)))
 
 
+def is_in_the_middle(room: Room, state: int) -> bool:
+    """Whether some pages are the new ones, and others are not."""
+    new = sum((room.out / f"{number}.txt").read_text() == page(number, state) for number in range(PAGES))
+    return 0 < new < PAGES
+
+
+def seconds_of_writing(room: Room) -> float:
+    """How long a run changes pages."""
+    with Watch(room.out, IN_MODIFY | IN_MOVED_TO) as watch:
+        run = room.start(["once"])
+        watch.wait(10)
+        began = time.monotonic()
+        run.communicate()
+        return time.monotonic() - began
+
+
 @case("200 kills in the middle of a build: at most one page is neither old nor new, and the next build mends it", 40)
 def kills(room: Room) -> None:
-    room.make({f"{number}.txt": source_of(number) for number in range(PAGES)})
-    make_state(room, 0)
+    states = make_states(room)
+    enter(room, states[0])
     room.is_built(room.once())
-    started = time.monotonic()
-    make_state(room, 1)
-    room.is_built(room.once())
-    took = time.monotonic() - started
-    state, until, killed = 1, time.monotonic() + 15, 0
+    enter(room, states[1])
+    longest = seconds_of_writing(room)
+    state, until, in_the_middle = 1, time.monotonic() + 15, 0
     for _ in range(200):
         if time.monotonic() > until or room.differences:
             break
         state = 1 - state
-        make_state(room, state)
-        run = room.start(["once"])
-        time.sleep(random.uniform(0, took * 1.1))
+        enter(room, states[state])
+        with Watch(room.out, IN_MODIFY | IN_MOVED_TO) as watch:
+            run = room.start(["once"])
+            watch.wait(10)
+        time.sleep(random.uniform(0, longest))
         run.kill()
         run.communicate()
-        killed += run.returncode == -9
         after_a_kill(room)
+        in_the_middle += is_in_the_middle(room, state)
         room.is_built(room.once())
         after_a_build(room, state)
-    room.same("whether a run was killed before its end", True, killed > 0)
+    room.same("whether a run was killed in the middle", True, in_the_middle > 0)
