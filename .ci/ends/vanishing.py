@@ -5,10 +5,11 @@ import os
 import subprocess
 import sys
 import time
+from functools import partial
 from pathlib import Path
 from typing import Iterable
 
-from room import Ran, Room, case
+from room import Ran, Room, case, meddling, tree
 
 # Makes and removes names in a folder and in one below it, as fast as it can.
 CHURN = """
@@ -77,14 +78,34 @@ def names_vanish_in_the_source(room: Room) -> None:
     room.has("a/b.txt", "b")
 
 
-@case("files that vanish while the source is scanned are passed over", 15, in_memory=True)
-def files_vanish_in_the_source(room: Room) -> None:
-    room.make({"page.txt": "new", "a/b.txt": "b"})
-    all_are_built(room, churned(room, room.site / "busy", ("files",), 1.5))
-    room.has("a/b.txt", "b")
-
-
 @case("folders that vanish at the top of the source are passed over", 15, in_memory=True)
 def names_vanish_at_the_top(room: Room) -> None:
     room.make({"page.txt": "new"})
     all_are_built(room, churned(room, room.site, ("folders", "links"), 1))
+
+
+# ---- one name, that goes in the worst moment
+
+
+def vanishes(moment: str, path: str, room: Room) -> None:
+    """A name that vanishes just before the program asks what it is, or opens it, is passed over; all else is as ever."""
+    gone = {"LD_PRELOAD": str(meddling(room)), moment: path.rstrip("/")}
+    room.make({"page.txt": "new", "a/b.txt": "b", "_site/stale.txt": "old", "_site/a/stale.txt": "old", path: "" if path.endswith("/") else "x"})
+    room.is_built(room.once(env={**os.environ, **gone}))
+    room.same(f"whether {path} has vanished", False, os.path.lexists(room.site / path))
+    room.same("what is in _site", {"page.txt", "a", "a/b.txt"}, set(tree(room.out)))
+
+
+LOOK, OPEN = "GONE_AT_LOOK", "GONE_AT_OPEN"
+for name, moment, path in (
+    ("a file at the top of the source vanishes before it is looked at", LOOK, "x.txt"),
+    ("a file in a folder of the source vanishes before it is looked at", LOOK, "busy/x.txt"),
+    ("a folder of the source vanishes before it is looked at", LOOK, "busy/e/"),
+    ("a folder of the source vanishes before it is listed", OPEN, "busy/e/"),
+    ("a file of the source vanishes before it is read", OPEN, "busy/x.txt"),
+    ("a file at the top of _site vanishes before it is looked at", LOOK, "_site/x.txt"),
+    ("a file in a folder of _site vanishes before it is looked at", LOOK, "_site/a/x.txt"),
+    ("a folder of _site vanishes before it is looked at", LOOK, "_site/e/"),
+    ("a folder of _site vanishes before it is listed", OPEN, "_site/e/"),
+):
+    case(f"{name}, and is passed over", in_memory=True)(partial(vanishes, moment, path))
