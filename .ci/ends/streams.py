@@ -174,7 +174,7 @@ def reader_that_vanishes_while_waited_for(room: Room) -> None:
 
 @case("a standard output that does not block gets all replies of a build")
 def output_of_a_build_that_does_not_block(room: Room) -> None:
-    room.make({f"{number:03}.html": "---\n---\nx" for number in range(800)})
+    room.make({f"{number:03}.html": "---\n---\nx" for number in range(320)})
     with pipe() as (reading, writing):
         os.set_blocking(writing, False)
         process = room.start(["build", "--why"], stdout=writing)
@@ -184,4 +184,4 @@ def output_of_a_build_that_does_not_block(room: Room) -> None:
             got = file.read()
         process.communicate()
     room.same("the status", 0, process.returncode)
-    room.same("the number of replies", 802, got.count(b"\n"))
+    room.same("the number of replies", 322, got.count(b"\n"))
