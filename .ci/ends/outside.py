@@ -44,7 +44,7 @@ def site_is(make: Make, sentence: str, room: Room) -> None:
 
 for name, make in LINKS.items():
     case(f"_site is {name}: its list fails, and nothing is touched")(partial(site_is, make, r"_site.*\blink\b"))
-case("_site is a file: its list fails, and nothing is touched")(partial(site_is, make_file, r"_site.*\b(a file|no folder)\b"))
+case("_site is a file: its list fails, and nothing is touched")(partial(site_is, make_file, r"_site.*\b(a file|a link|folder)\b"))
 for name, make in SPECIAL.items():
     case(f"_site is {name}: its list fails, and nothing is touched")(partial(site_is, make, "_site"))
 
