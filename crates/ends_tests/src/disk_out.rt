@@ -1,6 +1,8 @@
 use out_tree::{DiskOut, OutTree};
 use site_base::{ListError, SitePath};
 use std::alloc::Global;
+use std::fs::File;
+use std::os::unix::fs::symlink;
 use std::process::Abort;
 use std::rt::Files;
 use std::{fs, io};
@@ -8,7 +10,7 @@ use std::{fs, io};
 const DESTINATION: &str = "_site";
 
 // The paths that the output lists, each with a line end.
-fn listed<R: Files + AllocGlobal + Clone + Drop>(
+fn listed<R: Files<File = File> + AllocGlobal + Clone + Drop>(
     alloc: Global,
     out: &mut DiskOut<R>,
 ) -> Option<String> {
@@ -20,7 +22,7 @@ fn listed<R: Files + AllocGlobal + Clone + Drop>(
     Some(text)
 }
 
-fn lists<R: Files + AllocGlobal + Clone + Drop>(
+fn lists<R: Files<File = File> + AllocGlobal + Clone + Drop>(
     alloc: Global,
     out: &mut DiskOut<R>,
     paths: &str,
@@ -31,7 +33,7 @@ fn lists<R: Files + AllocGlobal + Clone + Drop>(
     }
 }
 
-fn writes<R: Files + AllocGlobal + Clone + Drop>(
+fn writes<R: Files<File = File> + AllocGlobal + Clone + Drop>(
     alloc: Global,
     out: &mut DiskOut<R>,
     path: &str,
@@ -43,7 +45,7 @@ fn writes<R: Files + AllocGlobal + Clone + Drop>(
     }
 }
 
-fn removes<R: Files + AllocGlobal + Clone + Drop>(
+fn removes<R: Files<File = File> + AllocGlobal + Clone + Drop>(
     alloc: Global,
     out: &mut DiskOut<R>,
     path: &str,
@@ -81,11 +83,13 @@ enum Step {
     // what others do
     MakesFolder,
     MakesFile,
+    // a symbolic link to this place
+    MakesLink,
     RemovesFolder,
     RemovesFile,
 }
 
-static STEPS: [(Step, &str, &str); 24] = [
+static STEPS: [(Step, &str, &str); 41] = [
     // A destination that is not there has no files.
     (Step::Lists, "", ""),
     // A write makes the folders that it needs, and replaces what was there.
@@ -109,6 +113,25 @@ static STEPS: [(Step, &str, &str); 24] = [
     (Step::MakesFolder, "_site/a", ""),
     (Step::Writes, "a", "text"),
     (Step::Lists, "", "a\n"),
+    (Step::MakesFolder, "_site/e", ""),
+    (Step::MakesFolder, "_site/e/f", ""),
+    (Step::Writes, "e", "text"),
+    (Step::Removes, "e", ""),
+    // What is Git's is no part of the output.
+    (Step::MakesFile, "_site/.git", "its own"),
+    (Step::FailsToWrite, ".git", "text"),
+    (Step::FailsToWrite, "b/.git/config", "text"),
+    (Step::Removes, ".git", ""),
+    (Step::Holds, "_site/.git", "its own"),
+    (Step::Lists, "", "a\n"),
+    // Nothing is written or removed through a link, and one at a file's place is replaced.
+    (Step::MakesLink, "_site/up", ".."),
+    (Step::FailsToWrite, "up/outside", "text"),
+    (Step::MakesFile, "outside", "its own"),
+    (Step::Removes, "up/outside", ""),
+    (Step::Holds, "outside", "its own"),
+    (Step::Writes, "up", "text"),
+    (Step::Removes, "up", ""),
     // A name that makes no path is a failure, and so is a destination that is a file.
     (Step::MakesFile, "_site/\u{1}", "text"),
     (Step::FailsToList, "", ""),
@@ -119,7 +142,7 @@ static STEPS: [(Step, &str, &str); 24] = [
 ];
 
 // Whether the step comes out as its name says.
-fn succeeds<R: Files + AllocGlobal + Clone + Drop>(
+fn succeeds<R: Files<File = File> + AllocGlobal + Clone + Drop>(
     rt: &R,
     out: &mut DiskOut<R>,
     step: Step,
@@ -137,6 +160,7 @@ fn succeeds<R: Files + AllocGlobal + Clone + Drop>(
         Step::Lacks => !stands(rt, path),
         Step::MakesFolder => fs::create_dir(rt, path).is_ok(),
         Step::MakesFile => fs::write(rt, path, text.as_bytes()).is_ok(),
+        Step::MakesLink => symlink(rt, text, path).is_ok(),
         Step::RemovesFolder => fs::remove_dir_all(rt, path).is_ok(),
         Step::RemovesFile => fs::remove_file(rt, path).is_ok(),
     }

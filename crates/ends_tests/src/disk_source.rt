@@ -1,6 +1,6 @@
 // A scan of a real folder.
 use site_base::SitePath;
-use source_tree::{DiskSource, Held, ScanError};
+use source_tree::{DiskSource, Held, ScanError, SourceTree};
 use std::alloc::Global;
 use std::{env, fs, io};
 
@@ -52,6 +52,14 @@ fn scans(alloc: Global, held: &mut Held, source: &mut DiskSource<HostRuntime>) -
     matches!(held.scan(alloc, source), Ok(3)) && holds(alloc, held, SCANNED)
 }
 
+// Whether a file is as long as its path, which is what it holds.
+fn measures(alloc: Global, source: &mut DiskSource<HostRuntime>, path: &str) -> bool {
+    match SitePath::read(alloc, path) {
+        Ok(site_path) => source.measure(alloc, &site_path).ok() == Some(path.len()),
+        Err(_) => false,
+    }
+}
+
 // A name that is no path of a site.
 fn fails_at_a_bad_name(
     rt: &HostRuntime,
@@ -71,6 +79,7 @@ fn scans_a_folder(rt: HostRuntime) {
             let mut held = Held::new(rt.alloc());
             let mut source = DiskSource::new(folder);
             assert!(rt; made && scans(rt.alloc(), &mut held, &mut source));
+            assert!(rt; measures(rt.alloc(), &mut source, "below/file"));
             assert!(rt; fails_at_a_bad_name(&rt, &mut held, &mut source));
         }
         Err(_) => assert!(rt; false, "no runtime"),

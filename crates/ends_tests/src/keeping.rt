@@ -34,7 +34,7 @@ const NOTHING: Row = Row {
     left_then: &[],
 };
 
-static ROWS: [Row; 6] = [
+static ROWS: [Row; 7] = [
     NOTHING,
     // What an entry keeps stays.
     Row {
@@ -43,6 +43,15 @@ static ROWS: [Row; 6] = [
         removed: 2,
         left: &[(".git/HEAD", "x")],
         left_then: &[(".git/HEAD", "x")],
+        ..NOTHING
+    },
+    // One `/` at an entry's end says that it is a folder.
+    Row {
+        held: &[("uploads/a", "x"), ("uploads2", "y")],
+        keep: &["uploads/"],
+        removed: 1,
+        left: &[("uploads/a", "x")],
+        left_then: &[("uploads/a", "x")],
         ..NOTHING
     },
     // A file that stands in the way of another is removed before.

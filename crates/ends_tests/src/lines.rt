@@ -7,6 +7,8 @@ use std::alloc::{AllocError, Allocator, Global};
 use std::cell::Cell;
 use std::io;
 use std::io::{BufRead, ErrorKind, Read};
+use std::rt::Clock;
+use std::time::Duration;
 
 // An input that gives no more than so many bytes at first, and then the others.
 #[derive(Drop)]
@@ -210,14 +212,25 @@ fn reads_standard_input(rt: HostRuntime) {
     assert_eq!(rt; input.read(&mut [0; 4]), Ok(0));
 }
 
-// The pieces that the reads of an input give one after another, and None where one fails.
-const PIECES: [Option<&'static [u8]>; 6] = [
-    Some(b"sc"),
-    Some(b"an\nput a 4\nx"),
-    Some(b"yz"),
-    Some(b"\nbuil"),
-    None,
-    Some(b"d"),
+// What a read of an input finds.
+#[derive(Clone, Copy)]
+enum Piece {
+    Bytes(&'static [u8]),
+    // nothing yet, in an input that does not wait
+    NotYet,
+    Failure,
+}
+
+// What the reads of an input find one after another.
+const PIECES: [Piece; 8] = [
+    Piece::Bytes(b"sc"),
+    Piece::NotYet,
+    Piece::NotYet,
+    Piece::Bytes(b"an\nput a 4\nx"),
+    Piece::Bytes(b"yz"),
+    Piece::Bytes(b"\nbuil"),
+    Piece::Failure,
+    Piece::Bytes(b"d"),
 ];
 
 // An input whose reads give pieces.
@@ -226,19 +239,17 @@ struct PieceInput {
     turn: Cell<usize>,
 }
 
-#[derive(Drop)]
-struct Piece {
-    bytes: Option<&'static [u8]>,
-}
-
 impl Read for Piece {
     fn read(&mut self, into: &mut [u8]) -> io::Result<usize> {
-        let Some(bytes) = self.bytes else {
-            return Err(io::Error::from(ErrorKind::Other));
-        };
-        let count = into.len().min(bytes.len());
-        into[..count].copy_from_slice(&bytes[..count]);
-        Ok(count)
+        match self {
+            Piece::Bytes(bytes) => {
+                let count = into.len().min(bytes.len());
+                into[..count].copy_from_slice(&bytes[..count]);
+                Ok(count)
+            }
+            Piece::NotYet => Err(io::Error::from(ErrorKind::WouldBlock)),
+            Piece::Failure => Err(io::Error::from(ErrorKind::Other)),
+        }
     }
 }
 
@@ -248,6 +259,17 @@ impl BufRead for Piece {
     }
 
     fn consume(&mut self, _amount: usize) {}
+}
+
+// It pauses for no time.
+impl Clock for PieceInput {
+    fn monotonic(&self) -> io::Result<Duration> {
+        Err(io::Error::from(ErrorKind::Unsupported))
+    }
+
+    fn since_1970(&self) -> io::Result<Duration> {
+        Err(io::Error::from(ErrorKind::Unsupported))
+    }
 }
 
 impl Input for PieceInput {
@@ -264,9 +286,7 @@ impl Input for PieceInput {
     fn reader(&self) -> Piece {
         let turn = self.turn.get();
         self.turn.set(turn.saturating_add(1));
-        Piece {
-            bytes: PIECES.get(turn).copied().unwrap_or(Some(&[])),
-        }
+        PIECES.get(turn).copied().unwrap_or(Piece::Bytes(&[]))
     }
 }
 

@@ -4,6 +4,7 @@
 mod attempts;
 mod device;
 mod disk;
+mod disk_files;
 mod keep;
 mod keeper;
 mod memory;

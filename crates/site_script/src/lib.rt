@@ -9,7 +9,9 @@ mod number;
 mod raw_line;
 mod reader;
 mod std_input;
+mod waiting;
 
 pub use line::{Line, ScriptKind};
 pub use reader::{ScriptReader, next_line};
 pub use std_input::StdInput;
+pub use waiting::wait_a_moment;

@@ -8,6 +8,7 @@ use Rattle.site_script.specs.Line.{script_number}
 use Rattle.site_script.specs.declared.line.ScriptKind.{ScriptKind}
 use Rattle.site_words.specs.Words.{usage_number}
 use Rattle.site_words.specs.declared.faults.UsageKind.{UsageKind}
+use Rattle.site_sentences.specs.Shown.{shown}
 use Rattle.site_sentences.specs.declared.failure.Failure.{Failure}
 use Rattle.site_sentences.specs.declared.failure.Failure.TheVariants.{Source, List as NoList, Writes, Input, Sink, Memory}
 
@@ -57,13 +58,17 @@ abbrev pub Says : Text → Text → Text → Type 0
 Says place code text = (sentence : Text) × (is_sentence sentence ≡ true) × (text ≡ line_of place sentence code)
 
 abbrev pub FaultSays : SiteFault → Text → Type 0
-FaultSays fault text = Says (file_place fault.path fault.line) (fault_code fault) text
+FaultSays fault text = Says (file_place (shown fault.path) fault.line) (fault_code fault) text
 
 abbrev pub ScriptSays : ℕ → ScriptKind → Text → Type 0
 ScriptSays number kind text = Says (input_place number) (script_code kind) text
 
 abbrev pub FailureSays : Failure → Text → Type 0
 FailureSays failure text = Says [] (failure_code failure) text
+
+-- the same with the place at which the run was cut short
+abbrev pub ObstacleSays : Failure → Text → Text → Type 0
+ObstacleSays failure place text = Says (file_place (shown place) 0) (failure_code failure) text
 
 -- the line, and behind it the commands
 abbrev pub UsageSays : UsageKind → Text → Type 0

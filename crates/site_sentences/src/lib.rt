@@ -6,10 +6,13 @@ mod failure;
 mod lines;
 mod questions;
 mod sentences;
+mod showing;
 
 pub use failure::Failure;
-pub use lines::{failure_line, fault_line, script_line, usage_lines};
+pub use lines::{failure_line, fault_line, obstacle_line, script_line, usage_lines};
 pub use questions::{Question, answer, asked};
 pub use sentences::{
-    failure_sentence, fault_sentence, script_sentence, usage_sentence, yaml_sentence,
+    failure_sentence, fault_sentence, reason_sentence, script_sentence, usage_sentence,
+    yaml_sentence,
 };
+pub use showing::shown;

@@ -1,10 +1,15 @@
 // The lines that a person reads: where something is wrong, the sentence, and its code.
 ghost use Rattle.std.specs.Prelude.{◌≡◌, IfOk};
 ghost use Rattle.std.specs.String.{string_bytes};
-ghost use Rattle.site_sentences.specs.Lines.{FailureSays, FaultSays, ScriptSays, UsageSays, failure_code, fault_code, file_place, input_place, line_of, script_code, usage_code};
+ghost use Rattle.site_sentences.specs.Shown.{shown};
+ghost use Rattle.site_sentences.specs.Lines.{ObstacleSays, FailureSays, FaultSays, ScriptSays, UsageSays, failure_code, fault_code, file_place, input_place, line_of, script_code, usage_code};
 
 use crate::Failure;
-use crate::sentences::{failure_sentence, fault_sentence, script_sentence, usage_sentence};
+use crate::sentences::{
+    failure_sentence, fault_sentence, reason_sentence, script_sentence, usage_sentence,
+};
+use crate::showing::shown;
+use folder_walk::Reason;
 use site_base::SiteFault;
 use site_script::ScriptKind;
 use site_words::UsageKind;
@@ -13,13 +18,14 @@ use std::alloc::{AllocError, Global};
 // The commands, as a person is told them.
 pub(crate) const COMMANDS: &str =
     "  sitebuild once    [--drafts] [--future]                     builds the site of this folder into _site
-  sitebuild check   [--drafts] [--future]                     tells its first fault, and writes nothing
-  sitebuild build   [--drafts] [--future] [--jobs N] [--why]  as once; N is from 1 to 64, --why tells why a page was made
-  sitebuild session [--drafts] [--future] [--jobs N] [--why]  does the lines of a script on standard input
+  sitebuild check   [--drafts] [--future]                     reports its first fault, and writes nothing
+  sitebuild build   [--drafts] [--future] [--jobs N] [--why]  like once; N is from 1 to 64, --why says why a page was made
+  sitebuild session [--drafts] [--future] [--jobs N] [--why]  carries out the lines of a script on standard input
   sitebuild make NUMBER COUNT                                 builds a made-up site of COUNT posts in memory, twice
 ";
 
-/// The line for a fault: `sitebuild: PATH:LINE: SENTENCE (FK)`, without `:LINE` where the kind has no line.
+/// The line for a fault: `sitebuild: PATH:LINE: SENTENCE (FK)`, without `:LINE` where the kind has no line, and with a question mark for each control character
+/// of the path.
 pub fn fault_line(alloc: Global, fault: &SiteFault) -> Result<String, AllocError>
     ensures { IfOk result (λ text. FaultSays fault.now (string_bytes text)) }
 {
@@ -60,6 +66,25 @@ pub fn failure_line(alloc: Global, failure: Failure) -> Result<String, AllocErro
     line(alloc, "", failure_sentence(failure), code.as_str())
 }
 
+/// The line for a run that was cut short at a place of a folder, when the reason is known.
+pub fn obstacle_line(
+    alloc: Global,
+    failure: Failure,
+    place: &str,
+    reason: Reason,
+) -> Result<String, AllocError>
+    ensures { IfOk result (λ text. ObstacleSays failure place.now (string_bytes text)) }
+{
+    let place = file_place(alloc, place, 0)?;
+    let code = failure_code(alloc, failure)?;
+    line(
+        alloc,
+        place.as_str(),
+        reason_sentence(reason),
+        code.as_str(),
+    )
+}
+
 // A line of its parts; a place that is not empty ends with `: `.
 fn line(alloc: Global, place: &str, sentence: &str, code: &str) -> Result<String, AllocError>
     ensures { IfOk result (λ text. string_bytes text ≡ line_of place.now sentence.now code.now) }
@@ -68,8 +93,9 @@ fn line(alloc: Global, place: &str, sentence: &str, code: &str) -> Result<String
 }
 
 fn file_place(alloc: Global, path: &str, number: u64) -> Result<String, AllocError>
-    ensures { IfOk result (λ text. string_bytes text ≡ file_place path.now number) }
+    ensures { IfOk result (λ text. string_bytes text ≡ file_place (shown path.now) number) }
 {
+    let path = shown(alloc, path)?;
     if number == 0 {
         format!(in alloc; "{path}: ")
     } else {

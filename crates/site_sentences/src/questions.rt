@@ -66,7 +66,7 @@ fn told_version(alloc: Global) -> Result<String, AllocError>
 fn purpose() -> &'static str
     ensures { is_sentence result.now ≡ true }
 {
-    "builds the Jekyll site of the current folder into its folder _site, and is proved to build it right"
+    "builds the Jekyll site in the current folder into the folder _site, and is proved to build it right"
 }
 
 fn help(alloc: Global) -> Result<String, AllocError>

@@ -13,6 +13,12 @@ use Rattle.site_sentences.specs.declared.failure.Failure.TheVariants as failure
 abbrev pub output_failure : ℕ → Failure
 output_failure count = if count == 0 then failure.List else failure.Writes count
 
+-- the failure of a folder that a status tells
+abbrev pub failure_of_folder : Status → Option Failure
+failure_of_folder status.SourceFault = Some failure.Source
+failure_of_folder (status.OutFault count) = Some (output_failure count)
+failure_of_folder _ = None
+
 -- words that give no command are answered, where they ask something, and else told what is wrong with them
 abbrev pub WordsSay : Option Question → UsageKind → List ℕ → Type 0
 WordsSay (Some question) kind text = AnswerSays question text

@@ -13,6 +13,7 @@ use site_script::StdInput;
 use site_words::UsageKind;
 use source_tree::DiskSource;
 use std::env;
+use std::io::ErrorKind;
 use std::process::ExitCode;
 use std::time::SystemTime;
 
@@ -22,7 +23,7 @@ const NO_MOMENT: i64 = -1;
 fn main(rt: HostRuntime) -> ExitCode {
     let words = match words(&rt) {
         Ok(words) => words,
-        Err(status) => return end(&rt, &Words::new(rt.alloc()), status),
+        Err(status) => return end(&rt, &Words::new(rt.alloc()), status, None),
     };
     let mut source = DiskSource::new(rt);
     let mut out = DiskOut::new(rt);
@@ -53,13 +54,20 @@ fn main(rt: HostRuntime) -> ExitCode {
         )
     };
     let status = in_file(rt.alloc(), &mut source, status);
-    end(&rt, &words, status)
+    let obstacle = match &status {
+        Status::SourceFault => source.obstacle(),
+        Status::OutFault(_) => out.obstacle(),
+        _ => None,
+    };
+    end(&rt, &words, status, obstacle)
 }
 
 // The words of the command line, without the program's name. Where they are no text, they have no kind of their own.
 fn words(rt: &HostRuntime) -> Result<Words, Status> {
-    let Ok(arguments) = env::args(rt) else {
-        return Err(Status::Usage(UsageKind::Missing));
+    let arguments = match env::args(rt) {
+        Ok(arguments) => arguments,
+        Err(error) if error.kind() == ErrorKind::OutOfMemory => return Err(Status::Memory),
+        Err(_) => return Err(Status::Usage(UsageKind::Missing)),
     };
     let mut words = Words::new(rt.alloc());
     for word in arguments.skip(1) {

@@ -2,23 +2,30 @@
 ghost use Rattle.std.specs.Prelude.{◌≡◌, IfOk};
 ghost use Rattle.std.specs.String.{string_bytes};
 ghost use Rattle.site_sentences.specs.Questions.{asked};
-ghost use Rattle.sitebuild.specs.Telling.{StatusSays, WordsSay, output_failure};
+ghost use Rattle.sitebuild.specs.Telling.{StatusSays, WordsSay, failure_of_folder, output_failure};
 
+use folder_walk::Obstacle;
 use front_yaml::{Front, split_front};
 use site_base::{FaultKind, SiteFault, Words};
 use site_program::Status;
 use site_sentences::{
-    Failure, answer, asked, failure_line, failure_sentence, fault_line, script_line, usage_lines,
+    Failure, answer, asked, failure_line, failure_sentence, fault_line, obstacle_line, script_line,
+    usage_lines,
 };
 use site_words::UsageKind;
 use source_tree::{DiskSource, SourceTree};
 use std::alloc::{AllocError, Global};
 use std::process::ExitCode;
 
-/// The exit code of a run with these words. Standard error is told how it ended, unless it was done, or answers what the words ask; nothing comes of it where
+/// The exit code of a run with these words, which an obstacle in a folder may have cut short. Standard error is told how it ended, unless it was done, or answers what the words ask; nothing comes of it where
 /// standard error fails.
-pub(crate) fn end(rt: &HostRuntime, words: &Words, status: Status) -> ExitCode {
-    let _ = match status_text(rt.alloc(), words, &status) {
+pub(crate) fn end(
+    rt: &HostRuntime,
+    words: &Words,
+    status: Status,
+    obstacle: Option<&Obstacle>,
+) -> ExitCode {
+    let _ = match end_text(rt.alloc(), words, &status, obstacle) {
         Ok(text) => rt.eprint(text),
         Err(_) => rt.eprintln(failure_sentence(Failure::Memory)),
     };
@@ -67,6 +74,32 @@ fn lines_before_body(file: &[u8]) -> u64 {
 
 fn line_ends(text: &[u8]) -> u64 {
     text.iter().filter(|byte| **byte == b'\n').count() as u64
+}
+
+// What is said at the end: of an obstacle, where it is known, and else of the status.
+fn end_text(
+    alloc: Global,
+    words: &Words,
+    status: &Status,
+    obstacle: Option<&Obstacle>,
+) -> Result<String, AllocError> {
+    match (failure_of_folder(status), obstacle) {
+        (Some(failure), Some(obstacle)) => {
+            obstacle_line(alloc, failure, obstacle.place(), obstacle.reason())
+        }
+        _ => status_text(alloc, words, status),
+    }
+}
+
+// The failure of a folder that a status tells.
+fn failure_of_folder(status: &Status) -> Option<Failure>
+    ensures { result ≡ failure_of_folder status.now }
+{
+    match status {
+        Status::SourceFault => Some(Failure::Source),
+        Status::OutFault(count) => Some(output_failure(*count)),
+        _ => None,
+    }
 }
 
 // What is said of a status: nothing where all is done.

@@ -138,6 +138,30 @@ too_long files path left old bytes n is long =
     let more : most_bytes < length n.file.1 = cut_long n.file.1 (subst (λ (b : List ℕ). most_bytes < length b) is long) in
     n.long ∙ ap (λ b. cond b (Some n.file.0) (first_long n.rest)) (lt-ltb most_bytes (length n.file.1) more) ∙ ap Some (sym n.path_is)
 
+over_at : (over : Option (List ℕ)) → is_some over ≡ true → (at : List ℕ) × (over ≡ Some at)
+over_at None is = absurd (cc (is))
+over_at (Some at) is = (at, refl)
+
+-- when the sum has passed its limit, another file changes nothing
+nothing_added : (old : Reading) (path bytes : List ℕ) → (at : List ℕ) × (old.over ≡ Some at) → Adds old old path bytes
+nothing_added old path bytes over = record {
+  was_over = λ at is. is;
+  passes = λ none long. absurd (cc (none, over.1));
+  fits = λ none short. absurd (cc (none, over.1));
+}
+
+-- a file was measured, and it is not too long
+pub going-measured : (files : Files) (path : List ℕ) (left : List (List ℕ)) (old : Reading) (count : ℕ) (n : Next files path left old) → is_some old.over ≡ true → count ≡ length (take 16777217 n.file.1) → count ≤ most_bytes → Going files left old
+going-measured files path left old count n over counted short =
+    going-step files path left old old (take 16777217 n.file.1) n refl (subst (λ (m : ℕ). m ≤ most_bytes) counted short) (nothing_added old path (take 16777217 n.file.1) (over_at old.over over))
+
+pub follows-measured : (paths left : List (List ℕ)) (old : Reading) → is_some old.over ≡ true → Follows paths left old
+follows-measured paths left old over none = absurd (cc (none, (over_at old.over over).1))
+
+pub too_long-measured : (files : Files) (path : List ℕ) (left : List (List ℕ)) (old : Reading) (count : ℕ) (n : Next files path left old) → count ≡ length (take 16777217 n.file.1) → most_bytes < count → first_long (entries files) ≡ Some path
+too_long-measured files path left old count n counted long =
+    too_long files path left old (take 16777217 n.file.1) n refl (subst (λ (m : ℕ). most_bytes < m) counted long)
+
 no_rest : (rest : List File) → [] ≡ paths_of rest → rest ≡ []
 no_rest [] e = refl
 no_rest (f ∷ rest) e = absurd (cc (e))

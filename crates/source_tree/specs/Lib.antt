@@ -1,5 +1,6 @@
 pub mod Fitting
 pub mod Limits
+pub mod Measuring
 pub mod Memory
 pub mod Put
 pub mod Reading

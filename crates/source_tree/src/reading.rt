@@ -10,6 +10,7 @@ ghost use Rattle.site_base.specs.declared.faults.FaultKind.TheVariants.{FileTooL
 ghost use Rattle.site_base.specs.declared.faults.SiteFault.{SiteFault};
 ghost use Rattle.site_base.specs.Limits.{most_bytes};
 ghost use Rattle.source_tree.specs.Limits.{bytes_of, most_files, most_site_bytes};
+ghost use Rattle.source_tree.specs.Measuring.{Measures};
 ghost use Rattle.source_tree.specs.Rise.{Rise};
 ghost use Rattle.source_tree.specs.Scan.{first_long, scan_fault};
 
@@ -84,6 +85,13 @@ impl Reading {
             over: None,
         };
         for path in paths {
+            if reading.over.is_some() {
+                // Nothing more is kept; a file that is too long is still the first fault.
+                if measure_one(alloc, source, &path)? > MOST_BYTES {
+                    return Err(ScanError::limit(FaultKind::FileTooLong, path));
+                }
+                continue;
+            }
             let bytes = read_one(alloc, source, &path)?;
             if bytes.len() > MOST_BYTES {
                 return Err(ScanError::limit(FaultKind::FileTooLong, path));
@@ -155,6 +163,24 @@ fn read_one<S: SourceTree>(
 {
     match source.read(alloc, path) {
         Ok(bytes) => Ok(bytes),
+        Err(ReadError::Failed) => Err(ScanError::Failed),
+        Err(ReadError::Memory) => Err(ScanError::Memory),
+    }
+}
+
+fn measure_one<S: SourceTree>(
+    alloc: Global,
+    source: &mut S,
+    path: &SitePath,
+) -> Result<usize, ScanError>
+    requires { Has (S.files source.old) path.now }
+    ensures measures { Measures (S.files source.old) path.now result }
+    ensures same { S.files source.new ≡ S.files source.old }
+    ensures cause { HasCauseOf ScanError.Failed (S.failures source.old) (S.failures source.new) result }
+    ensures no_limit { (fault : SiteFault) → IsErrOf result (ScanError.Limit fault) → ⊥ }
+{
+    match source.measure(alloc, path) {
+        Ok(length) => Ok(length),
         Err(ReadError::Failed) => Err(ScanError::Failed),
         Err(ReadError::Memory) => Err(ScanError::Memory),
     }

@@ -4,6 +4,7 @@ ghost use Rattle.site_base.specs.Clash.{ClashFree};
 ghost use Rattle.site_base.specs.Ends.{HasCauseOf};
 ghost use Rattle.site_base.specs.Listing.{Has, Lists, Reads};
 ghost use Rattle.site_base.specs.Places.{Files};
+ghost use Rattle.source_tree.specs.Measuring.{Measures};
 
 use site_base::{ListError, ReadError, SitePath};
 use std::alloc::Global;
@@ -29,4 +30,17 @@ pub trait SourceTree {
         ensures reads { Reads (files self.old) path.now result }
         ensures same { files self.new ≡ files self.old }
         ensures cause { HasCauseOf ReadError.Failed (failures self.old) (failures self.new) result };
+
+    /// How many bytes `read` would give. A source that knows it without reading the file says so here.
+    fn measure(&mut self, alloc: Global, path: &SitePath) -> Result<usize, ReadError>
+        requires { Has (files self.old) path.now }
+        ensures measures { Measures (files self.old) path.now result }
+        ensures same { files self.new ≡ files self.old }
+        ensures cause { HasCauseOf ReadError.Failed (failures self.old) (failures self.new) result }
+    {
+        match self.read(alloc, path) {
+            Ok(bytes) => Ok(bytes.len()),
+            Err(error) => Err(error),
+        }
+    }
 }
