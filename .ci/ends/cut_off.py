@@ -106,7 +106,7 @@ def seconds_of_writing(room: Room) -> float:
         return time.monotonic() - began
 
 
-@case("200 kills in the middle of a build: at most one page is neither old nor new, and the next build mends it", 40)
+@case("up to 200 kills in the middle of a build: at most one page is neither old nor new, and the next build mends it", 40)
 def kills(room: Room) -> None:
     states = make_states(room)
     enter(room, states[0])
