@@ -17,6 +17,8 @@ from typing import Iterator, Optional
 # What the program passes over wherever it is: docs/PROFILE.md, "The folder".
 PASSED_OVER = {".git", ".svn", ".hg", ".jekyll-cache", ".sass-cache", "node_modules"}
 OUTPUT = "_site"
+# What `site adopt` writes in place of plugins.
+TEMPLATES = Path(__file__).resolve().parent / "templates"
 # Jekyll and the program leave these out of every site.
 ALWAYS_EXCLUDED = [
     ".sass-cache", ".jekyll-cache", "gemfiles", "Gemfile", "Gemfile.lock", "node_modules",
