@@ -56,7 +56,9 @@ def by_rsync(room: Path) -> None:
     site, host, port = room / "site", room / "host", free_port()
     run("new", site)
     host.mkdir()
-    write(room / "rsyncd.conf", f"use chroot = no\nuid = {os.getuid()}\ngid = {os.getgid()}\n[site]\npath = {host}\nread only = no\n")
+    # Root's daemon would write as nobody; another user's writes as that user, and may not name one.
+    user = "uid = 0\ngid = 0\n" if os.getuid() == 0 else ""
+    write(room / "rsyncd.conf", f"use chroot = no\n{user}[site]\npath = {host}\nread only = no\n")
     daemon = subprocess.Popen(["rsync", "--daemon", "--no-detach", f"--config={room}/rsyncd.conf", f"--port={port}", "--address=127.0.0.1"])
     try:
         until(lambda: not is_free(port), "the daemon of rsync listens")

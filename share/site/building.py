@@ -64,8 +64,9 @@ class Builder:
         # Which folders they are, to tell them from others of these names.
         self.place = mark(folder)
         self.output = mark(folder, OUTPUT)
-        # The names in `_site` itself after the last build.
+        # The names that have to be in `_site` itself since the last build, and those of them that were gone right after it.
         self.names: set[str] = set()
+        self.gone: set[str] = set()
         # The last build that rendered something, for those who ask why.
         self.last: Optional[Built] = None
         self.saved: set[str] = set()
@@ -97,7 +98,7 @@ class Builder:
                 self.follow(self.gather())
             elif self.session and self.session.has_ended():
                 self.replace_ended(self.session.how_it_ended())
-            elif self.loss():
+            elif self.session and self.loss():
                 self.begin_again(self.loss())
             elif time.monotonic() >= self.next_scan:
                 self.make_sure()
@@ -136,8 +137,9 @@ class Builder:
             # What this writes is built with what was saved.
             self.make_styles()
             changes.add(self.take_now())
-        self.saved = set(changes.paths)
-        if self.loss():
+        # Many editors save by a file of another name, which has gone by now.
+        self.saved = {path for path in changes.paths if os.path.lexists(self.folder / path)} or changes.paths
+        if self.session and self.loss():
             self.begin_again(self.loss())
         elif changes.paths or changes.unclear:
             self.attempt(lambda: self.update(changes), changes)
@@ -193,7 +195,6 @@ class Builder:
             self.give_up(str(ended))
 
     def end_session(self) -> None:
-        self.names = set()
         if self.session:
             self.session.close()
         self.session = None
@@ -248,10 +249,15 @@ class Builder:
             self.tell_built(outcome)
 
     def note_names(self, built: Built) -> None:
-        """Notes what has to be in `_site` from now on: also what has gone, if the build has not removed as much."""
+        """Notes what has to be in `_site` from now on: also what has gone, if the build has not removed as much.
+
+        What is not there after the next build either is no longer part of the site.
+        """
         names = names_in(self.folder / OUTPUT)
         gone = self.names - names
-        self.names = names if len(gone) <= built.removed else names | gone
+        if len(gone) <= built.removed or gone == self.gone:
+            gone = set()
+        self.names, self.gone = names | gone, gone
 
     def loss(self) -> str:
         """What another program has taken away from `_site`, if anything."""

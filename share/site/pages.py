@@ -11,7 +11,7 @@ import string
 from dataclasses import dataclass
 from pathlib import Path
 from typing import BinaryIO, Optional
-from urllib.parse import unquote_to_bytes
+from urllib.parse import quote, unquote_to_bytes
 
 from settings import Settings
 from session import MOST_BYTES
@@ -79,10 +79,9 @@ def own_file(name: str) -> bytes:
     return (PARTS / name).read_bytes()
 
 
-def segments_of(address: str) -> Optional[list[bytes]]:
-    """The names in the path of an address; none if one of them could lead out of the site."""
-    path = unquote_to_bytes(re.split(r"[?#]", address, maxsplit=1)[0])
-    if not path.startswith(b"/") or b"\0" in path:
+def segments_of(path: bytes) -> Optional[list[bytes]]:
+    """The names in a path, which begins with `/`; none if one of them could lead out of the site."""
+    if b"\0" in path:
         return None
     segments = path[1:].split(b"/")
     if any(segment in NEVER_SERVED for segment in segments) or b"" in segments[:-1]:
@@ -127,16 +126,16 @@ class Pages:
 
     def answer(self, address: str, host: str, version: str) -> Answer:
         """What is served for an address of the site."""
-        base = self.settings.baseurl
-        path = re.split(r"[?#]", address, maxsplit=1)[0]
-        if base and path in ("/", base):
-            return Answer(302, moved=base + "/")
-        if not path.startswith(base + "/"):
-            return self.missing(host, version, f"The site is at {base}/, as its baseurl says.")
+        base = unquote_to_bytes(self.settings.baseurl)
+        path = unquote_to_bytes(re.split(r"[?#]", address, maxsplit=1)[0])
+        if base and path in (b"/", base):
+            return Answer(302, moved=quote(base) + "/")
+        if not path.startswith(base + b"/"):
+            return self.missing(host, version, f"The site is at {self.settings.baseurl}/, as its baseurl says.")
         segments = segments_of(path[len(base) :])
         return self.find(segments, path, host, version) if segments else self.missing(host, version)
 
-    def find(self, segments: list[bytes], path: str, host: str, version: str) -> Answer:
+    def find(self, segments: list[bytes], path: bytes, host: str, version: str) -> Answer:
         """The file of this name, the one with `.html` added, or the index of the folder."""
         *folders, name = segments
         names = [name, name + b".html"] if name else [b"index.html"]
@@ -149,7 +148,7 @@ class Pages:
                 return self.read(number, os.fsdecode(candidate), host, version)
             os.close(number)
             if kind == "folder" and not self.has([*folders, name + b".html"]) and self.has([*folders, name, b"index.html"]):
-                return Answer(302, moved=path + "/")
+                return Answer(302, moved=quote(path) + "/")
         return self.missing(host, version)
 
     def has(self, segments: list[bytes]) -> bool:

@@ -54,7 +54,7 @@ class Server(ThreadingHTTPServer):
         before, self.pages.settings = self.pages.settings, read_settings(self.builder.program, self.builder.folder) or self.pages.settings
         if not self.told or before.baseurl != self.pages.settings.baseurl:
             self.told = True
-            say(f"http://{ADDRESS}:{self.server_port}{self.pages.settings.baseurl}/  (Ctrl-C ends it)")
+            say(f"http://{ADDRESS}:{self.server_port}{words.shown(self.pages.settings.baseurl)}/  (Ctrl-C ends it)")
 
     def process_request(self, request, client_address):
         if not self.places.acquire(blocking=False):

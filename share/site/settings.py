@@ -2,6 +2,7 @@
 from __future__ import annotations
 
 import json
+import re
 import subprocess
 import tempfile
 from dataclasses import dataclass
@@ -11,6 +12,7 @@ from typing import Optional
 from session import LeftToScan, read_source
 
 CONFIGURATION = "_config.yml"
+ADDRESS = re.compile(r"[A-Za-z][A-Za-z0-9+.-]*://[^/]")
 # A site of this page alone, below a name that no site excludes.
 PAGE = "settings-that-site-asks-for"
 QUESTION = f"""---
@@ -44,5 +46,6 @@ def read_settings(program: str, folder: Path) -> Optional[Settings]:
             answer = json.loads(Path(room, "_site", f"{PAGE}.json").read_bytes())
     except (OSError, ValueError):
         return None
-    baseurl = (answer["baseurl"] or "").strip("/")
-    return Settings((answer["url"] or "").rstrip("/"), f"/{baseurl}" if baseurl else "")
+    baseurl, url = (answer["baseurl"] or "").strip("/"), (answer["url"] or "").rstrip("/")
+    # A text without a scheme is no address, and could be in any sentence.
+    return Settings(url if ADDRESS.match(url) else "", f"/{baseurl}" if baseurl else "")

@@ -77,6 +77,7 @@ IN_ISDIR = 0x40000000
 NOTICED = IN_ATTRIB | IN_CLOSE_WRITE | IN_MOVED_FROM | IN_MOVED_TO | IN_CREATE | IN_DELETE | IN_ONLYDIR | IN_DONT_FOLLOW
 EVENT = struct.Struct("iIII")
 BUFFER = 1 << 16
+MOST_READS = 16
 
 
 class Inotify:
@@ -149,11 +150,12 @@ class Inotify:
     def take(self) -> Changes:
         """What has happened so far."""
         changes = Changes()
-        while True:
+        # So many times at most: while files are saved without a pause, there is always more.
+        for _ in range(MOST_READS):
             try:
                 data = os.read(self.number, BUFFER)
             except BlockingIOError:
-                return changes
+                break
             at = 0
             while at < len(data):
                 number, mask, _, length = EVENT.unpack_from(data, at)
@@ -161,6 +163,7 @@ class Inotify:
                 name = os.fsdecode(data[at : at + length].rstrip(b"\0"))
                 at += length
                 self.note(changes, number, mask, name)
+        return changes
 
     def note(self, changes: Changes, number: int, mask: int, name: str) -> None:
         """Adds what one event tells."""

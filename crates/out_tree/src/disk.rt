@@ -3,7 +3,8 @@ ghost use Rattle.std.specs.Prelude.{◌≤◌, None};
 ghost use Rattle.site_base.specs.Ends.{Rose};
 
 use crate::OutTree;
-use site_base::{Failed, ListError, Memory, PathMap, SitePath, Skips, list_folder};
+use folder_walk::{Skips, list_folder};
+use site_base::{Failed, ListError, Memory, PathMap, SitePath};
 use std::alloc::{AllocError, Global};
 use std::io::ErrorKind;
 use std::rt::Files;

@@ -6,7 +6,8 @@ ghost use Rattle.site_base.specs.Places.{AllDiffer};
 
 use crate::SourceTree;
 use crate::memory::MOST_READ;
-use site_base::{ListError, Memory, ReadError, SitePath, Skips, list_folder};
+use folder_walk::{Skips, list_folder};
+use site_base::{ListError, Memory, ReadError, SitePath};
 use std::alloc::Global;
 use std::fs;
 use std::io::Read;

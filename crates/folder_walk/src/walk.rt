@@ -1,5 +1,5 @@
 // The files below a real folder.
-use crate::{ListError, PathMap, SitePath};
+use site_base::{ListError, PathMap, SitePath};
 use std::alloc::Global;
 use std::rt::Files;
 use std::{fs, io};
