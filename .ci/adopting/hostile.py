@@ -24,7 +24,7 @@ AS_NOBODY = ["setpriv", "--reuid=65534", "--regid=65534", "--clear-groups"] if o
 
 def try_all(work: Path, failures: Failures) -> None:
     for part in (
-        nothing_to_do, lists, copies, links_and_others, in_place, unreadable, names, settings_that_are_not_read, other_folders, no_room, killed,
+        nothing_to_do, lists, copies, links_and_others, in_place, cut_short, unreadable, names, settings_that_are_not_read, other_folders, no_room, killed,
         styles, faults_of_files,
     ):
         folder = work / part.__name__
@@ -141,6 +141,29 @@ def in_place(work: Path, failures: Failures) -> None:
     site_of_hands.copied["a.md"] = (site / "a.md").stat().st_mtime_ns
     write_into(site_of_hands, ["a.md", "late.md"])
     failures.expect("a file that came meanwhile", (site / "late.md").read_text(), "mine")
+
+
+def cut_short(work: Path, failures: Failures) -> None:
+    """A run in place that is cut short after any of its writes is made good by the next."""
+    files = {
+        "_config.yml": "theme: own\nlayouts_dir: lay\nplugins: [jekyll-feed]\nexclude: ['*.key']\n", "a.key": "k", "lay/l.html": "{{ content }}",
+        "a.html": "---\nlayout: l\n---\n{% seo %}{{ jekyll.environment }}\n", "s.scss": "---\n---\nb { top: 0; }\n",
+    }
+    theme = work / "theme"
+    write_files(theme, {"_layouts/of_theme.html": "x", "assets/t.txt": "t", "_config.yml": "colour: red\n"})
+    write_files(work / "whole", files)
+    expect_said("in place", adopt(work / "whole", "--write", "--theme", theme), failures, 0, "adopted in place")
+    whole = read_files(work / "whole")
+    for writes in range(len(whole)):
+        site = work / f"after{writes}"
+        write_files(site, files)
+        patch = f"import sys; sys.path.insert(0, {str(PARTS)!r}); import adopt\nold, left = adopt.write_bytes, [{writes}]\n" + (
+            "def write(path, data):\n    left[0] -= 1\n    if left[0] < 0: raise OSError(28, 'No space left on device', str(path))\n    old(path, data)\n"
+            f"adopt.write_bytes = write\nadopt.main([{str(site)!r}, '--write', '--theme', {str(theme)!r}], {PROGRAM!r})"
+        )
+        run([sys.executable, "-B", "-c", patch], work)
+        adopt(site, "--write", "--theme", theme)
+        failures.expect(f"a run that is cut short after {writes} writes", read_files(site), whole)
 
 
 def unreadable(work: Path, failures: Failures) -> None:

@@ -139,11 +139,11 @@ def finish(adoption: Adoption, beside: Optional[Path]) -> int:
 
 
 def not_the_same(new: Path, old: Path) -> list[str]:
-    """The paths of the files that are not the same in both folders, `_config.yml` first."""
+    """The paths of the files that are not the same in both folders."""
     here, there = set(list_files(new).files), {path for path in list_files(old).files if not is_left_out(path)}
     both = here & there
     changed = (here ^ there) | {path for path in both if not filecmp.cmp(new / path, old / path, shallow=False)}
-    return sorted(changed, key=lambda path: (path != "_config.yml", path))
+    return sorted(changed)
 
 
 def write_into(adoption: Adoption, changed: list[str]) -> None:
@@ -159,13 +159,26 @@ def write_into(adoption: Adoption, changed: list[str]) -> None:
                 raise Refused(f"{shown(path)}: it was saved meanwhile; run this again. Nothing was written")
         elif os.path.lexists(place) and not place.is_symlink():
             raise Refused(f"{shown(path)}: it came meanwhile; run this again. Nothing was written")
-    for path in changed:
+    for path in sorted(changed, key=lambda path: (stage(adoption, path), path)):
         if (new / path).exists():
             write_bytes(folder / path, (new / path).read_bytes())
-    # Those that have another name now, under which they are written.
-    for path in changed:
-        if not (new / path).exists():
+        else:
             (folder / path).unlink()
+
+
+def stage(adoption: Adoption, path: str) -> int:
+    """When a path is written, so that the next run makes good what is missing after a run that was cut short.
+
+    The configuration says what is still to be done of new files. What is to be done in templates, they say themselves.
+    """
+    if path == "_config.yml":
+        return 2
+    if path not in adoption.copied:
+        return 0
+    if (adoption.folder / path).exists():
+        return 3
+    # It has another name now, under which it was just written.
+    return 4 if path == "_config.yaml" else 1
 
 
 if __name__ == "__main__":

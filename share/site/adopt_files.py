@@ -13,12 +13,11 @@ from adopt_settings import CONFIG, collections_of, plugins_of, read_mended, text
 from adoption import Adoption
 from kept_back import Program
 from configuration import Settings, written
-from site_files import begins_with_mark, front_matter, line_of, read_text, read_values, write_text
+from site_files import TEMPLATES, begins_with_mark, front_matter, line_of, read_text, read_values, write_text
 from tags import Includes, rewrite
 from theme import find_gem, locked_version, missing_files
 from words import shown
 
-TEMPLATES = Path(__file__).resolve().parent / "templates"
 # Keys that a theme's configuration never sets: Jekyll has defaults of its own for them.
 JEKYLLS_OWN = set(
     "source destination collections_dir cache_dir plugins_dir layouts_dir data_dir includes_dir collections safe include exclude "
@@ -229,7 +228,7 @@ def write_feeds(adoption: Adoption, config: dict) -> None:
     posts["categories"] = posts.get("categories") or given.get("categories")
     for name, meta in collections.items():
         top = "feed" if name == "posts" else f"feed/{name}"
-        keys = ["layout:"] if name == "posts" else ["layout:", f"feed_collection: {written(name)}"]
+        keys = ["layout: none"] if name == "posts" else ["layout: none", f"feed_collection: {written(name)}"]
         write_feed(adoption, str(meta.get("path") or f"{top}.xml").lstrip("/"), keys)
         for category in texts(meta.get("categories")):
             write_feed(adoption, f"{top}/{category}.xml", [*keys, f"feed_category: {written(category)}"])
@@ -248,8 +247,8 @@ def write_feed(adoption: Adoption, path: str, keys: list[str]) -> None:
 def write_sitemap(adoption: Adoption, config: dict) -> None:
     """The files of jekyll-sitemap, as templates."""
     if "jekyll-sitemap" in plugins_of(config, adoption.original):
-        write_page(adoption, "sitemap.xml", ["layout:"], template("sitemap.xml"), "is new: what jekyll-sitemap makes, as a template")
-        write_page(adoption, "robots.txt", ["layout:"], template("robots.txt"), "is new: what jekyll-sitemap makes, as a template")
+        write_page(adoption, "sitemap.xml", ["layout: none"], template("sitemap.xml"), "is new: what jekyll-sitemap makes, as a template")
+        write_page(adoption, "robots.txt", ["layout: none"], template("robots.txt"), "is new: what jekyll-sitemap makes, as a template")
 
 
 def write_redirects(adoption: Adoption) -> None:

@@ -139,6 +139,7 @@ def rename_folders(adoption: Adoption, settings: Settings, config: dict) -> bool
         for entry in sorted(inner.iterdir()) if inner.is_dir() else []:
             if entry.name.startswith("_") and entry.is_dir():
                 move(adoption, settings, "collections_dir", f"{given}/{entry.name}", entry.name)
+        adoption.done(f"{CONFIG}:{settings.line('collections_dir')}", "collections_dir is taken out: collections are at the top")
         settings.comment_out("collections_dir", "its folders are at the top now")
         config.pop("collections_dir")
     return bool(given)
@@ -153,12 +154,18 @@ def folder_in(settings: Settings, config: dict, key: str) -> str:
 
 
 def move(adoption: Adoption, settings: Settings, key: str, old: str, new: str) -> None:
-    if not (adoption.folder / old).is_dir():
-        return
-    if (adoption.folder / new).exists():
-        raise Refused(f"{CONFIG}:{settings.line(key)}: {shown(old)} has to be called {new}, which is there already; put them together. Nothing was done")
-    os.rename(adoption.folder / old, adoption.folder / new)
-    adoption.done(f"{CONFIG}:{settings.line(key)}", f"{old} is called {new} now; no other name is read ({key})")
+    """Gives a folder the name that the program knows. What is there under that name stays."""
+    place = f"{CONFIG}:{settings.line(key)}"
+    for path in [path for path in adoption.files() if path.startswith(f"{old}/")]:
+        source, target = adoption.folder / path, adoption.folder / f"{new}{path[len(old):]}"
+        if target.exists() and target.read_bytes() != source.read_bytes():
+            raise Refused(f"{place}: {shown(old)} has to be called {new}, where another {shown(target.name)} is; put them together. Nothing was done")
+        target.parent.mkdir(parents=True, exist_ok=True)
+        os.replace(source, target)
+    if (adoption.folder / new).is_dir():
+        adoption.done(place, f"{old} is called {new} now; no other name is read ({key})")
+    else:
+        adoption.done(place, f"{key} is taken out: there is no folder {old}")
     if key != "collections_dir":
         settings.comment_out(key, f"the folder is called {new} now")
 

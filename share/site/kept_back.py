@@ -101,8 +101,9 @@ class Jekyll:
         self.folders: dict[str, list[str]] = {"": []}
         for path in sorted(self.files):
             self.add(path)
+        always = [f"{entry}/" if entry.startswith("vendor/") else entry for entry in ALWAYS_EXCLUDED]
         # An entry that is in both lists is excluded no longer.
-        self.excluded_entries = [entry for entry in rules.exclude + ALWAYS_EXCLUDED if entry not in rules.include]
+        self.excluded_entries = [entry for entry in rules.exclude + always if entry not in rules.include]
 
     def add(self, path: str) -> None:
         above = path.rpartition("/")[0]

@@ -8,7 +8,7 @@ import notes_of_markdown
 import notes_of_settings
 import notes_of_templates
 from first_faults import all_faults
-from site_files import NotRead, first_fault, run
+from site_files import TEMPLATES, NotRead, first_fault, run
 from site_notes import Notes, read_site
 
 
@@ -30,11 +30,15 @@ def differences(folder: Path, program: str) -> list[str]:
     notes = Notes()
     notes_of_settings.add(notes, site)
     notes_of_files.add(notes, site)
+    ours = {path.read_text(encoding="utf-8") for path in TEMPLATES.iterdir()}
     for item in site.items:
+        if item.text[item.body :] in ours:
+            continue
         notes_of_templates.add(notes, site, item.path, item.text, item.body)
         if site.is_markdown(item.path):
             notes_of_markdown.add(notes, item.path, item.text, item.body)
     for path, text in site.plain.items():
-        notes_of_templates.add(notes, site, path, text, 0)
+        if text not in ours:
+            notes_of_templates.add(notes, site, path, text, 0)
     notes_of_templates.add_counters(notes, site)
     return notes.lines()

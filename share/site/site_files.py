@@ -14,15 +14,16 @@ from dataclasses import dataclass, field
 from pathlib import Path
 from typing import Iterator, Optional
 
-# What the program passes over wherever it is: docs/PROFILE.md, "The folder".
-PASSED_OVER = {".git", ".svn", ".hg", ".jekyll-cache", ".sass-cache", "node_modules"}
-OUTPUT = "_site"
+from session import MOST_PATH
+from watching import OUTPUT, PASSED_OVER
+
+# What `site adopt` writes in place of plugins.
+TEMPLATES = Path(__file__).resolve().parent / "templates"
 # Jekyll and the program leave these out of every site.
 ALWAYS_EXCLUDED = [
     ".sass-cache", ".jekyll-cache", "gemfiles", "Gemfile", "Gemfile.lock", "node_modules",
     "vendor/bundle", "vendor/cache", "vendor/gems", "vendor/ruby",
 ]
-MOST_PATH = 1024
 # So many texts are read in one run of the program.
 TEXTS_OF_A_RUN = 2000
 
