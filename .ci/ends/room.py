@@ -55,6 +55,8 @@ def meddling(room: Room) -> Path:
         raise PassedOver("it needs a compiler of C")
     # Beside the program: what lies in memory is not run on some machines.
     made = room.program.with_name(f"meddle{room.top.name}.so")
+    if set(" :") & set(str(made)):
+        raise PassedOver("LD_PRELOAD takes no path with a space or a colon")
     source = Path(__file__).with_name("meddle.c")
     ran = subprocess.run([compiler, "-shared", "-fPIC", "-O1", "-o", made, source], stderr=subprocess.PIPE, text=True)
     if ran.returncode != 0:
