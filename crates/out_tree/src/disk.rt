@@ -87,10 +87,8 @@ impl<R: Files<File = File> + AllocGlobal + Clone + Drop> DiskOut<R> {
         if held.is_some() {
             self.held = held;
         }
-        let _ = fs::remove_file(
-            &self.rt,
-            format!(in alloc; "{DESTINATION}/{LEFT}")?.as_str(),
-        );
+        // What a write left that was cut off.
+        let _ = fs::remove_file(&self.rt, LEFT);
         let found = match list_folder(&self.rt, alloc, DESTINATION, SKIPS)? {
             Some(found) => found,
             None => PathMap::new(alloc),

@@ -5,7 +5,7 @@ use std::alloc::Global;
 use std::fs;
 use std::fs::{File, Metadata, OpenOptions, Permissions};
 use std::io::{Error, ErrorKind, Read, Write};
-use std::os::unix::fs::{MetadataExt, PermissionsExt, lchown};
+use std::os::unix::fs::{MetadataExt, OpenOptionsExt, PermissionsExt, lchown};
 use std::rt::Files;
 
 /// The folder that holds the output, in the current folder.
@@ -139,10 +139,18 @@ fn write_new<R: Files<File = File>>(rt: &R, place: &str, bytes: &[u8]) -> Result
     Ok(())
 }
 
+// The rights that `umask` leaves of those that are asked for when a file is made (POSIX, open).
+const NEW_RIGHTS: u32 = 0o666;
+
 fn create<R: Files<File = File>>(rt: &R, place: &str) -> Result<File, Error> {
+    create_with(rt, place, NEW_RIGHTS)
+}
+
+fn create_with<R: Files<File = File>>(rt: &R, place: &str, rights: u32) -> Result<File, Error> {
     OpenOptions::new()
         .write(true)
         .create_new(true)
+        .mode(rights)
         .open(rt, place)
 }
 
@@ -252,18 +260,20 @@ fn fill_beside<R: Files<File = File>>(
     there: &Metadata,
     bytes: &[u8],
 ) -> Result<(), Reason> {
-    let mut file = match create(rt, LEFT) {
+    let rights = there.mode() & RIGHTS_BITS;
+    let mut file = match create_with(rt, LEFT, rights) {
         Ok(file) => file,
         Err(error) if error.kind() == ErrorKind::AlreadyExists => {
             fs::remove_file(rt, LEFT)?;
-            create(rt, LEFT)?
+            create_with(rt, LEFT, rights)?
         }
         Err(error) => return Err(Reason::from(error)),
     };
     file.write_all(bytes)?;
-    // The owner and the rights that somebody gave the page stay. Where that cannot be, it has those of a new one.
-    let _ = lchown(rt, LEFT, Some(there.uid()), Some(there.gid()));
-    let _ = file.set_permissions(Permissions::from_mode(there.mode() & RIGHTS_BITS));
+    // The owner and the rights that somebody gave the page stay. Where the owner cannot, nobody gets more rights than the page had.
+    if lchown(rt, LEFT, Some(there.uid()), Some(there.gid())).is_ok() {
+        let _ = file.set_permissions(Permissions::from_mode(rights));
+    }
     Ok(())
 }
 
