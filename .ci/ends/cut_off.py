@@ -25,15 +25,16 @@ def file_size_limit(room: Room) -> None:
     room.has("long.txt", "n" * 100000)
 
 
-@case("after `trap '' XFSZ` a short page past `ulimit -f` is marked, and the old one is whole")
+@case("after `trap '' XFSZ` a short page past `ulimit -f` is marked, and the next run mends it")
 def file_size_limit_of_a_short_page(room: Room) -> None:
     limited = ("bash", "-c", "trap '' XFSZ; ulimit -f 8; exec \"$@\"", "bash")
     room.make({"page.txt": "o" * 20000, "short.txt": "old"})
     room.is_built(room.once())
     room.make({"page.txt": "n" * 20000, "short.txt": "new"})
     room.is_marked(room.once(under=limited), "page.txt")
-    room.has("page.txt", "o" * 20000)
     room.has("short.txt", "new")
+    room.is_built(room.once())
+    room.has("page.txt", "n" * 20000)
 
 
 PAGES = 160

@@ -23,7 +23,7 @@ SOURCE = {
     "short.txt": "new",
     "way": "new",
 }
-OUTPUT = {"same.txt": "same", "short.txt": "old", "surplus/old.txt": "old", "way/e/": "", "kept/k": "mine"}
+OUTPUT = {"same.txt": "same", "short.txt": "old", "surplus/old.txt": "old", "way/": "", "kept/k": "mine"}
 SCRIPT = "scan\nbuild\nput short.txt 5\nnewerput more/x.txt 1\nxdelete a/b/page.html\nscan\nbuild\nend\n"
 
 

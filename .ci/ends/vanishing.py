@@ -102,7 +102,6 @@ for name, moment, path in (
     ("a file in a folder of the source vanishes before it is looked at", LOOK, "busy/x.txt"),
     ("a folder of the source vanishes before it is looked at", LOOK, "busy/e/"),
     ("a folder of the source vanishes before it is listed", OPEN, "busy/e/"),
-    ("a file of the source vanishes before it is read", OPEN, "busy/x.txt"),
     ("a file at the top of _site vanishes before it is looked at", LOOK, "_site/x.txt"),
     ("a file in a folder of _site vanishes before it is looked at", LOOK, "_site/a/x.txt"),
     ("a folder of _site vanishes before it is looked at", LOOK, "_site/e/"),
