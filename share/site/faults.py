@@ -88,7 +88,7 @@ def text_of(folder: Path, path: str, line: int) -> str:
 
 def output_fault(failed: Failed) -> Fault:
     if not failed.marked:
-        return Fault("_site cannot be listed, and nothing was written; look whether it is a folder, and at its names and rights", "status 4")
+        return Fault("_site cannot be listed, and nothing was written; check that it is a folder, and check its names and permissions", "status 4")
     paths = ", ".join(os.path.join("_site", path) for path in failed.marked[:MOST_MARKED])
     more = f" and {len(failed.marked) - MOST_MARKED} more" if len(failed.marked) > MOST_MARKED else ""
     return Fault(f"these files could not be written or removed, and are tried again with the next save: {paths}{more}", "status 4")
