@@ -24,11 +24,19 @@ def run(program, arguments):
     return importlib.import_module(word).main(arguments[1:], program)
 
 
+def program_place(program):
+    """Where the program is, whatever folder it is run in."""
+    try:
+        return os.path.abspath(program)
+    except FileNotFoundError:
+        raise words.Refused("the current folder is not there any more; go to another one first") from None
+
+
 def main():
     for stream in (sys.stdout, sys.stderr):
         stream.reconfigure(errors="backslashreplace", line_buffering=True)
     try:
-        return run(os.path.abspath(sys.argv[1]), sys.argv[2:])
+        return run(program_place(sys.argv[1]), sys.argv[2:])
     except words.Refused as refused:
         print(f"site: {refused}", file=sys.stderr)
         return refused.status
