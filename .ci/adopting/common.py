@@ -11,6 +11,8 @@ from pathlib import Path
 TOP = Path(__file__).resolve().parents[2]
 PARTS = TOP / "share" / "site"
 PROGRAM = os.environ["SITEBUILD"]
+# Where Debian puts the themes and plugins that it packs.
+GEMS = Path("/usr/share/rubygems-integration/all/gems")
 sys.path.insert(0, str(PARTS))
 
 

@@ -10,15 +10,14 @@ import plugins
 import proof
 import random_sites
 import rows
-from common import Failures, has
+from common import GEMS, Failures, has
 
 SITES_BY_CHANCE = 100
-THEME = Path("/usr/share/rubygems-integration/all/gems")
 
 
 def main() -> int:
     failures = Failures()
-    jekyll, minima = has("jekyll") and has("ruby"), any(THEME.glob("minima-*"))
+    jekyll, minima = has("jekyll") and has("ruby"), any(GEMS.glob("minima-*"))
     with tempfile.TemporaryDirectory() as name:
         work = Path(name)
         work.chmod(0o755)

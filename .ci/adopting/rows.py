@@ -8,7 +8,7 @@ from dataclasses import dataclass, field
 from pathlib import Path
 from typing import Optional
 
-from common import PROGRAM, Failures, build_by_jekyll, run, write_files
+from common import GEMS, PROGRAM, Failures, build_by_jekyll, run, write_files
 import adopt
 import notes
 
@@ -31,18 +31,24 @@ class Row:
     said: str = ""
     # Whether the adopted site gives what is there.
     adopted: bool = False
+    # The theme or plugin without which neither Jekyll nor an adopted site can be looked at.
+    needs: str = ""
+
+    def can_be_asked(self) -> bool:
+        return not self.needs or any(GEMS.glob(f"{self.needs}-*"))
 
 
 def read_rows(text: str) -> list[Row]:
     """A row begins with `### NAME`; then come `-- FILE --`, and `== here`, `== there` and `== said`, each with its text below it.
 
-    With `== adopted` the adopted site gives what is there.
+    With `== adopted` the adopted site gives what is there. `== needs NAME` names a theme or a plugin that has to be installed for both.
     """
     rows: list[Row] = []
     take = None
     for number, line in enumerate(text.splitlines(keepends=True), 1):
         heading = re.fullmatch(r"### (.*)\n", line)
         file = re.fullmatch(r"-- (.*) --\n", line)
+        needs = re.fullmatch(r"== needs (\S+)\n", line)
         part = re.fullmatch(r"== (here|there|said)(?: (.*?))?( \(nothing\))?\n", line)
         if heading:
             rows.append(Row(heading[1], number))
@@ -51,6 +57,8 @@ def read_rows(text: str) -> list[Row]:
             take = adder(rows[-1].files, file[1])
         elif part:
             take = part_adder(rows[-1], part)
+        elif needs:
+            rows[-1].needs, take = needs[1], None
         elif line == "== adopted\n":
             rows[-1].adopted, take = True, None
         elif take:
@@ -97,13 +105,16 @@ def try_rows(work: Path, failures: Failures, jekyll: bool) -> int:
         if said != row.said.strip():
             failures.add(f"{ROWS.name}:{row.line}: {row.name}: what is said:\n{said}")
         try_here(row, folder, failures)
-        if row.adopted:
+        if not row.can_be_asked():
+            print(f"{row.name}: only what the program makes of it was looked at; it needs {row.needs}")
+        elif row.adopted:
             try_adopted(row, folder, failures)
     if jekyll:
         # A zone of its own shows what Jekyll takes from the machine.
         refusals = build_by_jekyll(folders, {"TZ": "America/New_York"})
         for row, folder in zip(rows, folders):
-            try_there(row, Path(f"{folder}-jekyll"), refusals.get(str(folder), ""), failures)
+            if row.can_be_asked():
+                try_there(row, Path(f"{folder}-jekyll"), refusals.get(str(folder), ""), failures)
     return len(rows)
 
 
@@ -122,6 +133,9 @@ def try_adopted(row: Row, folder: Path, failures: Failures) -> None:
         adopt.main([str(folder)], PROGRAM)
     copy = Path(f"{folder}-adopted")
     drafts = ["--drafts"] if any("_drafts/" in path for path in row.files) else []
+    if not copy.is_dir():
+        failures.add(f"{ROWS.name}:{row.line}: {row.name}: nothing was adopted")
+        return
     run([PROGRAM, "once", *drafts], copy)
     compare(row, "adopted", row.there, copy / "_site", failures)
 

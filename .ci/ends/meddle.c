@@ -1,5 +1,4 @@
 /* What a run meets seldom, done to a program that is started with this in LD_PRELOAD. The environment says what:
-   REFUSE=N        the growth of memory with this number, counted from 1, is refused, and with REFUSE_ON each one after it too
    SLOW_MKDIR=N    the program waits so many microseconds before it makes a folder, so that another one is first
    GONE_AT_LOOK=P  what has the path P vanishes before the program asks what it is
    GONE_AT_OPEN=P  the same before the program opens it */
@@ -13,39 +12,6 @@
 #include <sys/stat.h>
 #include <sys/syscall.h>
 #include <unistd.h>
-
-extern void *__libc_malloc(size_t size);
-extern void *__libc_realloc(void *old, size_t size);
-
-static long first = 0;
-static int goes_on = 0;
-static long count = 0;
-
-__attribute__((constructor)) static void begin(void)
-{
-    const char *number = getenv("REFUSE");
-    goes_on = getenv("REFUSE_ON") != NULL;
-    count = 0;
-    first = number ? atol(number) : 0;
-}
-
-static int is_refused(void)
-{
-    if (first == 0)
-        return 0;
-    count++;
-    return count == first || (goes_on && count > first);
-}
-
-void *malloc(size_t size)
-{
-    return is_refused() ? NULL : __libc_malloc(size);
-}
-
-void *realloc(void *old, size_t size)
-{
-    return is_refused() ? NULL : __libc_realloc(old, size);
-}
 
 int mkdir(const char *path, mode_t mode)
 {

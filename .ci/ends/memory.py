@@ -10,6 +10,7 @@ from pathlib import Path
 
 from room import PassedOver, Ran, Room, case, meddling, text_of
 
+REFUSED = Path(__file__).resolve().parent.parent / "refused.c"
 # So many runs one after another that went well: the growths that are refused lie behind the last.
 ENOUGH = 40
 MOST = 2000
@@ -49,7 +50,7 @@ def is_right(ran: Ran) -> bool:
 
 def refused_in_turn(script: str, goes_on: bool, room: Room) -> None:
     """Refuses each growth in turn, and tells those that were answered otherwise than as want of memory."""
-    library = meddling(room)
+    library = meddling(room, REFUSED)
     room.make(SOURCE)
     renew_output(room)
     room.is_built(run_refused(room, library, 0, script, goes_on))

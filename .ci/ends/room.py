@@ -48,19 +48,18 @@ def needs_root() -> None:
         raise PassedOver("it needs root")
 
 
-def meddling(room: Room) -> Path:
-    """A library that does to a program what meddle.c says."""
+def meddling(room: Room, source: Path = Path(__file__).with_name("meddle.c")) -> Path:
+    """A library that does to a program what this file of C says."""
     compiler = shutil.which("cc") or shutil.which("gcc") or shutil.which("clang")
     if not compiler:
         raise PassedOver("it needs a compiler of C")
     # Beside the program: what lies in memory is not run on some machines.
-    made = room.program.with_name(f"meddle{room.top.name}.so")
+    made = room.program.with_name(f"{source.stem}{room.top.name}.so")
     if set(" :") & set(str(made)):
         raise PassedOver("LD_PRELOAD takes no path with a space or a colon")
-    source = Path(__file__).with_name("meddle.c")
     ran = subprocess.run([compiler, "-shared", "-fPIC", "-O1", "-o", made, source], stderr=subprocess.PIPE, text=True)
     if ran.returncode != 0:
-        raise PassedOver(f"meddle.c does not compile here: {ran.stderr}")
+        raise PassedOver(f"{source.name} does not compile here: {ran.stderr}")
     return made
 
 

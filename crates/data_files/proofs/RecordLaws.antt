@@ -1,6 +1,6 @@
 -- The records of a text are one list: as many reads as there are bytes and one find them all.
 use Rattle.std.proofs.Common.{◌≡◌, ◌⊎◌, inl, inr, ℕ, zero, suc, ◌+◌, ◌<◌, ◌≤◌, Bool, true, false, List, [], ◌∷◌, ◌++◌, length, Option, Some, None, refl, sym, ap, ◌∙◌, arith}
-use Rattle.std.specs.Prelude.{if◌then◌else◌, unwrap_or}
+use Rattle.std.specs.Prelude.{if◌then◌else◌, unwrap_or, Result, Ok, Err, IsOkAnd}
 use Rattle.csv.specs.Machine.{Read, next_record, ends_at_end, is_end, step, fields_after, field_after}
 use Rattle.csv.specs.Reading.{Reached, records_from, records_next, strip_bom}
 use Rattle.csv.specs.declared.parser.Config.{Config}
@@ -67,3 +67,8 @@ table_is separator s made (rows, (s2, ys, reached, none), is) =
 pub none_is : (error : Refusal) (separator : ℕ) (s : List ℕ) → FoundNone error separator s → IsNoTable error separator s
 none_is refusal.Refused separator s found = table_is separator s None found
 none_is refusal.Memory separator s found = found
+
+-- what is said of an answer that is `Ok`
+pub ok_and : {T E : Type 0} (r : Result T E) (P : T → Type 0) → IsOkAnd r P → (x : T) × (r ≡ Ok x) × P x
+ok_and (Ok x) P h = (x, refl, h)
+ok_and (Err e) P h = absurd h

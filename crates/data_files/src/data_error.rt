@@ -2,7 +2,7 @@
 use front_yaml::YamlFault;
 
 /// Why a data file has no value.
-#[derive(Clone, Copy, Debug, PartialEq, Eq)]
+#[derive(Clone, Copy, PartialEq, Eq)]
 pub enum DataError {
     /// The text of a YAML file has no value; this is its first fault.
     Yaml(YamlFault),

@@ -2,7 +2,7 @@
 use site_base::Memory;
 
 /// Why the text of a data file has no value.
-#[derive(Clone, Copy, Debug, PartialEq, Eq)]
+#[derive(Clone, Copy, PartialEq, Eq)]
 pub enum Refusal {
     /// The text has no reading, or one that no value has.
     Refused,

@@ -1,5 +1,5 @@
 // Texts of records.
-ghost use Rattle.std.specs.Prelude.{◌≡◌, [], IfOk, OnOk, MatchResult, Some, length, slice_get};
+ghost use Rattle.std.specs.Prelude.{◌≡◌, [], IfOk, IsOkAnd, OnOk, MatchResult, Some, length, slice_get};
 ghost use Rattle.std.specs.Option.{option_copied};
 ghost use Rattle.csv.specs.Records.{fields_of};
 ghost use Rattle.site_base.specs.View.{plain};
@@ -57,11 +57,7 @@ fn read_records(alloc: Global, text: &[u8], separator: u8) -> Result<Value, Refu
         .from_reader(alloc, text);
     let mut table = Table::Empty;
     for row in rdr.into_records() {
-        match row {
-            Ok(row) => table = with_record(alloc, table, &row)?,
-            // The bytes are text and lie in memory, and records may differ in length here.
-            Err(_) => return Err(Refusal::Memory),
-        }
+        table = with_read(alloc, table, row)?;
     }
     match table {
         Table::Empty => Ok(Value::List(List::new(alloc))),
@@ -87,6 +83,21 @@ struct Columns {
     count: usize,
     /// The place of the field that counts, by the column's name.
     places: IndexMap<String, usize>,
+}
+
+// The table with what a reader found next.
+fn with_read(
+    alloc: Global,
+    table: Table,
+    row: Result<StringRecord, csv::Error>,
+) -> Result<Table, Memory>
+    ensures { IfOk result (λ made. IsOkAnd row (λ found. GoesOn table (fields_of found) made)) }
+{
+    match row {
+        Ok(row) => with_record(alloc, table, &row),
+        // The bytes are text and lie in memory, and records may differ in length here.
+        Err(_) => Err(Memory),
+    }
 }
 
 // The table with one more record.

@@ -1,4 +1,8 @@
 // What a call on a real folder cannot get past.
+ghost use Rattle.std.specs.Prelude.{◌≡◌, IfOk};
+ghost use Rattle.std.specs.String.{string_bytes};
+ghost use Rattle.folder_walk.specs.Reasons.{reading, writing};
+
 use std::alloc::{AllocError, AllocFailed, Global};
 use std::io::{Error, ErrorKind};
 
@@ -31,7 +35,9 @@ pub enum Reason {
 
 impl Reason {
     /// Why a read, or a list, came to this error.
-    pub fn of_reading(error: &Error) -> Reason {
+    pub fn of_reading(error: &Error) -> Reason
+        ensures { result ≡ reading error.now }
+    {
         match error.kind() {
             ErrorKind::NotADirectory => Reason::NoFolder,
             _ => Reason::Unreadable,
@@ -41,6 +47,8 @@ impl Reason {
 
 /// Why a write, or a removal, came to this error.
 impl From<Error> for Reason {
+    ghost from_gives = { λ error reason. reason ≡ writing error };
+
     fn from(error: Error) -> Reason {
         match error.kind() {
             ErrorKind::InvalidFilename => Reason::LongName,
@@ -74,18 +82,24 @@ pub struct Obstacle {
 
 impl Obstacle {
     /// The obstacle at a place, which is a path relative to the current folder.
-    pub fn at(alloc: Global, place: &str, reason: Reason) -> Result<Obstacle, AllocError> {
+    pub fn at(alloc: Global, place: &str, reason: Reason) -> Result<Obstacle, AllocError>
+        ensures { IfOk result (λ obstacle. (obstacle.reason ≡ reason) × (string_bytes obstacle.place ≡ place.now)) }
+    {
         Ok(Obstacle {
             reason,
             place: String::from_str(alloc, place)?,
         })
     }
 
-    pub fn reason(&self) -> Reason {
+    pub fn reason(&self) -> Reason
+        ensures { result ≡ self.now.reason }
+    {
         self.reason
     }
 
-    pub fn place(&self) -> &str {
+    pub fn place(&self) -> &str
+        ensures { result.now ≡ string_bytes self.now.place }
+    {
         self.place.as_str()
     }
 }

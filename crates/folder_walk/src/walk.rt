@@ -1,4 +1,9 @@
 // A walk over the files below a real folder.
+ghost use Rattle.std.specs.Prelude.{◌≡◌, ◌==◌, false, length, IfOk, IfSome};
+ghost use Rattle.std.specs.Str.{bytes_eq};
+ghost use Rattle.std.specs.String.{string_bytes};
+ghost use Rattle.folder_walk.specs.Skips.{holds, holds_in_any_case, is_skipped_folder, is_skipped_name, lower};
+
 use crate::{Obstacle, Reason};
 use site_base::{PathError, PathMap, SitePath};
 use std::alloc::{AllocError, AllocFailed, Global};
@@ -33,7 +38,9 @@ pub struct Skips<'a> {
 }
 
 impl Skips<'_> {
-    fn skips_folder(&self, name: &str, is_top: bool) -> bool {
+    fn skips_folder(&self, name: &str, is_top: bool) -> bool
+        ensures { result ≡ is_skipped_folder self.now.folders.now self.now.folders_at_top.now is_top name.now }
+    {
         holds(self.folders, name) || is_top && holds(self.folders_at_top, name)
     }
 
@@ -43,17 +50,29 @@ impl Skips<'_> {
             && (is_hidden(path) || self.excluded.iter().any(|front| path.starts_with(*front)))
     }
 
-    fn skips_name(&self, name: &str, is_top: bool) -> bool {
-        is_top
-            && self
-                .names_at_top
-                .iter()
-                .any(|other| name.eq_ignore_ascii_case(*other))
+    fn skips_name(&self, name: &str, is_top: bool) -> bool
+        ensures { result ≡ is_skipped_name self.now.names_at_top.now is_top name.now }
+    {
+        is_top && holds_in_any_case(self.names_at_top, name)
     }
 }
 
-fn holds(names: &[&str], name: &str) -> bool {
+fn holds(names: &[&str], name: &str) -> bool
+    ensures { result ≡ holds names.now name.now }
+{
     names.iter().any(|other| *other == name)
+}
+
+fn holds_in_any_case(names: &[&str], name: &str) -> bool
+    ensures { result ≡ holds_in_any_case names.now name.now }
+{
+    names.iter().any(|other| is_same_in_any_case(name, other))
+}
+
+fn is_same_in_any_case(name: &str, other: &str) -> bool
+    ensures { result ≡ bytes_eq (lower name.now) (lower other.now) }
+{
+    name.eq_ignore_ascii_case(other)
 }
 
 /// Why a walk ended without a list.
@@ -194,7 +213,12 @@ impl Walk {
         prefix: &str,
         skips: Skips<'_>,
         entry: fs::DirEntry<R>,
-    ) -> Result<Option<String>, WalkError> {
+    ) -> Result<Option<String>, WalkError>
+        // A folder that is passed over is not visited.
+        ensures { IfOk result (λ found. IfSome found (λ folder.
+            (is_skipped_name skips.entry.names_at_top.now (length prefix.now == 0) (string_bytes folder) ≡ false)
+            × (is_skipped_folder skips.entry.folders.now skips.entry.folders_at_top.now (length prefix.now == 0) (string_bytes folder) ≡ false))) }
+    {
         self.count(alloc, root)?;
         let name = entry.file_name();
         if skips.skips_name(name, prefix.is_empty()) {

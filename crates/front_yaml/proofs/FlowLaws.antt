@@ -10,7 +10,7 @@ use Rattle.front_yaml.specs.Reading.{Fault, Reading, further}
 use Rattle.front_yaml.specs.Bytes.{starts}
 use Rattle.front_yaml.specs.declared.flow_parts.Part.{Part}
 use Rattle.front_yaml.specs.declared.flow_parts.Part.TheVariants.{Shut, Last, More}
-use Rattle.front_yaml.specs.Flow.{Node, node, part, items_after, items_step, items, entry, pairs_after, pairs_step, pairs, hash_pairs, settled, list_value, hash_value, collection}
+use Rattle.front_yaml.specs.Flow.{Node, node, part, items_after, items_step, items, entry, pairs_after, pairs_step, pairs, hash_pairs, settled, list_value, hash_value, with_items, with_pairs, collection}
 
 shorter : (k c : ℕ) (cs : List ℕ) → length (drop k cs) < length (c ∷ cs)
 shorter k c cs = omega (arith, length-drop k cs)
@@ -30,9 +30,6 @@ onto-onto (item w a) v b = ap (λ is. item w is) (onto-onto a v b)
 onto-end : (a : Items) → onto a no_items ≡ a
 onto-end no_items = refl
 onto-end (item w a) = ap (λ is. item w is) (onto-end a)
-
-abbrev pub with_items : ℕ → Items → Reading (Items × ℕ) → Reading (Items × ℕ)
-with_items n done r = further n r >>= λ x. Ok (onto done x.0, n + x.1)
 
 pub items_start : (r : Reading (Items × ℕ)) → with_items 0 no_items r ≡ r
 items_start (Ok x) = let e : 0 + x.1 ≡ x.1 = omega arith in ap (λ n. Ok (x.0, n)) e
@@ -95,9 +92,6 @@ module _ (child : Node) where
       sym told ∙ ap (λ xs. with_items n done (items child xs)) (drop_of_length-le s le) ∙ ap (with_items n done) (items-is []) ∙ ap (λ j. Err (j, kind.Flow)) i
 
 -- ---- hashes
-
-abbrev pub with_pairs : ℕ → Pairs → Reading (Pairs × ℕ) → Reading (Pairs × ℕ)
-with_pairs n done r = further n r >>= λ x. Ok (settled done x.0, n + x.1)
 
 pub pairs_start : (child : Node) (s : List ℕ) → with_pairs 0 no_pairs (pairs child s) ≡ hash_pairs child s
 pairs_start child s = start (pairs child s) where

@@ -3,7 +3,7 @@ use Rattle.std.specs.Prelude.{ℕ, zero, suc, ◌+◌, ◌==◌, Bool, true, fal
 use Rattle.std.specs.Str.{bytes_eq}
 use Rattle.site_base.specs.Chains.{◌>>=◌}
 use Rattle.site_base.specs.declared.faults.YamlKind.TheVariants as kind
-use Rattle.site_base.specs.Plain.{Plain, nil, text, list, hash, Items, no_items, item, Pairs, no_pairs, pair, set}
+use Rattle.site_base.specs.Plain.{Plain, nil, text, list, hash, Items, no_items, item, onto, Pairs, no_pairs, pair, set}
 use Rattle.site_base.specs.Recursion.{down}
 use Rattle.front_yaml.specs.declared.flow_parts.Part.{Part}
 use Rattle.front_yaml.specs.declared.flow_parts.Part.TheVariants.{Shut, Last, More}
@@ -113,6 +113,14 @@ module _ (child : Node) where
 
   abbrev pub hash_value : Node
   hash_value s = further 1 (hash_pairs (drop 1 s)) >>= λ r. Ok (hash r.0, r.1 + 1)
+
+-- the items that were read in the first n bytes, with those that are read behind them
+abbrev pub with_items : ℕ → Items → Reading (Items × ℕ) → Reading (Items × ℕ)
+with_items n done r = further n r >>= λ x. Ok (onto done x.0, n + x.1)
+
+-- the same of pairs
+abbrev pub with_pairs : ℕ → Pairs → Reading (Pairs × ℕ) → Reading (Pairs × ℕ)
+with_pairs n done r = further n r >>= λ x. Ok (settled done x.0, n + x.1)
 
 -- a list or a hash, where at most d may nest
 unfoldable pub collection : ℕ → Node

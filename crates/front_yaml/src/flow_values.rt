@@ -1,8 +1,8 @@
 // Flow lists and hashes.
 ghost use Rattle.std.specs.Prelude.{◌≡◌, true, length};
 ghost use Rattle.front_yaml.specs.Extents.{begins_value};
-ghost use Rattle.front_yaml.specs.Flow.{node, part, items, pair_value, entry, hash_pairs, list_value, hash_value, collection, flow};
-ghost use Rattle.front_yaml.specs.Given.{ReadsAt, ReadsSized, ReadsEntry, ReadsItem, ReadsPair, Fits, EntryFits, PartFits};
+ghost use Rattle.front_yaml.specs.Flow.{node, part, items, with_items, pair_value, entry, hash_pairs, pairs, with_pairs, list_value, hash_value, collection, flow};
+ghost use Rattle.front_yaml.specs.Given.{ReadsAt, ReadsAs, ReadsSized, ReadsEntry, ReadsItem, ReadsPair, Fits, FitsBy, EntryFits, PartFits};
 
 use crate::extents::{begins_value, is_closed};
 use crate::faults::PlaceError;
@@ -79,16 +79,28 @@ fn items(alloc: Global, depth: u32, text: &[u8]) -> Result<(List, usize), PlaceE
     ensures within { Fits (length text.now) result }
 {
     let mut items = List::new(alloc);
+    match add_items(alloc, depth, text, &mut items) {
+        Ok(len) => Ok((items, len)),
+        Err(error) => Err(error),
+    }
+}
+
+// Adds the items up to the bracket that closes their list, and tells their bytes with it.
+#[cycle(flow)]
+fn add_items(alloc: Global, depth: u32, text: &[u8], list: &mut List) -> Result<usize, PlaceError>
+    ensures value { ReadsAs (λ len. (list.new, len)) result (with_items 0 list.old (items (node (collection depth)) text.now)) }
+    ensures within { FitsBy (λ len. len) (length text.now) result }
+{
     let mut n = 0;
     while n < text.len() {
         match item_part(alloc, depth, tail(text, n)) {
-            Ok(Part::Shut(len)) => return Ok((items, n + len + 1)),
+            Ok(Part::Shut(len)) => return Ok(n + len + 1),
             Ok(Part::Last(value, len)) => {
-                items.push(value)?;
-                return Ok((items, n + len + 1));
+                list.push(value)?;
+                return Ok(n + len + 1);
             }
             Ok(Part::More(value, len)) => {
-                items.push(value)?;
+                list.push(value)?;
                 n += len + 1;
             }
             Err(PlaceError::Fault(fault)) => return Err(fault.further(n)),
@@ -120,7 +132,10 @@ fn item_part(alloc: Global, depth: u32, text: &[u8]) -> Result<Part<Value>, Plac
     match separator_from(b']', text, gap + len) {
         Ok((true, more)) => Ok(Part::Last(value, gap + len + more)),
         Ok((false, more)) => Ok(Part::More(value, gap + len + more)),
-        Err(error) => Err(error),
+        Err(error) => {
+            drop(value);
+            Err(error)
+        }
     }
 }
 
@@ -131,16 +146,28 @@ fn pairs(alloc: Global, depth: u32, text: &[u8]) -> Result<(Hash, usize), PlaceE
     ensures within { Fits (length text.now) result }
 {
     let mut pairs = Hash::new(alloc);
+    match add_pairs(alloc, depth, text, &mut pairs) {
+        Ok(len) => Ok((pairs, len)),
+        Err(error) => Err(error),
+    }
+}
+
+// Adds the pairs up to the bracket that closes their hash, and tells their bytes with it.
+#[cycle(flow)]
+fn add_pairs(alloc: Global, depth: u32, text: &[u8], hash: &mut Hash) -> Result<usize, PlaceError>
+    ensures value { ReadsAs (λ len. (hash.new, len)) result (with_pairs 0 hash.old (pairs (node (collection depth)) text.now)) }
+    ensures within { FitsBy (λ len. len) (length text.now) result }
+{
     let mut n = 0;
     while n < text.len() {
         match pair_part(alloc, depth, tail(text, n)) {
-            Ok(Part::Shut(len)) => return Ok((pairs, n + len + 1)),
+            Ok(Part::Shut(len)) => return Ok(n + len + 1),
             Ok(Part::Last(pair, len)) => {
-                put(&mut pairs, pair.0, pair.1)?;
-                return Ok((pairs, n + len + 1));
+                put(hash, pair.0, pair.1)?;
+                return Ok(n + len + 1);
             }
             Ok(Part::More(pair, len)) => {
-                put(&mut pairs, pair.0, pair.1)?;
+                put(hash, pair.0, pair.1)?;
                 n += len + 1;
             }
             Err(PlaceError::Fault(fault)) => return Err(fault.further(n)),
@@ -172,7 +199,10 @@ fn pair_part(alloc: Global, depth: u32, text: &[u8]) -> Result<Part<(Text, Value
     match separator_from(b'}', text, gap + len) {
         Ok((true, more)) => Ok(Part::Last((name, value), gap + len + more)),
         Ok((false, more)) => Ok(Part::More((name, value), gap + len + more)),
-        Err(error) => Err(error),
+        Err(error) => {
+            drop(value);
+            Err(error)
+        }
     }
 }
 

@@ -17,6 +17,8 @@ mod front_matter;
 #[cfg(test)]
 mod items;
 #[cfg(test)]
+mod kept_sites;
+#[cfg(test)]
 mod looks;
 #[cfg(test)]
 mod page_counts;

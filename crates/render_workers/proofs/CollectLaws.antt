@@ -9,7 +9,7 @@ use Rattle.read_record.specs.Queries.{Query, View}
 use Rattle.read_record.specs.Outcomes.{Page}
 use Rattle.read_record.specs.Entries.{Kept, Tells}
 use Rattle.memo_table.specs.Entries.{Entries, of_names}
-use Rattle.round_core.specs.Meant.{Given, nameless, name_at, kept_at, view_at, is_stale}
+use Rattle.round_core.specs.Meant.{Given, nameless, name_at, kept_at, view_at, is_stale, stale}
 use Rattle.render_workers.specs.declared.answers.Why.{Why}
 use Rattle.render_workers.specs.declared.answers.Round.{Round}
 use Rattle.render_workers.specs.declared.answers.RoundError.{RoundError}
@@ -17,7 +17,7 @@ use Rattle.render_workers.specs.declared.answers.RoundError.TheVariants as error
 use Rattle.render_workers.specs.declared.part.Work.{Work}
 use Rattle.render_workers.specs.declared.part.Work.TheVariants as work
 use Rattle.render_workers.specs.declared.progress.Progress.{Progress}
-use Rattle.render_workers.specs.Whys.{why_of, why_for, reason_of, why_names}
+use Rattle.render_workers.specs.Whys.{why_of, why_for, reason_of, why_names, stale_in, stale_behind}
 use Rattle.render_workers.specs.Turns.{Turns, Ends, IsTurn}
 use Rattle.render_workers.specs.Tallies.{times}
 use Rattle.render_workers.specs.Brought.{IsFresh, IsRight, IsRightAt, name_in, Places, names_in}
@@ -33,6 +33,14 @@ told-named kept v name why h = at (is_stale kept v) h
   where
     at : (b : Bool) → (if b then why_for name (reason_of kept v) ∷ [] else []) ≡ why ∷ [] → why.name ≡ name
     at true e = let same : why_for name (reason_of kept v) ≡ why = cc in ap (λ (w : Why). w.name) (sym same)
+    at false e = cc
+
+-- and is stale
+told-stale : (kept : Option Kept) (v : View) (name : ItemName) (why : Why) → why_of kept v name ≡ why ∷ [] → is_stale kept v ≡ true
+told-stale kept v name why h = at (is_stale kept v) h
+  where
+    at : (b : Bool) → (if b then why_for name (reason_of kept v) ∷ [] else []) ≡ why ∷ [] → b ≡ true
+    at true e = refl
     at false e = cc
 
 -- what is kept of an item that a worker kept is what the collector finds
@@ -55,26 +63,28 @@ module _ {M : Type 0} where
   AreRight g i [] = Unit {0}
   AreRight g i (w ∷ ws) = IfSome w (IsRightAt g i) × AreRight g (suc i) ws
 
-  -- an item that was brought back as rendered has its own name
-  named-once : (x : ItemName) (g : Given) (i : ℕ) (w : Option (Work M)) → IfSome w (IsRightAt g i) → times x (name_in w) ≤ times x (name_at g i ∷ [])
+  -- an item that was brought back as rendered is stale, and is told by its own name
+  named-once : (x : ItemName) (g : Given) (i : ℕ) (w : Option (Work M)) → IfSome w (IsRightAt g i) → times x (name_in w) ≤ times x (if stale g i then name_at g i ∷ [] else [])
   named-once x g i None h = omega arith
   named-once x g i (Some work.Kept) h = omega arith
   named-once x g i (Some (work.New e why)) h =
       let same : why.name ≡ name_at g i = told-named (kept_at g i) (view_at g i) (name_at g i) why h.1 in
-      let one : times x (why.name ∷ []) ≡ times x (name_at g i ∷ []) = ap (λ n. times x (n ∷ [])) same in
+      let is : stale g i ≡ true = told-stale (kept_at g i) (view_at g i) (name_at g i) why h.1 in
+      let one : times x (why.name ∷ []) ≡ times x (if stale g i then name_at g i ∷ [] else []) = ap (λ n. times x (n ∷ [])) same ∙ ap (λ b. times x (if b then name_at g i ∷ [] else [])) (sym is) in
       omega (arith, one)
 
-  -- the names that workers told of the items from i on are names of these items
-  names-few : (x : ItemName) (g : Given) (i : ℕ) (ws : Places M) → AreRight g i ws → i + length ws ≡ length g.names → times x (names_in ws) ≤ times x (drop i g.names)
+  -- the names that workers told of the items from i on are names of stale ones of these
+  names-few : (x : ItemName) (g : Given) (i : ℕ) (ws : Places M) → AreRight g i ws → i + length ws ≡ length g.names → times x (names_in ws) ≤ times x (stale_behind g i)
   unfolding AreRight
   names-few x g i [] right count = omega arith
   names-few x g i (w ∷ ws) right count =
       let within : i < length g.names = omega arith in
       let there : drop i g.names ≡ name_at g i ∷ drop (suc i) g.names = drop-next g.names i (name_at g i) (slice_get-get_or g.names i nameless within) in
-      let ih : times x (names_in ws) ≤ times x (drop (suc i) g.names) = names-few x g (suc i) ws right.1 (omega arith) in
-      let here : times x (name_in w) ≤ times x (name_at g i ∷ []) = named-once x g i w right.0 in
+      let ih : times x (names_in ws) ≤ times x (stale_behind g (suc i)) = names-few x g (suc i) ws right.1 (omega arith) in
+      let own : List ItemName = if stale g i then name_at g i ∷ [] else [] in
+      let here : times x (name_in w) ≤ times x own = named-once x g i w right.0 in
       let both : times x (name_in w ++ names_in ws) ≡ times x (name_in w) + times x (names_in ws) = times-append x (name_in w) (names_in ws) in
-      let all : times x (drop i g.names) ≡ times x (name_at g i ∷ []) + times x (drop (suc i) g.names) = ap (times x) there ∙ times-append x (name_at g i ∷ []) (drop (suc i) g.names) in
+      let all : times x (stale_behind g i) ≡ times x own + times x (stale_behind g (suc i)) = ap (λ ns. times x (stale_in g i ns)) there ∙ times-append x own (stale_behind g (suc i)) in
       omega (arith, ih, here, both, all)
 
   -- ---- what holds once the items below i were collected
@@ -177,11 +187,11 @@ module _ {M : Type 0} where
         (of-some (λ name. IsTurn (g.sight i (slice_get p.outs)) name (g.item name) (Err error) p q kept kept' tally (tally' ++ name_in w)) (slice_get g.names i) (get_or g.names i nameless) its-name h)
 
   -- the collector has gone through all items
-  pub collected-all : (g : Given) (fixed n : ℕ) (p : Progress) (kept kept' : Entries) (before tally : List ItemName) (left : Places M) (round : Round) → n ≡ length g.names → Collected g fixed n p kept before tally left
+  pub collected-all : (g : Given) → ((i j : ℕ) → i < length g.names → slice_get g.names i ≡ slice_get g.names j → i ≡ j) → (fixed n : ℕ) (p : Progress) (kept kept' : Entries) (before tally : List ItemName) (left : Places M) (round : Round) → n ≡ length g.names → Collected g fixed n p kept before tally left
       → round.outs ≡ p.outs → round.why ≡ p.why → round.reused + length p.why ≡ length g.names → kept' ≡ of_names g.names kept → IsWorked g fixed (Ok round) kept' before tally
-  collected-all g fixed n p kept kept' before tally left round all c outs why reused forgets = (
+  collected-all g differ fixed n p kept kept' before tally left round all c outs why reused forgets = (
     c.serial,
-    whole g fixed n p kept kept' before c.serial round all c.so_far outs why reused forgets,
+    whole g differ fixed n p kept kept' before c.serial round all c.so_far outs why reused forgets,
     λ x. (let none : times x (names_in left) ≡ 0 = nothing x left (let m = c.count in omega arith) in let m = c.names x in omega (arith, none, m)),
   )
     where

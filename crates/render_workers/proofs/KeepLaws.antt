@@ -39,7 +39,7 @@ kept-same m e h = same (insert m e.name e) m (λ q. get-with m e.name e q ∙ at
     at q true s = sym (ap (get m) (same_name-eq q e.name s) ∙ h)
     at q false s = refl
 
-get-with_some : (o : Option Outcome) (name : ItemName) (reads : Reads) (m : Entries) (q : ItemName) → same_name q name ≡ false → get (with_some (entry_with o name reads) m) q ≡ get m q
+pub get-with_some : (o : Option Outcome) (name : ItemName) (reads : Reads) (m : Entries) (q : ItemName) → same_name q name ≡ false → get (with_some (entry_with o name reads) m) q ≡ get m q
 get-with_some (Some outcome) name reads m q s = let e : Kept = record { name = name; reads = reads; outcome = outcome } in get-with m name e q ∙ ap (λ b. cond b (Some e) (get m q)) s
 get-with_some None name reads m q s = refl
 

@@ -8,11 +8,11 @@ use Rattle.site_base.specs.declared.faults.SiteFault.{SiteFault}
 use Rattle.site_base.specs.declared.item_name.ItemName.{ItemName}
 use Rattle.read_record.specs.declared.outcome.Outcome.{Outcome}
 use Rattle.read_record.specs.Queries.{Gave, Failed, interpret}
-use Rattle.read_record.specs.Outcomes.{met_of}
+use Rattle.read_record.specs.Outcomes.{is_done, met_of}
 use Rattle.read_record.specs.Entries.{Kept}
 use Rattle.memo_table.specs.Entries.{Entries, with_entry, of_names}
 use Rattle.round_core.specs.Meant.{Given, nameless, name_at, kept_at, entry_of, outcome_of, outs_below, view_at, meant}
-use Rattle.round_core.proofs.MeantLaws.{outcome_met}
+use Rattle.round_core.proofs.MeantLaws.{outcome_met, outs_at}
 use Rattle.render_workers.specs.declared.answers.Round.{Round}
 use Rattle.render_workers.specs.declared.answers.RoundError.{RoundError}
 use Rattle.render_workers.specs.declared.answers.RoundError.TheVariants as error
@@ -25,6 +25,7 @@ use Rattle.render_workers.proofs.TryLaws.{of-some}
 use Rattle.render_workers.proofs.FoldLaws.{length-push, drop-next, known-push, counted-done, done-push, fold-next, fold-end}
 use Rattle.render_workers.proofs.WhyLaws.{names-append}
 use Rattle.render_workers.proofs.KeepLaws.{tells-entry, kept-before}
+use Rattle.render_workers.proofs.FreshLaws.{done-some, fresh-below}
 
 -- what holds once the items below i were kept or rendered
 pub record SoFar (g : Given) (fixed i : ℕ) (p : Progress) (memo : Entries) (before after : List ItemName) : Type 0 where
@@ -121,9 +122,13 @@ module _ (g : Given) (differ : (i j : ℕ) → i < length g.names → slice_get 
   }
 
 -- all items are done
-pub whole : (g : Given) (fixed n : ℕ) (p : Progress) (kept kept' : Entries) (before after : List ItemName) (round : Round) → n ≡ length g.names → SoFar g fixed n p kept before after
+pub whole : (g : Given) → ((i j : ℕ) → i < length g.names → slice_get g.names i ≡ slice_get g.names j → i ≡ j) → (fixed n : ℕ) (p : Progress) (kept kept' : Entries) (before after : List ItemName) (round : Round) → n ≡ length g.names → SoFar g fixed n p kept before after
     → round.outs ≡ p.outs → round.why ≡ p.why → round.reused + length p.why ≡ length g.names → kept' ≡ of_names g.names kept → IsWhole g fixed round kept' before after
-whole g fixed n p kept kept' before after round all s outs why reused left =
+whole g differ fixed n p kept kept' before after round all s outs why reused left =
+    let done : (i : ℕ) → i < length g.names → (o : Outcome) × (outcome_of (meant g i) ≡ Some o) = λ i within.
+    let here : i < n = omega (arith, within, all) in
+    done-some (outcome_of (meant g i)) (ap is_done (sym (outs_at g n i here) ∙ (λ k. sym s.known k i)) ∙ s.done i here) in
+    let kept_is : kept' ≡ of_names g.names (entries_below g (length g.names)) = left ∙ ap (of_names g.names) (s.kept ∙ ap (entries_below g) all) in
     let end : length g.names ≤ length g.names = omega arith in
     let fold : fold_of g fixed ≡ Gave p.outs = s.fold ∙ ap (λ ns. fold_from g ns p.outs p.bytes) (ap (λ (k : ℕ). drop k g.names) all ∙ drop_all (length g.names) g.names end) ∙ fold-end g p.outs p.bytes in
     let whys : round.why ≡ whys_below g (length g.names) = why ∙ s.why ∙ ap (whys_below g) all in
@@ -133,8 +138,9 @@ whole g fixed n p kept kept' before after round all s outs why reused left =
       done = subst (λ os. AreDone (length g.names) (slice_get os)) (sym outs) (subst (λ k. AreDone k (slice_get p.outs)) all s.done);
       why = whys;
       reused = ap (λ ws. round.reused + length ws) why ∙ reused;
-      kept = left ∙ ap (of_names g.names) (s.kept ∙ ap (entries_below g) all);
+      kept = kept_is;
       tally = s.tally ∙ ap (λ ws. before ++ why_names ws) (ap (whys_below g) all ∙ sym whys);
+      fresh = ap (λ (m : Entries). whys_below (record g { entries = m }) (length g.names)) kept_is ∙ fresh-below g differ done (length g.names) end;
     }
 
 -- an item behind which the round does not go on

@@ -5,3 +5,4 @@ pub mod Rounds
 pub mod Turns
 pub mod Brought
 pub mod Worked
+pub mod Shown

@@ -40,7 +40,7 @@ entries_below g (suc n) = with_some (entry_at g n) (entries_below g n)
 -- ---- answers
 
 -- the fold gives these outcomes; the stale items are told with their reasons, and the others counted; each item has its certified
--- entry, and no other name is kept; the names of the stale items joined the tally
+-- entry, and no other name is kept; the names of the stale items joined the tally; over what is kept now none is stale
 pub record IsWhole (g : Given) (fixed : ℕ) (round : Round) (memo : Entries) (before after : List ItemName) : Type 0 where
   pub fold : fold_of g fixed ≡ Gave round.outs
   pub each : length round.outs ≡ length g.names
@@ -49,6 +49,7 @@ pub record IsWhole (g : Given) (fixed : ℕ) (round : Round) (memo : Entries) (b
   pub reused : round.reused + length round.why ≡ length g.names
   pub kept : memo ≡ of_names g.names (entries_below g (length g.names))
   pub tally : after ≡ before ++ why_names round.why
+  pub fresh : whys_below (record g { entries = memo }) (length g.names) ≡ []
 
 -- the fold's first fault is this; the items before its place have their certified entries, and all other entries are as before; the
 -- names of the stale items up to that place joined the tally

@@ -1,5 +1,5 @@
 -- Names in any order.
-use Rattle.std.specs.Prelude.{◌≡◌, ℕ, ◌+◌, ◌≤◌, if◌then◌else◌, List, [], ◌∷◌}
+use Rattle.std.specs.Prelude.{◌≡◌, ℕ, ◌+◌, ◌≤◌, if◌then◌else◌, List, [], ◌∷◌, ◌++◌}
 use Rattle.site_base.specs.declared.item_name.ItemName.{ItemName}
 use Rattle.memo_table.specs.Names.{same_name}
 
@@ -15,3 +15,7 @@ SameNames a b = (name : ItemName) → times name a ≡ times name b
 -- all of the first names, each as often, and besides at most the further ones
 abbrev pub HasBetween : List ItemName → List ItemName → List ItemName → Type 0
 HasBetween sure further names = (name : ItemName) → (times name sure ≤ times name names) × (times name names ≤ times name sure + times name further)
+
+-- names were added at the end
+abbrev pub Grows : List ItemName → List ItemName → Type 0
+Grows before after = (added : List ItemName) × (after ≡ before ++ added)

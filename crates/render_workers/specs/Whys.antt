@@ -1,5 +1,5 @@
 -- Which items are rendered anew, and why.
-use Rattle.std.specs.Prelude.{ℕ, zero, suc, if◌then◌else◌, List, [], ◌∷◌, ◌++◌, map, Option, Some, None}
+use Rattle.std.specs.Prelude.{ℕ, zero, suc, if◌then◌else◌, List, [], ◌∷◌, ◌++◌, drop, map, Option, Some, None}
 use Rattle.site_base.specs.declared.item_name.ItemName.{ItemName}
 use Rattle.read_record.specs.declared.key.Key.{Key}
 use Rattle.read_record.specs.declared.outcome.Agreement.{Agreement}
@@ -7,7 +7,7 @@ use Rattle.read_record.specs.declared.outcome.Agreement.TheVariants as agreement
 use Rattle.read_record.specs.Queries.{View, Reads}
 use Rattle.read_record.specs.Records.{agreement_of}
 use Rattle.read_record.specs.Entries.{Kept}
-use Rattle.round_core.specs.Meant.{Given, name_at, kept_at, view_at, is_stale}
+use Rattle.round_core.specs.Meant.{Given, name_at, kept_at, view_at, is_stale, stale}
 use Rattle.render_workers.specs.declared.answers.Why.{Why}
 
 abbrev pub other_at : Agreement → Key → Option Key → Option Key
@@ -42,3 +42,12 @@ whys_below g (suc n) = whys_below g n ++ why_at g n
 
 abbrev pub why_names : List Why → List ItemName
 why_names whys = map (λ (w : Why). w.name) whys
+
+-- of these names, which are those of the items from i on, the names of the stale items
+abbrev pub stale_in : Given → ℕ → List ItemName → List ItemName
+stale_in g i [] = []
+stale_in g i (name ∷ names) = (if stale g i then name ∷ [] else []) ++ stale_in g (suc i) names
+
+-- the names of the stale items from i on
+abbrev pub stale_behind : Given → ℕ → List ItemName
+stale_behind g i = stale_in g i (drop i g.names)

@@ -1,5 +1,5 @@
 -- What a worker keeps true, and what a round of many workers leaves.
-use Rattle.std.specs.Prelude.{◌≡◌, ℕ, suc, List, length, drop, Result, Ok, Err}
+use Rattle.std.specs.Prelude.{◌≡◌, ℕ, suc, List, length, Result, Ok, Err}
 use Rattle.atomic_table.specs.Seated.{TableId}
 use Rattle.claim_table.specs.Counts.{EachOnce}
 use Rattle.site_base.specs.declared.item_name.ItemName.{ItemName}
@@ -15,6 +15,7 @@ use Rattle.render_workers.specs.declared.worker.Worker.{Worker}
 use Rattle.render_workers.specs.Brought.{IsPart}
 use Rattle.render_workers.specs.Rounds.{IsWhole, IsStopped}
 use Rattle.render_workers.specs.Tallies.{SameNames, HasBetween}
+use Rattle.render_workers.specs.Whys.{stale_behind}
 
 -- ---- one worker
 
@@ -36,9 +37,9 @@ module _ {M : Type 0} where
 
 -- ---- a round
 
--- What a round of one item after another leaves, but that the names join the tally in any order. At a fault, names of later items
--- may join it besides, each once at most
+-- What a round of one item after another leaves, but that the names join the tally in any order. At a fault, names of later items that
+-- are stale over what the items before them come to may join it besides, each once at most
 abbrev pub IsWorked : Given → ℕ → Result Round RoundError → Entries → List ItemName → List ItemName → Type 0
 IsWorked g fixed (Ok round) kept before after = (serial : List ItemName) × IsWhole g fixed round kept before serial × SameNames serial after
-IsWorked g fixed (Err (error.Fault f)) kept before after = (serial : List ItemName) × (stop : IsStopped g fixed f kept before serial) × HasBetween serial (drop (suc stop.place) g.names) after
+IsWorked g fixed (Err (error.Fault f)) kept before after = (serial : List ItemName) × (stop : IsStopped g fixed f kept before serial) × HasBetween serial (stale_behind g (suc stop.place)) after
 IsWorked g fixed (Err error.Memory) kept before after = Unit {0}

@@ -1,7 +1,13 @@
 // Where workers show each other what they made, and the bell at which they wait for it.
+ghost use Rattle.std.specs.Prelude.{◌≡◌, IfSome, slice_get};
+ghost use Rattle.std.specs.FinMap.{get};
+ghost use Rattle.round_core.specs.Hands.{hand_outs};
+ghost use Rattle.render_workers.specs.Shown.{IsShown, has_fault};
+
+use memo_table::Memo;
 use once_cell::race::OnceBox;
-use read_record::{ItemMeaning, Outcome};
-use round_core::Made;
+use read_record::{ItemMeaning, Outcome, World};
+use round_core::{Hand, Made};
 use site_base::Memory;
 use std::alloc::Global;
 use std::sync::{Condvar, Mutex, Wait};
@@ -67,7 +73,21 @@ impl<M: ItemMeaning> Cells<M> {
     }
 
     /// Sets the cell of an item, and wakes those who wait. Where the cell hands the value back, that is dropped, and they give up.
-    pub(crate) fn show<H: Wait>(&self, rt: &H, item: u32, made: Box<Made<M>>, has_fault: bool) {
+    ///
+    /// What is shown is right over all that the worker has in its hand: for that alone the hand is given, with the world and what is kept.
+    pub(crate) fn show<H: Wait, W: World>(
+        &self,
+        rt: &H,
+        world: &W,
+        memo: &Memo<M>,
+        hand: &Hand<'_, M>,
+        item: u32,
+        made: Box<Made<M>>,
+        has_fault: bool,
+    )
+        requires { IfSome (slice_get (W.names world.now) item)
+            (λ name. IsShown (get memo.now name) (W.sight world.now item (hand_outs hand.now)) name (M.item name) made.value has_fault) }
+    {
         let mut bell = self.bell.lock(rt);
         if has_fault {
             bell.note_fault(item);
@@ -129,7 +149,9 @@ impl<M: ItemMeaning> Cells<M> {
 }
 
 /// Whether an item has a fault.
-pub(crate) fn has_fault(outcome: &Outcome) -> bool {
+pub(crate) fn has_fault(outcome: &Outcome) -> bool
+    ensures { result ≡ has_fault outcome.now }
+{
     match outcome {
         Outcome::Done {
             content: _,

@@ -4,6 +4,7 @@ ghost use Rattle.std.specs.FinMap.{get};
 ghost use Rattle.round_core.specs.Meant.{given_by};
 ghost use Rattle.render_workers.specs.Brought.{IsFresh, IsRight, name_in};
 ghost use Rattle.render_workers.specs.Folds.{AreDone};
+ghost use Rattle.render_workers.specs.Tallies.{Grows};
 ghost use Rattle.render_workers.specs.Turns.{IsTurn};
 ghost use Rattle.render_workers.specs.Worked.{IsGathered, IsWorked};
 
@@ -16,6 +17,7 @@ use memo_table::Memo;
 use read_record::{ItemMeaning, Renderer, Tally, World};
 use std::alloc::Global;
 
+#[tactic(auto, using(crate::proofs::TallyLaws::grows_none, crate::proofs::TallyLaws::grows_more, crate::proofs::TallyLaws::grows_traced))]
 /// Goes through the items in render order. What nobody brought back is kept or rendered now. The round ends at the first fault, and the
 /// entries of the items before it are kept.
 pub(crate) fn collect<R: Renderer, W: World>(
@@ -27,7 +29,8 @@ pub(crate) fn collect<R: Renderer, W: World>(
     tally: &mut Tally,
 ) -> Result<Round, RoundError>
     requires { IsGathered (given_by (W.names world.now) (W.sight world.now) R.Meaning.item memo.old) all }
-    ensures { IsWorked (given_by (W.names world.now) (W.sight world.now) R.Meaning.item memo.old) (W.fixed world.now) result memo.new tally.old tally.new }
+    ensures grows { Grows tally.old tally.new }
+    ensures worked { IsWorked (given_by (W.names world.now) (W.sight world.now) R.Meaning.item memo.old) (W.fixed world.now) result memo.new tally.old tally.new }
 {
     let Part {
         seat: _,
@@ -56,6 +59,7 @@ pub(crate) fn collect<R: Renderer, W: World>(
     Ok(closed(world, memo, progress))
 }
 
+#[tactic(auto, using(crate::proofs::TallyLaws::grows_none, crate::proofs::TallyLaws::grows_more, crate::proofs::TallyLaws::grows_traced))]
 /// Adds the next item, behind those that are done. Its name joins the tally where it is rendered now.
 fn collect_next<R: Renderer, W: World>(
     alloc: Global,
@@ -71,8 +75,9 @@ fn collect_next<R: Renderer, W: World>(
     requires done { AreDone item (slice_get progress.old.outs) }
     requires right { IfSome (slice_get (W.names world.now) item)
         (λ name. IfSome work (IsRight (get memo.old name) (W.sight world.now item (slice_get progress.old.outs)) name (R.Meaning.item name))) }
+    ensures grows { Grows tally.old tally.new }
     // With the name of an item that a worker rendered, the tally is as if it were rendered now.
-    ensures { IfSome (slice_get (W.names world.now) item)
+    ensures turn { IfSome (slice_get (W.names world.now) item)
         (λ name. IsTurn (W.sight world.now item (slice_get progress.old.outs)) name (R.Meaning.item name) result progress.old progress.new memo.old memo.new tally.old (tally.new ++ name_in work)) }
 {
     match work {

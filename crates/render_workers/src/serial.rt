@@ -5,6 +5,7 @@ ghost use Rattle.memo_table.specs.Entries.{of_names};
 ghost use Rattle.round_core.specs.Meant.{given_by};
 ghost use Rattle.render_workers.specs.Folds.{AreDone, IsTold, fold_of};
 ghost use Rattle.render_workers.specs.Rounds.{IsRound};
+ghost use Rattle.render_workers.specs.Tallies.{Grows};
 ghost use Rattle.render_workers.specs.Turns.{IsAddedNew, IsTurn};
 
 use crate::progress::Progress;
@@ -26,6 +27,8 @@ pub fn regenerate_serial<R: Renderer, W: World>(
     tally: &mut Tally,
 ) -> Result<Round, RoundError>
     ensures round { IsRound (given_by (W.names world.now) (W.sight world.now) R.Meaning.item memo.old) (W.fixed world.now) result memo.new tally.old tally.new }
+    // The tally keeps the names that it had, also where memory is wanting.
+    ensures grows { Grows tally.old tally.new }
 
     // Rendering them one after another never waits for an item.
     ensures told { IsTold (fold_of (given_by (W.names world.now) (W.sight world.now) R.Meaning.item memo.old) (W.fixed world.now)) }
@@ -62,6 +65,7 @@ pub(crate) fn closed<M: ItemMeaning, W: World>(
     Round { outs, reused, why }
 }
 
+#[tactic(auto, using(crate::proofs::TallyLaws::grows_none, crate::proofs::TallyLaws::grows_more, crate::proofs::TallyLaws::grows_traced))]
 /// Keeps or renders the next item, behind those that are done.
 pub(crate) fn next_item<R: Renderer, W: World>(
     alloc: Global,
@@ -74,7 +78,8 @@ pub(crate) fn next_item<R: Renderer, W: World>(
 ) -> Result<(), RoundError>
     requires item { item < length (W.names world.now) }
     requires done { AreDone item (slice_get progress.old.outs) }
-    ensures { IfSome (slice_get (W.names world.now) item)
+    ensures grows { Grows tally.old tally.new }
+    ensures turn { IfSome (slice_get (W.names world.now) item)
         (λ name. IsTurn (W.sight world.now item (slice_get progress.old.outs)) name (R.Meaning.item name) result progress.old progress.new memo.old memo.new tally.old tally.new) }
 {
     match settle(alloc, renderer, world, memo, item, progress, tally) {

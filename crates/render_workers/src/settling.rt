@@ -1,6 +1,7 @@
 // One try at an item.
 ghost use Rattle.std.specs.Prelude.{◌≡◌, ◌<◌, IfSome, Some, length, slice_get};
 ghost use Rattle.std.specs.FinMap.{get};
+ghost use Rattle.render_workers.specs.Tallies.{Grows};
 ghost use Rattle.render_workers.specs.Turns.{IsSettled, IsRendered};
 
 use crate::Why;
@@ -23,6 +24,7 @@ pub(crate) enum Settled<'a, M: ItemMeaning> {
     Memory,
 }
 
+#[tactic(auto, using(crate::proofs::TallyLaws::grows_none, crate::proofs::TallyLaws::grows_more, crate::proofs::TallyLaws::grows_traced))]
 /// Keeps an item, or renders it anew, over the outcomes that are known. Its name joins the tally exactly where it was
 /// rendered.
 pub(crate) fn settle<'a, R: Renderer, W: World, F: Finished>(
@@ -35,7 +37,8 @@ pub(crate) fn settle<'a, R: Renderer, W: World, F: Finished>(
     tally: &mut Tally,
 ) -> Settled<'a, R::Meaning>
     requires { item < length (W.names world.now) }
-    ensures { IfSome (slice_get (W.names world.now) item)
+    ensures grows { Grows tally.old tally.new }
+    ensures settled { IfSome (slice_get (W.names world.now) item)
         (λ name. IsSettled (get memo.now name) (W.sight world.now item (F.outcomes outs.now)) name (R.Meaning.item name) result tally.old tally.new) }
 {
     let name = world.name(item);
@@ -54,6 +57,7 @@ pub(crate) fn settle<'a, R: Renderer, W: World, F: Finished>(
     }
 }
 
+#[tactic(auto, using(crate::proofs::TallyLaws::grows_none, crate::proofs::TallyLaws::grows_more, crate::proofs::TallyLaws::grows_traced))]
 /// Renders an item anew, for this reason.
 fn render<'a, R: Renderer, W: World, F: Finished>(
     alloc: Global,
@@ -65,7 +69,8 @@ fn render<'a, R: Renderer, W: World, F: Finished>(
     tally: &mut Tally,
 ) -> Settled<'a, R::Meaning>
     requires { item < length (W.names world.now) }
-    ensures { IfSome (slice_get (W.names world.now) item)
+    ensures grows { Grows tally.old tally.new }
+    ensures rendered { IfSome (slice_get (W.names world.now) item)
         (λ name. IsRendered (W.sight world.now item (F.outcomes outs.now)) name (R.Meaning.item name) key result tally.old tally.new) }
 {
     let name = match world.name(item).copy(alloc) {

@@ -134,14 +134,14 @@ fn make<'a, H: Wait, R: Renderer, W: World>(
                 let shown = Box::new(alloc, Made::Kept)?;
                 let has_fault = has_fault(entry.outcome());
                 worker.part.add(table, item, Work::Kept)?;
-                cells.show(rt, item, shown, has_fault);
+                cells.show(rt, world, memo, &worker.hand, item, shown, has_fault);
                 return Ok(());
             }
             Settled::New(entry, why) => {
                 let shown = Box::new(alloc, Made::New(entry.copy(alloc)?))?;
                 let has_fault = has_fault(entry.outcome());
                 worker.part.add(table, item, Work::New(entry, why))?;
-                cells.show(rt, item, shown, has_fault);
+                cells.show(rt, world, memo, &worker.hand, item, shown, has_fault);
                 return Ok(());
             }
             Settled::Needs(needed) => {

@@ -2,6 +2,7 @@
 ghost use Rattle.std.specs.Prelude.{◌≡◌, ◌≤◌};
 ghost use Rattle.round_core.specs.Meant.{given_by};
 ghost use Rattle.render_workers.specs.Folds.{IsTold, fold_of};
+ghost use Rattle.render_workers.specs.Tallies.{Grows};
 ghost use Rattle.render_workers.specs.Worked.{IsWorked};
 
 use crate::collecting::collect;
@@ -14,8 +15,8 @@ use std::sync::Wait;
 use std::thread::Threads;
 
 /// Keeps or renders the items by this number of workers, with the answers of `regenerate_serial`. The names of the items that were
-/// rendered join the tally in any order, each once. At a fault they are those of the stale items up to the one with the fault, and
-/// besides at most names of later items, each once at most.
+/// rendered join the tally at its end in any order, each once. At a fault they are those of the stale items up to the one with the
+/// fault, and besides at most those of later stale items, each once at most.
 pub fn regenerate<H: Threads + Wait + Sync, R: Renderer + Sync, W: World + Sync>(
     rt: &H,
     alloc: Global,
@@ -29,6 +30,8 @@ where
     R::Meaning: Send + Sync,
     requires { (1 ≤ jobs) × (jobs ≤ 64) }
     ensures round { IsWorked (given_by (W.names world.now) (W.sight world.now) R.Meaning.item memo.old) (W.fixed world.now) result memo.new tally.old tally.new }
+    // The tally keeps the names that it had, also where memory is wanting.
+    ensures grows { Grows tally.old tally.new }
 
     // Rendering them one after another never waits for an item.
     ensures told { IsTold (fold_of (given_by (W.names world.now) (W.sight world.now) R.Meaning.item memo.old) (W.fixed world.now)) }

@@ -3,32 +3,29 @@ use Rattle.std.specs.Prelude.{ℕ, List, ◌∷◌, codes, Option, Some, None, i
 use Rattle.std.specs.Str.{is_utf8}
 use Rattle.site_base.specs.Chains.{◌>>=◌}
 use Rattle.site_base.specs.Path.{path_refusal}
-use Rattle.site_base.specs.Plain.{Pairs}
 use Rattle.site_base.specs.declared.faults.FaultKind.TheVariants as fault
 use Rattle.site_base.specs.declared.value.Value.TheVariants as value
 use Rattle.site_config.specs.declared.config.Config.{Config}
 use Rattle.site_items.specs.Addresses.{behind, has_output, without_extension}
-use Rattle.site_items.specs.Matter.{body, own_variables}
+use Rattle.site_items.specs.Matter.{matter}
 use Rattle.site_items.specs.Outcomes.{Outcome}
 use Rattle.site_items.specs.declared.include_file.IncludeFile.{IncludeFile}
 use Rattle.site_items.specs.declared.kind.Kind.{Kind}
 use Rattle.site_items.specs.declared.kind.Kind.TheVariants as kind
 use Rattle.site_items.specs.declared.layout_file.LayoutFile.{LayoutFile}
+use Rattle.site_items.specs.declared.matter.Matter.{Matter}
 use Rattle.site_items.specs.declared.static_file.StaticFile.{StaticFile}
 
 -- a layout is named by its path below `_layouts`, without its extension
 abbrev pub layout_name : List ℕ → List ℕ
 layout_name path = without_extension (behind (codes "_layouts/") path)
 
-abbrev pub layout_with : List ℕ → List ℕ → Pairs → LayoutFile
-layout_with path text own = record { name = layout_name path; path = path; vars = value.Hash own; body = body text }
-
-abbrev pub layout_of_text : List ℕ → List ℕ → Outcome LayoutFile
-layout_of_text path text = own_variables text >>= λ own. Ok (layout_with path text own)
+abbrev pub layout_with : List ℕ → Matter → LayoutFile
+layout_with path m = record { name = layout_name path; path = path; vars = value.Hash m.vars; body = m.body }
 
 -- the layout that a file is: its front matter's variables, and what stands behind
 abbrev pub layout : List ℕ → List ℕ → Outcome LayoutFile
-layout path bytes = if is_utf8 bytes then layout_of_text path bytes else Err (0, fault.NotUtf8)
+layout path bytes = matter bytes >>= λ m. Ok (layout_with path m)
 
 -- an include is named by its path below `_includes`, and is all of its text
 abbrev pub include : List ℕ → List ℕ → Outcome IncludeFile

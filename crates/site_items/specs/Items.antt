@@ -1,8 +1,7 @@
 -- What a file is as an item of the site: its variables, address and body, or its first fault; nothing where it is left out. After Jekyll 4's manual, "Variables".
-use Rattle.std.specs.Prelude.{ℕ, ◌-◌, nat_lt, nat_eq, ℤ, Bool, true, false, not, ◌&&◌, ◌||◌, List, [], ◌++◌, length, take, codes, fold, Option, Some, None, Ok, Err, int_lt, if◌then◌else◌}
+use Rattle.std.specs.Prelude.{ℕ, ◌-◌, nat_lt, nat_eq, ℤ, Bool, true, false, not, ◌&&◌, ◌||◌, List, [], ◌++◌, length, take, codes, fold, Option, Some, None, is_some, Ok, Err, int_lt, if◌then◌else◌}
 use Rattle.std.specs.List.{after_last, ends_with}
 use Rattle.std.specs.Option.{option_or}
-use Rattle.std.specs.Str.{is_utf8}
 use Rattle.site_base.specs.Chains.{◌>>=◌}
 use Rattle.site_base.specs.Path.{segments}
 use Rattle.site_base.specs.Plain.{Plain, nil, bool, text, list, Pairs, no_pairs, set, key_list}
@@ -17,12 +16,15 @@ use Rattle.site_items.specs.Dates.{date_value, given_date, name_date, name_title
 use Rattle.site_items.specs.Defaults.{variable, variables}
 use Rattle.site_items.specs.Extensions.{output_ext}
 use Rattle.site_items.specs.Labels.{add_name, names_of_many, names_of_one, text_items}
-use Rattle.site_items.specs.Matter.{body, own_variables}
+use Rattle.site_items.specs.Matter.{matter}
 use Rattle.site_items.specs.Outcomes.{Outcome}
 use Rattle.site_items.specs.Titles.{title}
 use Rattle.site_items.specs.declared.item.Item.{Item}
 use Rattle.site_items.specs.declared.kind.Kind.{Kind}
 use Rattle.site_items.specs.declared.kind.Kind.TheVariants as kind
+use Rattle.site_items.specs.declared.matter.Matter.{Matter}
+use Rattle.site_items.specs.declared.timeless.Timeless.{Timeless}
+use Rattle.site_items.specs.declared.timeless.Timeless.TheVariants.{Unpublished, Undated, Made, Faulty}
 
 -- ---- whether it is built
 
@@ -36,12 +38,13 @@ is_published nil = Ok true
 is_published (bool b) = Ok b
 is_published v = Err (0, fault.Config)
 
--- the moment of a document: that of its variable, else that in its name, else for a draft the present one
-abbrev pub document_date : ℤ → ℤ → Kind → List ℕ → Option ℤ → Option ℤ
-document_date offset now k name given =
-    if is_page k then None
-    else if is_draft k then option_or given (option_or (name_date offset name) (Some now))
-    else option_or given (name_date offset name)
+-- the moment of a document: that of its variable, else that in its name
+abbrev pub document_date : ℤ → Kind → List ℕ → Option ℤ → Option ℤ
+document_date offset k name given = if is_page k then None else option_or given (name_date offset name)
+
+-- a draft without a moment of its own has the present one
+abbrev pub has_present : Kind → Option ℤ → Bool
+has_present k moment = is_draft k && not (is_some moment)
 
 -- a document of a later moment, unless the future is built
 abbrev pub is_left_out : ℤ → Bool → Option ℤ → Bool
@@ -137,48 +140,73 @@ kind_named offset k name vars = if is_page k then vars else named (title_part of
 
 -- ---- items
 
-abbrev pub item_at : Config → Kind → List ℕ → Option ℤ → Pairs → List ℕ → List ℕ → List ℕ → Outcome (Option Item)
-item_at config k path moment vars text_body ext address = dest_of config k address ext >>= λ dest. Ok (Some (record {
+abbrev pub item_at : Config → Kind → List ℕ → Option ℤ → Pairs → List ℕ → List ℕ → List ℕ → Outcome Item
+item_at config k path moment vars text_body ext address = dest_of config k address ext >>= λ dest. Ok (record {
   moment = moment;
   url = address;
   dest = dest;
   vars = kind_variables config k path address moment (placed path address vars);
   body = text_body;
-}))
+})
 
 -- an item that is built, whose variables with slug and title these are, and whose output has this extension
-abbrev pub built_with : Config → Kind → List ℕ → Option ℤ → List ℕ → List ℕ → Pairs → Outcome (Option Item)
+abbrev pub built_with : Config → Kind → List ℕ → Option ℤ → List ℕ → List ℕ → Pairs → Outcome Item
 built_with config k path moment text_body ext vars =
     template config ext (stem (file_name path)) k (variable (codes "permalink") vars)
     >>= λ t. found_url (url_by t (stands_for config k path ext moment (slug_of vars) (key_list (categories k path vars))))
     >>= item_at config k path moment vars text_body ext
 
-abbrev pub built_item : Config → Kind → List ℕ → Option ℤ → Pairs → List ℕ → Outcome (Option Item)
+abbrev pub built_item : Config → Kind → List ℕ → Option ℤ → Pairs → List ℕ → Outcome Item
 built_item config k path moment vars text_body = built_with config k path moment text_body (output_ext config.markdown_ext (extension (file_name path))) vars
 
-abbrev pub named_item : Config → Kind → List ℕ → Option ℤ → Pairs → List ℕ → Outcome (Option Item)
+abbrev pub named_item : Config → Kind → List ℕ → Option ℤ → Pairs → List ℕ → Outcome Item
 named_item config k path moment vars text_body = built_item config k path moment (kind_named config.timezone k (stem (file_name path)) vars) text_body
 
--- an item that is published, whose variable `date` names this moment
-abbrev pub dated_item : Config → ℤ → Bool → Kind → List ℕ → Pairs → List ℕ → Option ℤ → Outcome (Option Item)
-dated_item config now future k path vars text_body given =
-    let moment = document_date config.timezone now k (stem (file_name path)) given in
-    if is_left_out now future moment then Ok None else named_item config k path moment vars text_body
+-- ---- what a file is as an item at every moment
 
-abbrev pub published_item : Config → ℤ → Bool → Kind → List ℕ → Pairs → List ℕ → Bool → Outcome (Option Item)
-published_item config now future k path vars text_body published =
-    if published || config.unpublished then given_date config.timezone (variable (codes "date") vars) >>= dated_item config now future k path vars text_body
-    else Ok None
+-- an item of this moment, or what is wrong with it
+abbrev pub of_moment : Option ℤ → Outcome Item → Timeless
+of_moment moment (Ok made) = Made made
+of_moment moment (Err f) = Faulty moment (record { line = f.0; kind = f.1 })
+
+abbrev pub timeless_of : Config → Kind → List ℕ → Pairs → List ℕ → Option ℤ → Timeless
+timeless_of config k path vars text_body moment =
+    if has_present k moment then Undated vars text_body else of_moment moment (named_item config k path moment vars text_body)
+
+-- an item that is published, whose variable `date` names this moment
+abbrev pub timeless_dated : Config → Kind → List ℕ → Pairs → List ℕ → Option ℤ → Outcome Timeless
+timeless_dated config k path vars text_body given = Ok (timeless_of config k path vars text_body (document_date config.timezone k (stem (file_name path)) given))
+
+abbrev pub timeless_published : Config → Kind → List ℕ → Pairs → List ℕ → Bool → Outcome Timeless
+timeless_published config k path vars text_body published =
+    if published || config.unpublished then given_date config.timezone (variable (codes "date") vars) >>= timeless_dated config k path vars text_body
+    else Ok Unpublished
 
 -- an item whose variables these are
-abbrev pub item_with : Config → ℤ → Bool → Kind → List ℕ → List ℕ → Pairs → Outcome (Option Item)
-item_with config now future k path text_body vars =
-    is_published (variable (codes "published") vars) >>= published_item config now future k path vars text_body
+abbrev pub timeless_with : Config → Kind → List ℕ → List ℕ → Pairs → Outcome Timeless
+timeless_with config k path text_body vars = is_published (variable (codes "published") vars) >>= timeless_published config k path vars text_body
 
-abbrev pub text_item : Config → List Scope → ℤ → Bool → Kind → List ℕ → List ℕ → Outcome (Option Item)
-text_item config ordered now future k path s =
-    own_variables s >>= λ own. item_with config now future k path (body s) (variables config ordered k path own)
+abbrev pub matter_timeless : Config → List Scope → Kind → List ℕ → Matter → Outcome Timeless
+matter_timeless config ordered k path m = timeless_with config k path m.body (variables config ordered k path m.vars)
+
+abbrev pub timeless : Config → List Scope → Kind → List ℕ → List ℕ → Outcome Timeless
+timeless config ordered k path bytes = matter bytes >>= matter_timeless config ordered k path
+
+-- ---- what it is at one moment
+
+abbrev pub some_item : Outcome Item → Outcome (Option Item)
+some_item found = found >>= λ made. Ok (Some made)
+
+-- before its day a document is left out, whatever is wrong with its address
+abbrev pub unless_later : ℤ → Bool → Option ℤ → Outcome Item → Outcome (Option Item)
+unless_later now future moment found = if is_left_out now future moment then Ok None else some_item found
+
+abbrev pub at : ℤ → Bool → Config → Kind → List ℕ → Timeless → Outcome (Option Item)
+at now future config k path Unpublished = Ok None
+at now future config k path (Undated vars text_body) = some_item (named_item config k path (Some now) vars text_body)
+at now future config k path (Made made) = unless_later now future made.moment (Ok made)
+at now future config k path (Faulty moment f) = unless_later now future moment (Err (f.line, f.kind))
 
 -- the item that a file is
 abbrev pub item : Config → List Scope → ℤ → Bool → Kind → List ℕ → List ℕ → Outcome (Option Item)
-item config ordered now future k path bytes = if is_utf8 bytes then text_item config ordered now future k path bytes else Err (0, fault.NotUtf8)
+item config ordered now future k path bytes = timeless config ordered k path bytes >>= at now future config k path

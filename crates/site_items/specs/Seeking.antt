@@ -7,12 +7,14 @@ use Rattle.site_base.specs.Plain.{Pairs, key_list}
 use Rattle.site_files.specs.Names.{file_name, stem}
 use Rattle.site_items.specs.Addresses.{found_url, stands_for, template}
 use Rattle.site_items.specs.Defaults.{variable}
-use Rattle.site_items.specs.Items.{categories, dated_item, item, item_at, item_with, kind_variables, placed, slug_of, text_item}
+use Rattle.site_items.specs.Items.{at, categories, item, item_at, kind_variables, matter_timeless, placed, slug_of, unless_later}
 use Rattle.site_items.specs.Outcomes.{Outcome}
 use Rattle.site_items.specs.declared.addresses.Sought.{Sought}
 use Rattle.site_items.specs.declared.item.Item.{Item}
 use Rattle.site_items.specs.declared.item.Rules.{Rules}
 use Rattle.site_items.specs.declared.kind.Kind.{Kind}
+use Rattle.site_items.specs.declared.matter.Matter.{Matter}
+use Rattle.site_items.specs.declared.timeless.Timeless.{Timeless}
 
 abbrev pub template_of : Sought → Pairs → Outcome (List ℕ)
 template_of item vars = template item.config.now item.ext.now (stem (file_name item.path.now)) item.kind (variable (codes "permalink") vars)
@@ -27,18 +29,18 @@ address_of item t vars = found_url (url_by t (placeholders item (slug_of vars) (
 abbrev pub all_variables : Sought → List ℕ → Pairs → Pairs
 all_variables item address vars = kind_variables item.config.now item.kind item.path.now address item.moment (placed item.path.now address vars)
 
-abbrev pub sought_item : Sought → Pairs → List ℕ → Outcome (Option Item)
+abbrev pub sought_item : Sought → Pairs → List ℕ → Outcome Item
 sought_item item vars body = template_of item vars >>= λ t. address_of item t vars >>= item_at item.config.now item.kind item.path.now item.moment vars body item.ext.now
 
 -- the parts of the reading of a file, by what holds for all items
 abbrev pub ruled_item : Rules → Kind → List ℕ → List ℕ → Outcome (Option Item)
 ruled_item rules k path bytes = item rules.config.now (map (λ s. s.now) rules.scopes.now) rules.now rules.future k path bytes
 
-abbrev pub ruled_text : Rules → Kind → List ℕ → List ℕ → Outcome (Option Item)
-ruled_text rules k path s = text_item rules.config.now (map (λ s. s.now) rules.scopes.now) rules.now rules.future k path s
+abbrev pub ruled_matter : Rules → Kind → List ℕ → Matter → Outcome Timeless
+ruled_matter rules k path m = matter_timeless rules.config.now (map (λ s. s.now) rules.scopes.now) k path m
 
-abbrev pub ruled_with : Rules → Kind → List ℕ → List ℕ → Pairs → Outcome (Option Item)
-ruled_with rules k path body vars = item_with rules.config.now rules.now rules.future k path body vars
+abbrev pub ruled_at : Rules → Kind → List ℕ → Timeless → Outcome (Option Item)
+ruled_at rules k path made = at rules.now rules.future rules.config.now k path made
 
-abbrev pub ruled_dated : Rules → Kind → List ℕ → Pairs → List ℕ → Option ℤ → Outcome (Option Item)
-ruled_dated rules k path vars body given = dated_item rules.config.now rules.now rules.future k path vars body given
+abbrev pub ruled_later : Rules → Option ℤ → Outcome Item → Outcome (Option Item)
+ruled_later rules moment found = unless_later rules.now rules.future moment found

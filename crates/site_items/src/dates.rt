@@ -45,28 +45,17 @@ fn bad_date() -> ItemError
 }
 
 /// The moment of an item: none for a page; for a document the one that its variable names, else the one in its file's name
-/// without extension, else for a draft the present one.
-pub(crate) fn item_date(
-    offset: i32,
-    now: i64,
-    kind: Kind,
-    name: &str,
-    given: Option<i64>,
-) -> Option<i64>
+/// without extension.
+pub(crate) fn document_date(offset: i32, kind: Kind, name: &str, given: Option<i64>) -> Option<i64>
     requires offset { IsOffset offset }
-    requires now { IsMoment now }
     requires given { IfSome given IsMoment }
-    ensures value { result ≡ document_date offset now kind name.now given }
+    ensures value { result ≡ document_date offset kind name.now given }
     ensures range { IfSome result IsMoment }
 {
     if kind.is_page() {
         return None;
     }
-    let named = name_date(offset, name);
-    if kind.is_draft() {
-        return given.or(named.or(Some(now)));
-    }
-    given.or(named)
+    given.or(name_date(offset, name))
 }
 
 fn name_date(offset: i32, name: &str) -> Option<i64>

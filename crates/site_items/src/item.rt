@@ -1,29 +1,27 @@
 // Items of the site.
 ghost use Rattle.std.specs.Prelude.{◌≡◌, IfSome, MatchResult};
-ghost use Rattle.site_config.specs.Forms.{given};
 ghost use Rattle.site_dates.specs.Moment.{IsMoment};
 ghost use Rattle.site_dates.specs.Offset.{IsOffset};
-ghost use Rattle.site_items.specs.Items.{is_left_out, is_published, named_item};
+ghost use Rattle.site_items.specs.Items.{named_item};
 ghost use Rattle.site_items.specs.Outcomes.{IsFault};
-ghost use Rattle.site_items.specs.Seeking.{address_of, ruled_dated, ruled_item, ruled_text, ruled_with, sought_item, template_of};
+ghost use Rattle.site_items.specs.Seeking.{address_of, ruled_item, sought_item, template_of};
 
 use crate::addresses::{Sought, dest_of, url_of};
-use crate::dates::{given_date, item_date};
-use crate::defaults::variables;
 use crate::extensions::output_ext;
 use crate::file_content::FileContent;
-use crate::item_error::{ItemError, config_fault, utf8_fault};
+use crate::front_parser::PlainParser;
+use crate::item_error::ItemError;
 use crate::kind::Kind;
 use crate::lookup::variable;
-use crate::matter::{body, own_variables};
+use crate::matter::Matter;
 use crate::names::{categories, set_names, slug_of};
 use crate::placed_variables::set_variables;
 use crate::templates::template;
-use site_base::{Hash, SitePath, Text, Value};
+use crate::timeless::Timeless;
+use site_base::{Hash, SitePath, Text};
 use site_config::{Config, Scope};
 use site_files::{extension, file_name, stem};
 use std::alloc::Global;
-use std::str;
 
 /// An item of the site, as its file makes it.
 #[derive(Drop)]
@@ -70,106 +68,17 @@ impl Item {
         ensures { let found = ruled_item rules.entry.now kind path.now content.now in
             MatchResult result (λ made. found ≡ Ok made) (IsFault found) }
     {
-        match str::from_utf8(content.bytes().as_slice()) {
-            Ok(text) => text_item(alloc, rules, kind, path, content, text),
-            Err(_) => Err(utf8_fault()),
-        }
+        let mut parser = PlainParser;
+        let matter = Matter::read(alloc, content, &mut parser)?;
+        Timeless::of(alloc, rules, kind, path, matter)?.at(alloc, rules, kind, path)
     }
 }
 
-// The item of a file whose bytes are this text.
-fn text_item(
-    alloc: Global,
-    rules: &Rules,
-    kind: Kind,
-    path: &SitePath,
-    content: &FileContent,
-    text: &str,
-) -> Result<Option<Item>, ItemError>
-    requires text { content.now ≡ text.now }
-    requires offset { IsOffset rules.now.config.now.timezone }
-    requires now { IsMoment rules.now.now }
-    ensures { let found = ruled_text rules.entry.now kind path.now text.now in
-        MatchResult result (λ made. found ≡ Ok made) (IsFault found) }
-{
-    let own = own_variables(alloc, content, text)?;
-    let vars = variables(alloc, rules.config, rules.scopes, kind, path.text(), &own)?;
-    let body = body(alloc, content, text)?;
-    item_with(alloc, rules, kind, path, body, vars)
-}
-
-// An item whose variables these are.
-fn item_with(
-    alloc: Global,
-    rules: &Rules,
-    kind: Kind,
-    path: &SitePath,
-    body: Text,
-    vars: Hash,
-) -> Result<Option<Item>, ItemError>
-    requires offset { IsOffset rules.now.config.now.timezone }
-    requires now { IsMoment rules.now.now }
-    ensures { let found = ruled_with rules.entry.now kind path.now body vars in
-        MatchResult result (λ made. found ≡ Ok made) (IsFault found) }
-{
-    if !is_published(variable(&vars, "published"))? && !rules.config.unpublished {
-        return Ok(None);
-    }
-    let given = given_date(rules.config.timezone, variable(&vars, "date"))?;
-    dated_item(alloc, rules, kind, path, body, vars, given)
-}
-
-// The variable `published`.
-fn is_published(value: Option<&Value>) -> Result<bool, ItemError>
-    ensures { MatchResult result (λ is_set. is_published (given value.entry) ≡ Ok is_set) (IsFault (is_published (given value.entry))) }
-{
-    match value {
-        None | Some(Value::Nil) => Ok(true),
-        Some(Value::Bool(is_set)) => Ok(*is_set),
-        Some(_) => Err(config_fault()),
-    }
-}
-
-// An item that is published, whose variable `date` names this moment.
-fn dated_item(
-    alloc: Global,
-    rules: &Rules,
-    kind: Kind,
-    path: &SitePath,
-    body: Text,
-    vars: Hash,
-    given: Option<i64>,
-) -> Result<Option<Item>, ItemError>
-    requires offset { IsOffset rules.now.config.now.timezone }
-    requires now { IsMoment rules.now.now }
-    requires given { IfSome given IsMoment }
-    ensures { let found = ruled_dated rules.entry.now kind path.now vars body given in
-        MatchResult result (λ made. found ≡ Ok made) (IsFault found) }
-{
-    let moment = item_date(
-        rules.config.timezone,
-        rules.now,
-        kind,
-        stem(file_name(path.text())),
-        given,
-    );
-    if is_left_out(rules, moment) {
-        return Ok(None);
-    }
-    named_item(alloc, rules.config, kind, path, body, vars, moment)
-}
-
-// Whether a document is of a later moment, and the future is not built.
-fn is_left_out(rules: &Rules, moment: Option<i64>) -> bool
-    ensures { result ≡ is_left_out rules.entry.now.now rules.entry.now.future moment }
-{
-    match moment {
-        Some(moment) => rules.now < moment && !rules.future,
-        None => false,
-    }
-}
-
-fn named_item(
+/// An item whose moment is known.
+///
+/// `Fault` comes exactly where its variable `permalink` is neither nil nor a text, or a template whose placeholder has no
+/// value, or makes no path of a site (`Config`).
+pub(crate) fn named_item(
     alloc: Global,
     config: &Config,
     kind: Kind,
@@ -177,7 +86,7 @@ fn named_item(
     body: Text,
     mut vars: Hash,
     moment: Option<i64>,
-) -> Result<Option<Item>, ItemError>
+) -> Result<Item, ItemError>
     requires offset { IsOffset config.now.timezone }
     requires moment { IfSome moment IsMoment }
     ensures { let found = named_item config.now kind path.now moment vars body in
@@ -196,12 +105,7 @@ fn named_item(
 }
 
 // An item that is built, whose variables have its slug and title.
-fn built_item(
-    alloc: Global,
-    sought: &Sought,
-    vars: Hash,
-    body: Text,
-) -> Result<Option<Item>, ItemError>
+fn built_item(alloc: Global, sought: &Sought, vars: Hash, body: Text) -> Result<Item, ItemError>
     requires offset { IsOffset sought.now.config.now.timezone }
     requires moment { IfSome sought.now.moment IsMoment }
     ensures { let found = sought_item sought.now vars body in
@@ -211,13 +115,13 @@ fn built_item(
     let url = address(alloc, sought, template.as_str(), &vars)?.into_shared()?;
     let dest = dest_of(alloc, sought.config, sought.kind, url.as_str(), sought.ext)?;
     let vars = set_variables(alloc, sought, &url, vars)?;
-    Ok(Some(Item {
+    Ok(Item {
         moment: sought.moment,
         url,
         dest,
         vars,
         body,
-    }))
+    })
 }
 
 fn template_of(alloc: Global, sought: &Sought, vars: &Hash) -> Result<Text, ItemError>

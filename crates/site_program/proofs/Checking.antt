@@ -4,15 +4,22 @@ use Rattle.std.specs.Prelude.{false}
 use Rattle.std.specs.Option.{option_or}
 use Rattle.std.specs.FinMap.{entries, len}
 use Rattle.std.proofs.lemmas.List.{append-nil, take-append-drop}
+use Rattle.site_base.specs.Ends.{Rose}
 use Rattle.site_base.specs.declared.faults.SiteFault.{SiteFault}
 use Rattle.source_tree.specs.Scan.{scan_fault}
+use Rattle.source_tree.specs.declared.scan_error.ScanError.{ScanError}
+use Rattle.source_tree.specs.declared.scan_error.ScanError.TheVariants as scan_error
 use Rattle.site_session.specs.Bytes.{fault_line, reply_bytes}
 use Rattle.site_session.specs.Session.{Given, Nothing, first_fault, scan}
+use Rattle.site_session.specs.Scenes.{SourceSeen}
 use Rattle.site_session.specs.Standing.{Standing}
+use Rattle.site_words.specs.declared.faults.UsageKind.{UsageKind}
 use Rattle.site_session.specs.declared.reply.Reply.TheVariants.{Scanned, Faulty}
-use Rattle.site_program.specs.Checks.{Checked, CheckTook, EndsAs, IsFrontOf, Said, SaidBoth, check_bytes, check_bytes_by, failed_bytes, verdict, verdict_status}
+use Rattle.site_program.specs.Checks.{CheckDone, Checked, CheckTook, EndsAs, IsFrontOf, Said, SaidBoth, check_bytes, check_bytes_by, failed_bytes, verdict, verdict_status}
 use Rattle.site_program.specs.Once.{after_scan, scanned, site_fault}
+use Rattle.site_program.specs.Stages.{Comes, SinkSeen}
 use Rattle.site_program.specs.declared.status.Status.{Status}
+use Rattle.site_program.specs.declared.status.Status.TheVariants as status
 use Rattle.site_program.specs.declared.status.Status.TheVariants.{Site, SourceFault, SinkFault, Memory}
 use Rattle.site_program.proofs.Cases.{ScanCase, Counted, Failed, Limited, scan_case}
 
@@ -114,3 +121,69 @@ pub failed_took : (given : Given) (now : Standing) (before : List ℕ) (after : 
 failed_took given now before after s (inl done) = subst (λ x. CheckTook given now before after x) (sym done.0) done.1
 failed_took given now before after s (inr (inl cut)) = subst (λ x. CheckTook given now before after x) (sym cut.0) (cut.1.0, inr cut.1.1, cut.1.2)
 failed_took given now before after s (inr (inr lack)) = subst (λ x. CheckTook given now before after x) (sym lack.0) (inl lack.1)
+
+-- ---- the whole of a check
+
+-- what a check does not end with
+other_end : (wanted s x : Status) → EndsAs wanted s → (wanted ≡ x → ⊥) → (status.SinkFault ≡ x → ⊥) → (status.Memory ≡ x → ⊥) → s ≡ x → ⊥
+other_end wanted s x (inl e) own sink memory is = own (sym e ∙ is)
+other_end wanted s x (inr (inl e)) own sink memory is = sink (sym e ∙ is)
+other_end wanted s x (inr (inr e)) own sink memory is = memory (sym e ∙ is)
+
+-- what a check is meant to end with: its verdict, or that the source failed
+pub data IsVerdict (rose : Type 0) (wanted : Status) : Type 0 where
+  OfSite : (fault : Option SiteFault) → wanted ≡ verdict_status fault → IsVerdict rose wanted
+  OfSource : wanted ≡ status.SourceFault → rose → IsVerdict rose wanted
+
+module _ {S : Type 0} (first : Standing) (source source' : SourceSeen S) (sink sink' : SinkSeen) (wanted s : Status) where
+  pub check_done : ((given : Given) → source.files ≡ Some given.source → Checked (after_scan given first) s)
+      → ((given : Given) (before : List ℕ) → source.files ≡ Some given.source → sink.taken ≡ Some before → CheckTook given (after_scan given first) before sink'.taken s)
+      → EndsAs wanted s → IsVerdict (Rose source.failures source'.failures) wanted → (Comes s → source'.failures ≡ source.failures) → (s ≡ status.SinkFault → Rose sink.failures sink'.failures)
+      → CheckDone first source source' sink sink' s
+  check_done told took ends is steady rose = record {
+    told = told;
+    took = took;
+    no_usage = λ kind e. usage is kind e;
+    no_input = λ e. input is e;
+    no_output = λ count e. output is count e;
+    source_fault = λ e. source_rose is e;
+    source_steady = steady;
+    sink_fault = rose;
+  }
+    where
+      verdict_is : (fault : Option SiteFault) (x : Status) → (status.Done ≡ x → ⊥) → ((f : SiteFault) → status.Site f ≡ x → ⊥) → verdict_status fault ≡ x → ⊥
+      verdict_is None x done site e = done e
+      verdict_is (Some f) x done site e = site f e
+
+      usage : IsVerdict (Rose source.failures source'.failures) wanted → (kind : UsageKind) → s ≡ status.Usage kind → ⊥
+      usage (OfSite fault w) kind e = other_end wanted s (status.Usage kind) ends (λ o. verdict_is fault (status.Usage kind) (λ d. cc (d)) (λ f d. cc (d)) (sym w ∙ o)) (λ o. cc (o)) (λ o. cc (o)) e
+      usage (OfSource w r) kind e = other_end wanted s (status.Usage kind) ends (λ o. cc (w, o)) (λ o. cc (o)) (λ o. cc (o)) e
+
+      input : IsVerdict (Rose source.failures source'.failures) wanted → s ≡ status.InputFault → ⊥
+      input (OfSite fault w) e = other_end wanted s status.InputFault ends (λ o. verdict_is fault status.InputFault (λ d. cc (d)) (λ f d. cc (d)) (sym w ∙ o)) (λ o. cc (o)) (λ o. cc (o)) e
+      input (OfSource w r) e = other_end wanted s status.InputFault ends (λ o. cc (w, o)) (λ o. cc (o)) (λ o. cc (o)) e
+
+      output : IsVerdict (Rose source.failures source'.failures) wanted → (count : ℕ) → s ≡ status.OutFault count → ⊥
+      output (OfSite fault w) count e = other_end wanted s (status.OutFault count) ends (λ o. verdict_is fault (status.OutFault count) (λ d. cc (d)) (λ f d. cc (d)) (sym w ∙ o)) (λ o. cc (o)) (λ o. cc (o)) e
+      output (OfSource w r) count e = other_end wanted s (status.OutFault count) ends (λ o. cc (w, o)) (λ o. cc (o)) (λ o. cc (o)) e
+
+      source_rose : IsVerdict (Rose source.failures source'.failures) wanted → s ≡ status.SourceFault → Rose source.failures source'.failures
+      source_rose (OfSite fault w) e = absurd (other_end wanted s status.SourceFault ends (λ o. verdict_is fault status.SourceFault (λ d. cc (d)) (λ f d. cc (d)) (sym w ∙ o)) (λ o. cc (o)) (λ o. cc (o)) e)
+      source_rose (OfSource w r) e = r
+
+-- a run that a failed source ends comes to no end
+pub never_comes : (s : Status) → EndsAs status.SourceFault s → Comes s → ⊥
+never_comes s (inl e) c = subst Comes e c
+never_comes s (inr (inl e)) c = subst Comes e c
+never_comes s (inr (inr e)) c = subst Comes e c
+
+-- an answer for which the source did not fail leaves its count
+pub limit_steady : (e : ScanError) (fault : SiteFault) (before now : ℕ) → e ≡ scan_error.Limit fault → (e ≡ scan_error.Failed) ⊎ (now ≡ before) → now ≡ before
+limit_steady e fault before now is (inl failed) = cc (is, failed)
+limit_steady e fault before now is (inr same) = same
+
+-- a source that failed says nothing of the site
+pub failed_checked : (now : Standing) (s : Status) → EndsAs status.SourceFault s → Checked now s
+failed_checked now s (inl e) = subst (λ (x : Status). Checked now x) (sym e) tt
+failed_checked now s (inr (inl e)) = subst (λ (x : Status). Checked now x) (sym e) tt
+failed_checked now s (inr (inr e)) = subst (λ (x : Status). Checked now x) (sym e) tt

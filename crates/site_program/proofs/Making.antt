@@ -64,6 +64,12 @@ never_source (Some fault) s (inl e) is = cc (e, is)
 never_source f s (inr (inl e)) is = cc (e, is)
 never_source f s (inr (inr e)) is = cc (e, is)
 
+pub never_input : (f : Option SiteFault) (s : Status) → EndsAs (verdict_status f) s → s ≡ status.InputFault → ⊥
+never_input None s (inl e) is = cc (e, is)
+never_input (Some fault) s (inl e) is = cc (e, is)
+never_input f s (inr (inl e)) is = cc (e, is)
+never_input f s (inr (inr e)) is = cc (e, is)
+
 pub never_out : (f : Option SiteFault) (s : Status) (count : ℕ) → EndsAs (verdict_status f) s → s ≡ status.OutFault count → ⊥
 never_out None s count (inl e) is = cc (e, is)
 never_out (Some fault) s count (inl e) is = cc (e, is)

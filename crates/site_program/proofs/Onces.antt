@@ -7,11 +7,12 @@ use Rattle.site_script.specs.declared.line.Line.TheVariants as line
 use Rattle.site_session.specs.Standing.{Standing, Holds}
 use Rattle.site_session.specs.Session.{Given, Answers, Run, event_of, step}
 use Rattle.site_session.specs.Replies.{AllLeave, LineLeaves}
-use Rattle.site_session.specs.Tallied.{Effects}
+use Rattle.site_session.specs.Scenes.{Scene}
 use Rattle.site_session.specs.Bytes.{reply_bytes}
 use Rattle.site_session.specs.declared.reply.Reply.{Reply}
 use Rattle.site_session.specs.declared.reply.Reply.TheVariants.{Scanned, ScanFailed, Faulty, Fine, Absent, Built, Marked, Unlisted, BadLine, Silent}
 use Rattle.site_program.specs.Runs.{Stopped, IsCut, OnceRun, Whole, CutShort, once_lines, reply_status}
+use Rattle.site_program.specs.Stages.{Stage}
 use Rattle.site_program.specs.declared.status.Status.{Status}
 use Rattle.site_program.specs.declared.status.Status.TheVariants.{Memory}
 
@@ -23,9 +24,9 @@ holds_first first told output none is = subst (λ b. Holds told b output) (sym n
 standing_is : (given : Given) (old new : Standing) (number : ℕ) (at : Line) (reply : Reply) → Answers given old number at reply new → new ≡ (step given old number at (event_of reply)).0
 standing_is given old new number at reply answers = ap (λ (p : Standing × Reply). p.0) (sym answers)
 
-leaves_by : {D : Type 0} (contents : D → Option Files) (given : Given) (old new : Standing) (number : ℕ) (at : Line) (reply : Reply) (was now : Effects D) → Answers given old number at reply new → LineLeaves contents old at reply new.belief was now
-    → LineLeaves contents old at reply (step given old number at (event_of reply)).0.belief was now
-leaves_by contents given old new number at reply was now answers leaves = subst (λ (s : Standing). LineLeaves contents old at reply s.belief was now) (standing_is given old new number at reply answers) leaves
+leaves_by : {S D : Type 0} (given : Given) (old new : Standing) (number : ℕ) (at : Line) (reply : Reply) (was now : Scene S D) → Answers given old number at reply new → LineLeaves old at reply new.belief was now
+    → LineLeaves old at reply (step given old number at (event_of reply)).0.belief was now
+leaves_by given old new number at reply was now answers leaves = subst (λ (s : Standing). LineLeaves old at reply s.belief was now) (standing_is given old new number at reply answers) leaves
 
 alone : (reply : Reply) → ((count : ℕ) → reply ≡ Scanned count → ⊥) → once_lines (reply ∷ []) ≡ line.Scan ∷ []
 alone (Scanned count) other = absurd (other count refl)
@@ -39,46 +40,46 @@ alone Unlisted other = refl
 alone (BadLine number kind) other = refl
 alone Silent other = refl
 
-pub whole_one : {D : Type 0} (contents : D → Option Files) (given : Given) (first last : Standing) (before : List ℕ) (after : Option (List ℕ)) (was now : Effects D) (status : Status) (reply : Reply)
-    → ((count : ℕ) → reply ≡ Scanned count → ⊥) → Answers given first 1 line.Scan reply last → LineLeaves contents first line.Scan reply last.belief was now → after ≡ Some (before ++ reply_bytes given.why reply) → Holds (contents now.output) last.belief given.output
-    → status ≡ reply_status reply → OnceRun contents given first before after was now status
-whole_one contents given first last before after was now status reply other answers leaves bytes holds is = Whole (record {
+pub whole_one : {S D : Type 0} (given : Given) (first last : Standing) (before : List ℕ) (was now : Stage S D) (status : Status) (reply : Reply)
+    → ((count : ℕ) → reply ≡ Scanned count → ⊥) → Answers given first 1 line.Scan reply last → LineLeaves first line.Scan reply last.belief was.scene now.scene → now.sink.taken ≡ Some (before ++ reply_bytes given.why reply) → Holds now.scene.output.files last.belief given.output
+    → status ≡ reply_status reply → OnceRun given first before was now status
+whole_one given first last before was now status reply other answers leaves bytes holds is = Whole (record {
   replies = reply ∷ [];
   last = last;
   run = subst (λ lines. Run given first 0 lines (reply ∷ []) last) (sym (alone reply other)) (last, answers, refl);
-  leave = subst (λ lines. AllLeave contents given first 0 lines (reply ∷ []) was now) (sym (alone reply other)) (now, leaves_by contents given first last 1 line.Scan reply was now answers leaves, refl);
+  leave = subst (λ lines. AllLeave given first 0 lines (reply ∷ []) was.scene now.scene) (sym (alone reply other)) (now.scene, leaves_by given first last 1 line.Scan reply was.scene now.scene answers leaves, refl);
   bytes = bytes ∙ ap (λ b. Some (before ++ b)) (sym (append-nil (reply_bytes given.why reply)));
   output = holds;
   status_is = is;
 })
 
-pub whole_two : {D : Type 0} (contents : D → Option Files) (given : Given) (first mid last : Standing) (before : List ℕ) (after : Option (List ℕ)) (was there now : Effects D) (status : Status) (scanned reply : Reply) (count : ℕ)
-    → scanned ≡ Scanned count → Answers given first 1 line.Scan scanned mid → LineLeaves contents first line.Scan scanned mid.belief was there → Answers given mid 2 line.Build reply last → LineLeaves contents mid line.Build reply last.belief there now
-    → after ≡ Some ((before ++ reply_bytes given.why scanned) ++ reply_bytes given.why reply) → Holds (contents now.output) last.belief given.output → status ≡ reply_status reply
-    → OnceRun contents given first before after was now status
-whole_two contents given first mid last before after was there now status scanned reply count is_scanned scans scan_leaves answers leaves bytes holds is = Whole (record {
+pub whole_two : {S D : Type 0} (given : Given) (first mid last : Standing) (before : List ℕ) (was now : Stage S D) (there : Scene S D) (status : Status) (scanned reply : Reply) (count : ℕ)
+    → scanned ≡ Scanned count → Answers given first 1 line.Scan scanned mid → LineLeaves first line.Scan scanned mid.belief was.scene there → Answers given mid 2 line.Build reply last → LineLeaves mid line.Build reply last.belief there now.scene
+    → now.sink.taken ≡ Some ((before ++ reply_bytes given.why scanned) ++ reply_bytes given.why reply) → Holds now.scene.output.files last.belief given.output → status ≡ reply_status reply
+    → OnceRun given first before was now status
+whole_two given first mid last before was now there status scanned reply count is_scanned scans scan_leaves answers leaves bytes holds is = Whole (record {
   replies = Scanned count ∷ reply ∷ [];
   last = last;
   run = (mid, subst (λ (r : Reply). Answers given first 1 line.Scan r mid) is_scanned scans, (last, answers, refl));
-  leave = subst (λ (r : Reply). AllLeave contents given first 0 (line.Scan ∷ line.Build ∷ []) (r ∷ reply ∷ []) was now) is_scanned (
+  leave = subst (λ (r : Reply). AllLeave given first 0 (line.Scan ∷ line.Build ∷ []) (r ∷ reply ∷ []) was.scene now.scene) is_scanned (
     there,
-    leaves_by contents given first mid 1 line.Scan scanned was there scans scan_leaves,
-    subst (λ (s : Standing). AllLeave contents given s 1 (line.Build ∷ []) (reply ∷ []) there now) (standing_is given first mid 1 line.Scan scanned scans) (now, leaves_by contents given mid last 2 line.Build reply there now answers leaves, refl),
+    leaves_by given first mid 1 line.Scan scanned was.scene there scans scan_leaves,
+    subst (λ (s : Standing). AllLeave given s 1 (line.Build ∷ []) (reply ∷ []) there now.scene) (standing_is given first mid 1 line.Scan scanned scans) (now.scene, leaves_by given mid last 2 line.Build reply there now.scene answers leaves, refl),
   );
   bytes = bytes ∙ ap Some (append_assoc before (reply_bytes given.why scanned) (reply_bytes given.why reply)) ∙ (λ i. Some (before ++ (reply_bytes given.why (is_scanned i) ++ sym (append-nil (reply_bytes given.why reply)) i)));
   output = holds;
   status_is = is;
 })
 
-pub cut_one : {D : Type 0} (contents : D → Option Files) (given : Given) (first mid : Standing) (before part : List ℕ) (after : Option (List ℕ)) (was now : Effects D) (status : Status)
-    → mid ≡ first → Stopped (status ≡ Memory) contents given mid 1 line.Scan was now part → after ≡ Some (before ++ part) → IsCut status part
-    → OnceRun contents given first before after was now status
-cut_one contents given first mid before part after was now status same stopped bytes is = CutShort (record {
+pub cut_one : {S D : Type 0} (given : Given) (first mid : Standing) (before part : List ℕ) (was now : Stage S D) (status : Status)
+    → mid ≡ first → Stopped (status ≡ Memory) given mid 1 line.Scan was.scene now.scene part → now.sink.taken ≡ Some (before ++ part) → IsCut status part
+    → OnceRun given first before was now status
+cut_one given first mid before part was now status same stopped bytes is = CutShort (record {
   done = [];
   next = line.Scan;
   replies = [];
   mid = mid;
-  there = was;
+  there = was.scene;
   part = part;
   whole = refl;
   run = same;
@@ -87,11 +88,11 @@ cut_one contents given first mid before part after was now status same stopped b
   bytes = bytes;
 }) is
 
-pub cut_two : {D : Type 0} (contents : D → Option Files) (given : Given) (first mid : Standing) (before part : List ℕ) (after : Option (List ℕ)) (was there now : Effects D) (status : Status) (scanned : Reply) (count : ℕ)
-    → scanned ≡ Scanned count → Answers given first 1 line.Scan scanned mid → LineLeaves contents first line.Scan scanned mid.belief was there → Stopped (status ≡ Memory) contents given mid 2 line.Build there now part
-    → after ≡ Some ((before ++ reply_bytes given.why scanned) ++ part) → IsCut status part
-    → OnceRun contents given first before after was now status
-cut_two contents given first mid before part after was there now status scanned count is_scanned answers leaves stopped bytes is = CutShort (record {
+pub cut_two : {S D : Type 0} (given : Given) (first mid : Standing) (before part : List ℕ) (was now : Stage S D) (there : Scene S D) (status : Status) (scanned : Reply) (count : ℕ)
+    → scanned ≡ Scanned count → Answers given first 1 line.Scan scanned mid → LineLeaves first line.Scan scanned mid.belief was.scene there → Stopped (status ≡ Memory) given mid 2 line.Build there now.scene part
+    → now.sink.taken ≡ Some ((before ++ reply_bytes given.why scanned) ++ part) → IsCut status part
+    → OnceRun given first before was now status
+cut_two given first mid before part was now there status scanned count is_scanned answers leaves stopped bytes is = CutShort (record {
   done = line.Scan ∷ [];
   next = line.Build;
   replies = scanned ∷ [];
@@ -100,7 +101,7 @@ cut_two contents given first mid before part after was there now status scanned 
   part = part;
   whole = ap (λ r. once_lines (r ∷ [])) is_scanned;
   run = (mid, answers, refl);
-  leave = (there, leaves_by contents given first mid 1 line.Scan scanned was there answers leaves, refl);
+  leave = (there, leaves_by given first mid 1 line.Scan scanned was.scene there answers leaves, refl);
   stopped = stopped;
   bytes = bytes ∙ ap Some (append_assoc before (reply_bytes given.why scanned) part) ∙ ap (λ b. Some (before ++ (b ++ part))) (sym (append-nil (reply_bytes given.why scanned)));
 }) is

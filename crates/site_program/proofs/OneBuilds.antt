@@ -1,6 +1,5 @@
 -- How one build from nothing ends, by the place at which it ends.
 use Rattle.std.proofs.Common.{◌≡◌, ◌∙◌, ◌⊎◌, inl, inr, ℕ, ◌+◌, ◌-◌, ◌^◌, ◌≤◌, min, Bool, false, List, [], ◌++◌, take, refl, sym, ap, subst, Option, Some, None, Result, Ok, Err, append_assoc, arith}
-use Rattle.std.specs.Result.{OnErr}
 use Rattle.std.proofs.lemmas.List.{append-nil}
 use Rattle.out_tree.specs.declared.step.Call.{Call}
 use Rattle.site_base.specs.Ends.{Rose}
@@ -11,22 +10,24 @@ use Rattle.site_script.specs.declared.line.Line.TheVariants as line
 use Rattle.site_session.specs.Bytes.{reply_bytes}
 use Rattle.site_session.specs.Makes.{IsShort}
 use Rattle.site_session.specs.Rebuilds.{Rebuilds}
-use Rattle.site_session.specs.Replies.{IsQuiet, LeavesBy, LineLeaves, built_reply, has_called_output}
+use Rattle.site_session.specs.Replies.{LineLeaves, LineSpares, built_reply}
 use Rattle.site_session.specs.Rounds.{in_any_order}
 use Rattle.site_session.specs.Session.{Given, Answers, source_failures}
 use Rattle.site_session.specs.Standing.{Standing, Holds}
-use Rattle.site_session.specs.Tallied.{Effects, effects}
+use Rattle.site_session.specs.Scenes.{OutputSeen, Scene, SourceSeen, output_seen}
 use Rattle.site_session.specs.declared.build.Rebuilt.{Rebuilt}
 use Rattle.site_session.specs.declared.reply.Reply.{Reply}
 use Rattle.site_session.specs.declared.reply.Reply.TheVariants.{Scanned, ScanFailed, Faulty, Fine, Absent, Built, Marked, Unlisted, BadLine, Silent}
-use Rattle.site_session.proofs.Rebuilding.{answer-quiet, line_leaves, same-where-quiet}
+use Rattle.site_session.proofs.Lines.{build_line, build_spares, scan_line, scan_spares}
+use Rattle.site_session.proofs.Rebuilding.{answer-quiet, output_left, output_spared}
 use Rattle.site_words.specs.declared.faults.UsageKind.{UsageKind}
 use Rattle.site_program.specs.Once.{after_scan, Ended, Took, Untouched}
-use Rattle.site_program.specs.OneBuild.{BuildStops, BuildTold, HalfBuild, HalfScan, OneBuild, ScanStops, ScanTold}
+use Rattle.site_program.specs.OneBuild.{BuildStops, BuildTold, HalfBuild, HalfScan, NoScan, OneBuild, ScanStops, ScanTold}
 use Rattle.site_program.specs.Runs.{Stopped, reply_status}
-use Rattle.site_program.specs.Sessions.{Counts}
+use Rattle.site_program.specs.Stages.{Blames, SinkSeen, Stage}
 use Rattle.site_program.specs.declared.status.Status.{Status}
 use Rattle.site_program.specs.declared.status.Status.TheVariants as status
+use Rattle.site_program.proofs.Completes.{completes}
 use Rattle.site_program.proofs.Cases.{Tells, one_tells, two_tells, untouched_quiet, out_rose, source_rose}
 use Rattle.site_program.proofs.Onces.{holds_first, whole_one, whole_two, cut_one, cut_two}
 
@@ -89,201 +90,211 @@ plain_input s (Is usage input sink) = input
 plain_sink : (s : Status) → Plain s → s ≡ status.SinkFault → ⊥
 plain_sink s (Is usage input sink) = sink
 
--- ---- a scan leaves the output and the tally alone
-
-quiet_leaves : {D : Type 0} (contents : D → Option Files) (now : Standing) (reply : Reply) → IsQuiet reply → (new : Standing) (at : Effects D) → LineLeaves contents now line.Scan reply new.belief at at
-quiet_leaves contents now reply quiet new at = record { built = by reply quiet.called; untouched = λ _. refl; tallied = refl }
-  where
-    by : (reply : Reply) → has_called_output reply ≡ false → LeavesBy now reply (contents at.output) (contents at.output) new.belief
-    by (Scanned count) q = tt
-    by ScanFailed q = tt
-    by (Faulty fault) q = tt
-    by Fine q = tt
-    by Absent q = tt
-    by (Built report) q = absurd (cc (q))
-    by (Marked paths) q = absurd (cc (q))
-    by Unlisted q = absurd (cc (q))
-    by (BadLine number kind) q = tt
-    by Silent q = tt
-
 -- ---- the four ends
 
-module _ {D : Type 0} (contents : D → Option Files) (first opened : Standing) (is_first : opened ≡ first) (unlisted : first.belief ≡ None) (why : Bool) (source : Option Files) (taken : Option (List ℕ)) (was : Effects D) where
-  opened_holds : (given : Given) → contents was.output ≡ Some given.output → Holds (contents was.output) opened.belief given.output
-  opened_holds given out = holds_first opened (contents was.output) given.output (ap (λ (s : Standing). s.belief) is_first ∙ unlisted) out
+opened_holds : (first opened : Standing) (told : Option Files) (given : Given) → opened ≡ first → first.belief ≡ None → told ≡ Some given.output → Holds told opened.belief given.output
+opened_holds first opened told given is_first unlisted out = holds_first opened told given.output (ap (λ (s : Standing). s.belief) is_first ∙ unlisted) out
+
+module _ {S D : Type 0} (first opened : Standing) (is_first : opened ≡ first) (unlisted : first.belief ≡ None) (why : Bool) (was : Stage S D) where
+  -- after a scan, which leaves the output and the tally alone
+  abbrev pub scanned_to : SourceSeen S → SinkSeen → Stage S D
+  scanned_to source sink = record { scene = record { source = source; output = was.scene.output; tally = was.scene.tally }; sink = sink }
 
   -- at the scan, cut short
-  pub ends_early : (short : Type 0) (taken' : Option (List ℕ)) (counts : Counts) (sink_first sink_now : ℕ) (s : Status) → ScanStops short why source opened taken taken'
-      → IsEarly s → (short → s ≡ status.Memory) → (s ≡ status.Memory → short) → (s ≡ status.SinkFault → Rose sink_first sink_now)
-      → OneBuild contents first why source taken taken' was was counts sink_first sink_now s
-  ends_early short taken' counts sink_first sink_now s stops early to_memory of_memory sink = record {
-    told = λ given src out. early_ended (after_scan given first) (contents was.output) (contents was.output) s early;
-    took = λ given before w src out t. early_took given (after_scan given first) before taken' s early;
+  pub ends_early : (short : Type 0) (source : SourceSeen S) (sink : SinkSeen) (s : Status) → ScanStops short why opened was.scene.source source was.sink.taken sink.taken
+      → IsEarly s → (short → s ≡ status.Memory) → (s ≡ status.Memory → short) → (s ≡ status.SinkFault → Rose was.sink.failures sink.failures)
+      → OneBuild first why was (scanned_to source sink) s
+  ends_early short source sink s stops early to_memory of_memory rose = record {
+    told = λ given src out. early_ended (after_scan given first) was.scene.output.files was.scene.output.files s early;
+    took = λ given before w src out t. early_took given (after_scan given first) before sink.taken s early;
     run = λ given before w src out t.
         let st = stops given before w src t in
-        cut_one contents given first opened before st.0 taken' was was s is_first (half given st.0 out st.2) st.1.bytes (record { cases = early; memory = λ e. st.1.memory (of_memory e) });
+        cut_one given first opened before st.0 was (scanned_to source sink) s is_first (half given st.0 out st.2) st.1.bytes (record { cases = early; memory = λ e. st.1.memory (of_memory e) });
     no_usage = λ kind e. early_usage s kind early e;
     no_input = λ e. early_input s early e;
     untouched = λ u. refl;
-    source_fault = λ e. absurd (early_source s early e);
-    out_fault = λ count e. absurd (early_out s count early e);
-    sink_fault = sink;
+    blames = told;
+    completes = completes was (scanned_to source sink) s told (λ kind e. early_usage s kind early e) (λ e. early_input s early e);
   }
     where
-      half : (given : Given) (part : List ℕ) → contents was.output ≡ Some given.output → ((short × (part ≡ [])) ⊎ HalfScan given opened part) → Stopped (s ≡ status.Memory) contents given opened 1 line.Scan was was part
-      half given part out (inl none) = inl (record { memory = to_memory none.0; kept = refl; output = opened_holds given out; nothing = none.1 })
+      told : Blames was (scanned_to source sink) s
+      told = record { source = λ e. absurd (early_source s early e); output = λ count e. absurd (early_out s count early e); sink = rose }
+
+      half : (given : Given) (part : List ℕ) → was.scene.output.files ≡ Some given.output → (NoScan short was.scene.source source part ⊎ HalfScan given opened was.scene.source source part)
+          → Stopped (s ≡ status.Memory) given opened 1 line.Scan was.scene (scanned_to source sink).scene part
+      half given part out (inl none) = inl (record {
+        memory = to_memory none.memory;
+        spares = scan_spares opened line.Scan was.scene.source source was.scene.output was.scene.tally refl none.files none.failures;
+        output = opened_holds first opened was.scene.output.files given is_first unlisted out;
+        nothing = none.nothing;
+      })
       half given part out (inr h) = inr (record {
         reply = h.reply;
         new = h.new;
         answers = h.answers;
-        output = subst (λ b. Holds (contents was.output) b given.output) (sym h.belief) (opened_holds given out);
-        leaves = quiet_leaves contents opened h.reply h.quiet h.new was;
+        output = subst (λ b. Holds was.scene.output.files b given.output) (sym h.belief) (opened_holds first opened was.scene.output.files given is_first unlisted out);
+        leaves = scan_line opened line.Scan h.reply h.new.belief was.scene.source source was.scene.output was.scene.tally refl h.belief h.quiet h.left;
         taken = h.taken;
         part_is = h.part_is;
       })
 
   -- at the reply to the scan, which answered no number
-  pub ends_unscanned : (taken' : Option (List ℕ)) (counts : Counts) (sink_first sink_now : ℕ) (s : Status) (new : Standing) (reply : Reply) → ScanTold why source counts.source_first counts.source_now opened new taken taken' reply
-      → ((count : ℕ) → reply ≡ Scanned count → ⊥) → s ≡ reply_status reply → OneBuild contents first why source taken taken' was was counts sink_first sink_now s
-  ends_unscanned taken' counts sink_first sink_now s new reply t other is = record {
-    told = λ given src out. subst (λ (o : Standing). Ended (after_scan given o) (contents was.output) (contents was.output) s) is_first (tells given src).ended;
+  pub ends_unscanned : (source : SourceSeen S) (sink : SinkSeen) (s : Status) (new : Standing) (reply : Reply) → ScanTold why opened new was.scene.source source was.sink.taken sink.taken reply
+      → ((count : ℕ) → reply ≡ Scanned count → ⊥) → s ≡ reply_status reply → OneBuild first why was (scanned_to source sink) s
+  ends_unscanned source sink s new reply t other is = record {
+    told = λ given src out. subst (λ (o : Standing). Ended (after_scan given o) was.scene.output.files was.scene.output.files s) is_first (tells given src).ended;
     took = λ given before w src out at.
-        subst (λ (o : Standing). Took given (after_scan given o) before taken' s) is_first ((tells given src).took before taken' (bytes_by given before w at));
+        subst (λ (o : Standing). Took given (after_scan given o) before sink.taken s) is_first ((tells given src).took before sink.taken (bytes_by given before w at));
     run = λ given before w src out at.
-        whole_one contents given first new before taken' was was s reply other (subst (λ (o : Standing). Answers given o 1 line.Scan reply new) is_first (t.answers given src))
-        (quiet_leaves contents first reply t.quiet new was) (bytes_by given before w at) (subst (λ b. Holds (contents was.output) b given.output) (sym t.belief) (opened_holds given out)) is;
+        whole_one given first new before was (scanned_to source sink) s reply other (subst (λ (o : Standing). Answers given o 1 line.Scan reply new) is_first (t.answers given src))
+        (scan_line first line.Scan reply new.belief was.scene.source source was.scene.output was.scene.tally refl (t.belief ∙ ap (λ (s : Standing). s.belief) is_first) t.quiet t.left) (bytes_by given before w at)
+        (subst (λ b. Holds was.scene.output.files b given.output) (sym t.belief) (opened_holds first opened was.scene.output.files given is_first unlisted out)) is;
     no_usage = λ kind e. plain_usage (reply_status reply) (plain reply) kind (sym is ∙ e);
     no_input = λ e. plain_input (reply_status reply) (plain reply) (sym is ∙ e);
     untouched = λ u. refl;
-    source_fault = λ e. let one = source_rose reply (sym is ∙ e) in omega (arith, one, t.cause);
-    out_fault = λ count e. let most = out_rose reply count (sym is ∙ e) in let none = t.quiet.failures in absurd (omega (arith, most, none));
-    sink_fault = λ e. absurd (plain_sink (reply_status reply) (plain reply) (sym is ∙ e));
+    blames = told;
+    completes = completes was (scanned_to source sink) s told (λ kind e. plain_usage (reply_status reply) (plain reply) kind (sym is ∙ e)) (λ e. plain_input (reply_status reply) (plain reply) (sym is ∙ e));
   }
     where
-      tells : (given : Given) → source ≡ Some given.source → Tells given (after_scan given opened) (contents was.output) (contents was.output) s (reply_bytes given.why reply)
-      tells given src = one_tells given opened new reply (contents was.output) (contents was.output) s is (t.answers given src) other (λ _. refl)
+      told : Blames was (scanned_to source sink) s
+      told = record {
+        source = λ e. (let one = source_rose reply (sym is ∙ e) in omega (arith, one, t.left.failed.cause));
+        output = λ count e. (let most = out_rose reply count (sym is ∙ e) in let none = t.quiet.failures in absurd (omega (arith, most, none)));
+        sink = λ e. absurd (plain_sink (reply_status reply) (plain reply) (sym is ∙ e));
+      }
 
-      bytes_by : (given : Given) (before : List ℕ) → given.why ≡ why → taken ≡ Some before → taken' ≡ Some (before ++ reply_bytes given.why reply)
+      tells : (given : Given) → was.scene.source.files ≡ Some given.source → Tells given (after_scan given opened) was.scene.output.files was.scene.output.files s (reply_bytes given.why reply)
+      tells given src = one_tells given opened new reply was.scene.output.files was.scene.output.files s is (t.answers given src) other (λ _. refl)
+
+      bytes_by : (given : Given) (before : List ℕ) → given.why ≡ why → was.sink.taken ≡ Some before → sink.taken ≡ Some (before ++ reply_bytes given.why reply)
       bytes_by given before w at = t.bytes before at ∙ ap (λ b. Some (before ++ reply_bytes b reply)) (sym w)
 
-  -- once a build follows
-  module _ (mid last : Standing) (scanned : Reply) (count : ℕ) (is_scanned : scanned ≡ Scanned count) (between : Option (List ℕ)) (source_first source_now output_first output_now : ℕ) (t : ScanTold why source source_first source_now opened mid taken between scanned)
-      (calls : D → Option (List Call)) (failures : D → ℕ) (now : D) (tally : List ItemName) (rebuilt : Result Rebuilt Memory) (r : Rebuilds in_any_order contents calls failures mid last rebuilt was.output now was.tally tally)
-      (first_is : output_first ≡ failures was.output) (now_is : output_now ≡ failures now) where
-    abbrev pub counts : Counts
-    counts = record { source_first = source_first; source_now = source_now; output_first = output_first; output_now = output_now }
+-- once a build follows
+module _ {S D : Type 0} (first opened : Standing) (is_first : opened ≡ first) (unlisted : first.belief ≡ None) (why : Bool) (contents : D → Option Files) (calls : D → Option (List Call)) (failures : D → ℕ)
+    (source source' : SourceSeen S) (out now : D) (tally tally' : List ItemName) (sink : SinkSeen) (mid last : Standing) (scanned : Reply) (count : ℕ) (is_scanned : scanned ≡ Scanned count) (between : Option (List ℕ))
+    (t : ScanTold why opened mid source source' sink.taken between scanned) (rebuilt : Result Rebuilt Memory) (r : Rebuilds in_any_order contents calls failures mid last rebuilt out now tally tally') where
+  abbrev begun : Stage S D
+  begun = record { scene = record { source = source; output = output_seen contents calls failures out; tally = tally }; sink = sink }
 
-    mid_holds : (given : Given) → contents was.output ≡ Some given.output → Holds (contents was.output) mid.belief given.output
-    mid_holds given out = subst (λ b. Holds (contents was.output) b given.output) (sym t.belief) (opened_holds given out)
+  abbrev there : Scene S D
+  there = record { source = source'; output = output_seen contents calls failures out; tally = tally }
 
-    scan_answers : (given : Given) → source ≡ Some given.source → Answers given first 1 line.Scan scanned mid
-    scan_answers given src = subst (λ (o : Standing). Answers given o 1 line.Scan scanned mid) is_first (t.answers given src)
+  abbrev built_to : SinkSeen → Stage S D
+  built_to sink' = record { scene = record { source = source'; output = output_seen contents calls failures now; tally = tally' }; sink = sink' }
 
-    scan_leaves : LineLeaves contents first line.Scan scanned mid.belief was was
-    scan_leaves = quiet_leaves contents first scanned t.quiet mid was
+  mid_holds : (given : Given) → contents out ≡ Some given.output → Holds (contents out) mid.belief given.output
+  mid_holds given is = subst (λ b. Holds (contents out) b given.output) (sym t.belief) (opened_holds first opened (contents out) given is_first unlisted is)
 
-    built_leaves : (rebuilt : Result Rebuilt Memory) → Rebuilds in_any_order contents calls failures mid last rebuilt was.output now was.tally tally → (reply : Reply) → built_reply rebuilt ≡ Some reply → (first : Files) → Holds (contents was.output) mid.belief first
-        → LineLeaves contents mid line.Build reply last.belief was (effects now tally)
-    built_leaves (Ok made) r reply is first h = line_leaves contents calls failures mid last was.output now was.tally tally made reply r is first h
-    built_leaves (Err e) r reply is first h = absurd (cc (is))
+  scan_answers : (given : Given) → source.files ≡ Some given.source → Answers given first 1 line.Scan scanned mid
+  scan_answers given src = subst (λ (o : Standing). Answers given o 1 line.Scan scanned mid) is_first (t.answers given src)
 
-    built_quiet : (rebuilt : Result Rebuilt Memory) (reply : Reply) → built_reply rebuilt ≡ Some reply → source_failures reply ≡ 0
-    built_quiet (Ok made) reply is = answer-quiet made reply is
-    built_quiet (Err e) reply is = absurd (cc (is))
+  scan_leaves : LineLeaves first line.Scan scanned mid.belief begun.scene there
+  scan_leaves = scan_line first line.Scan scanned mid.belief source source' (output_seen contents calls failures out) tally refl (t.belief ∙ ap (λ (s : Standing). s.belief) is_first) t.quiet t.left
 
-    built_same : (rebuilt : Result Rebuilt Memory) → Rebuilds in_any_order contents calls failures mid last rebuilt was.output now was.tally tally → (reply : Reply) → built_reply rebuilt ≡ Some reply → has_called_output reply ≡ false → now ≡ was.output
-    built_same (Ok made) r reply is quiet = same-where-quiet contents calls failures mid last was.output now was.tally tally made reply r is quiet
-    built_same (Err e) r reply is quiet = absurd (cc (is))
+  built_leaves : (rebuilt : Result Rebuilt Memory) → Rebuilds in_any_order contents calls failures mid last rebuilt out now tally tally' → (reply : Reply) → built_reply rebuilt ≡ Some reply
+      → (sink' : SinkSeen) → LineLeaves mid line.Build reply last.belief there (built_to sink').scene
+  built_leaves (Ok made) r reply is sink' =
+      build_line mid line.Build reply last.belief source' (output_seen contents calls failures out) (output_seen contents calls failures now) tally tally' refl (answer-quiet made reply is)
+      (output_left contents calls failures mid last out now tally tally' made reply r is) r.tallied
+  built_leaves (Err e) r reply is sink' = absurd (cc (is))
 
-    -- at its reply
-    pub ends_built : (taken' : Option (List ℕ)) (sink_first sink_now : ℕ) (s : Status) (reply : Reply) → BuildTold why rebuilt between taken' reply → s ≡ reply_status reply
-        → OneBuild contents first why source taken taken' was (effects now tally) counts sink_first sink_now s
-    ends_built taken' sink_first sink_now s reply b is = record {
-      told = λ given src out. subst (λ (o : Standing). Ended (after_scan given o) (contents was.output) (contents now) s) is_first (tells given src out).ended;
-      took = λ given before w src out at.
-          subst (λ (o : Standing). Took given (after_scan given o) before taken' s) is_first
-          ((tells given src out).took before taken' (bytes_by given before w at ∙ ap Some (append_assoc before (reply_bytes given.why scanned) (reply_bytes given.why reply))));
-      run = λ given before w src out at.
-          whole_two contents given first mid last before taken' was was (effects now tally) s scanned reply count is_scanned (scan_answers given src) scan_leaves (r.answers given 2 reply (mid_holds given out) b.is)
-          (built_leaves rebuilt r reply b.is given.output (mid_holds given out)) (bytes_by given before w at) (r.belief given.output (mid_holds given out)) is;
-      no_usage = λ kind e. plain_usage (reply_status reply) (plain reply) kind (sym is ∙ e);
-      no_input = λ e. plain_input (reply_status reply) (plain reply) (sym is ∙ e);
-      untouched = λ u. built_same rebuilt r reply b.is (untouched_quiet reply (subst (λ (x : Status). Untouched x) is u));
-      source_fault = λ e. let one = source_rose reply (sym is ∙ e) in let none = built_quiet rebuilt reply b.is in absurd (omega (arith, one, none));
-      out_fault = λ count e.
-          let most = out_rose reply count (sym is ∙ e) in
-          let rose = subst (λ (n : ℕ). min (failures was.output + n) (2 ^ 64 - 1) ≤ failures now) most (r.cause reply b.is) in
-          omega (arith, rose, first_is, now_is);
-      sink_fault = λ e. absurd (plain_sink (reply_status reply) (plain reply) (sym is ∙ e));
-    }
-      where
-        tells : (given : Given) → source ≡ Some given.source → contents was.output ≡ Some given.output
-            → Tells given (after_scan given opened) (contents was.output) (contents now) s (reply_bytes given.why scanned ++ reply_bytes given.why reply)
-        tells given src out =
-            two_tells given opened mid last scanned reply count (contents was.output) (contents was.output) (contents now) s is is_scanned (ap (λ (o : Standing). o.belief) is_first ∙ unlisted)
-            (t.answers given src) (r.answers given 2 reply (mid_holds given out) b.is) refl
-            (built_leaves rebuilt r reply b.is given.output (mid_holds given out)).built (λ quiet. ap contents (built_same rebuilt r reply b.is quiet))
+  built_spares : (rebuilt : Result Rebuilt Memory) → Rebuilds in_any_order contents calls failures mid last rebuilt out now tally tally' → IsShort rebuilt → (sink' : SinkSeen) → LineSpares mid line.Build there (built_to sink').scene
+  built_spares (Ok made) r short sink' = absurd short
+  built_spares (Err e) r short sink' =
+      build_spares mid line.Build source' (output_seen contents calls failures out) (output_seen contents calls failures now) tally tally' refl (output_spared contents calls failures mid last out now tally tally' e r) r.tallied
 
-        bytes_by : (given : Given) (before : List ℕ) → given.why ≡ why → taken ≡ Some before → taken' ≡ Some ((before ++ reply_bytes given.why scanned) ++ reply_bytes given.why reply)
-        bytes_by given before w at =
-            b.bytes (before ++ reply_bytes why scanned) (t.bytes before at) ∙ ap (λ y. Some ((before ++ reply_bytes y scanned) ++ reply_bytes y reply)) (sym w)
+  built_quiet : (rebuilt : Result Rebuilt Memory) (reply : Reply) → built_reply rebuilt ≡ Some reply → source_failures reply ≡ 0
+  built_quiet (Ok made) reply is = answer-quiet made reply is
+  built_quiet (Err e) reply is = absurd (cc (is))
 
-    -- at the build, cut short
-    pub ends_cut : (short : Type 0) (taken' : Option (List ℕ)) (sink_first sink_now : ℕ) (s : Status) → BuildStops short why rebuilt between taken' → IsEarly s → (short → s ≡ status.Memory) → (s ≡ status.Memory → short)
-        → (s ≡ status.SinkFault → Rose sink_first sink_now) → OneBuild contents first why source taken taken' was (effects now tally) counts sink_first sink_now s
-    ends_cut short taken' sink_first sink_now s stops early to_memory of_memory sink = record {
-      told = λ given src out. early_ended (after_scan given first) (contents was.output) (contents now) s early;
-      took = λ given before w src out at. early_took given (after_scan given first) before taken' s early;
-      run = λ given before w src out at.
-          let st = stops (before ++ reply_bytes why scanned) (t.bytes before at) in
-          cut_two contents given first mid before st.0 taken' was was (effects now tally) s scanned count is_scanned (scan_answers given src) scan_leaves (half given st.0 w out rebuilt r st.2)
-          (st.1.bytes ∙ ap (λ y. Some ((before ++ reply_bytes y scanned) ++ st.0)) (sym w)) (record { cases = early; memory = λ e. st.1.memory (of_memory e) });
-      no_usage = λ kind e. early_usage s kind early e;
-      no_input = λ e. early_input s early e;
-      untouched = λ u. absurd (early_touches s early u);
-      source_fault = λ e. absurd (early_source s early e);
-      out_fault = λ count e. absurd (early_out s count early e);
-      sink_fault = sink;
-    }
-      where
-        err_of : (rebuilt : Result Rebuilt Memory) (P : Type 0) → IsShort rebuilt → OnErr rebuilt P → P
-        err_of (Ok made) P is p = absurd is
-        err_of (Err e) P is p = p
+  -- at its reply
+  pub ends_built : (sink' : SinkSeen) (s : Status) (reply : Reply) → BuildTold why rebuilt between sink'.taken reply → s ≡ reply_status reply → OneBuild first why begun (built_to sink') s
+  ends_built sink' s reply b is = record {
+    told = λ given src out_is. subst (λ (o : Standing). Ended (after_scan given o) (contents out) (contents now) s) is_first (tells given src out_is).ended;
+    took = λ given before w src out_is at.
+        subst (λ (o : Standing). Took given (after_scan given o) before sink'.taken s) is_first
+        ((tells given src out_is).took before sink'.taken (bytes_by given before w at ∙ ap Some (append_assoc before (reply_bytes given.why scanned) (reply_bytes given.why reply))));
+    run = λ given before w src out_is at.
+        whole_two given first mid last before begun (built_to sink') there s scanned reply count is_scanned (scan_answers given src) scan_leaves (r.answers given 2 reply (mid_holds given out_is) b.is)
+        leaves (bytes_by given before w at) (r.belief given.output (mid_holds given out_is)) is;
+    no_usage = λ kind e. plain_usage (reply_status reply) (plain reply) kind (sym is ∙ e);
+    no_input = λ e. plain_input (reply_status reply) (plain reply) (sym is ∙ e);
+    untouched = λ u. leaves.output.untouched (untouched_quiet reply (subst (λ (x : Status). Untouched x) is u));
+    blames = told;
+    completes = completes begun (built_to sink') s told (λ kind e. plain_usage (reply_status reply) (plain reply) kind (sym is ∙ e)) (λ e. plain_input (reply_status reply) (plain reply) (sym is ∙ e));
+  }
+    where
+      leaves : LineLeaves mid line.Build reply last.belief there (built_to sink').scene
+      leaves = built_leaves rebuilt r reply b.is sink'
 
-        half : (given : Given) (part : List ℕ) → given.why ≡ why → contents was.output ≡ Some given.output → (rebuilt : Result Rebuilt Memory) → Rebuilds in_any_order contents calls failures mid last rebuilt was.output now was.tally tally
-            → ((IsShort rebuilt × short × (part ≡ [])) ⊎ HalfBuild why rebuilt part) → Stopped (s ≡ status.Memory) contents given mid 2 line.Build was (effects now tally) part
-        half given part w out rebuilt r (inl none) = inl (record {
-          memory = to_memory none.1;
-          kept = err_of rebuilt (contents now ≡ contents was.output) none.0 r.err;
-          output = new_holds given out r none.0;
-          nothing = none.2;
-        })
-          where
-            new_holds : (given : Given) → contents was.output ≡ Some given.output → Rebuilds in_any_order contents calls failures mid last rebuilt was.output now was.tally tally → IsShort rebuilt → Holds (contents now) mid.belief given.output
-            new_holds given out r is = subst (λ c. Holds c mid.belief given.output) (sym (err_of rebuilt (contents now ≡ contents was.output) is r.err)) (mid_holds given out)
-        half given part w out rebuilt r (inr h) = inr (record {
-          reply = h.reply;
-          new = last;
-          answers = r.answers given 2 h.reply (mid_holds given out) h.is;
-          output = r.belief given.output (mid_holds given out);
-          leaves = built_leaves rebuilt r h.reply h.is given.output (mid_holds given out);
-          taken = h.taken;
-          part_is = h.part_is ∙ ap (λ y. take h.taken (reply_bytes y h.reply)) (sym w);
-        })
+      told : Blames begun (built_to sink') s
+      told = record {
+        source = λ e. (let one = source_rose reply (sym is ∙ e) in let none = built_quiet rebuilt reply b.is in absurd (omega (arith, one, none)));
+        output = λ count e. subst (λ (n : ℕ). min (failures out + n) (2 ^ 64 - 1) ≤ failures now) (out_rose reply count (sym is ∙ e)) (r.cause reply b.is);
+        sink = λ e. absurd (plain_sink (reply_status reply) (plain reply) (sym is ∙ e));
+      }
+
+      tells : (given : Given) → source.files ≡ Some given.source → contents out ≡ Some given.output
+          → Tells given (after_scan given opened) (contents out) (contents now) s (reply_bytes given.why scanned ++ reply_bytes given.why reply)
+      tells given src out_is =
+          two_tells given opened mid last scanned reply count (contents out) (contents out) (contents now) s is is_scanned (ap (λ (o : Standing). o.belief) is_first ∙ unlisted)
+          (t.answers given src) (r.answers given 2 reply (mid_holds given out_is) b.is) refl
+          (leaves.output.built given.output (mid_holds given out_is)) (λ quiet. ap (λ (o : OutputSeen D). o.files) (leaves.output.untouched quiet))
+
+      bytes_by : (given : Given) (before : List ℕ) → given.why ≡ why → sink.taken ≡ Some before → sink'.taken ≡ Some ((before ++ reply_bytes given.why scanned) ++ reply_bytes given.why reply)
+      bytes_by given before w at =
+          b.bytes (before ++ reply_bytes why scanned) (t.bytes before at) ∙ ap (λ y. Some ((before ++ reply_bytes y scanned) ++ reply_bytes y reply)) (sym w)
+
+  -- at the build, cut short
+  pub ends_cut : (short : Type 0) (sink' : SinkSeen) (s : Status) → BuildStops short why rebuilt between sink'.taken → IsEarly s → (short → s ≡ status.Memory) → (s ≡ status.Memory → short)
+      → (s ≡ status.SinkFault → Rose sink.failures sink'.failures) → OneBuild first why begun (built_to sink') s
+  ends_cut short sink' s stops early to_memory of_memory rose = record {
+    told = λ given src out_is. early_ended (after_scan given first) (contents out) (contents now) s early;
+    took = λ given before w src out_is at. early_took given (after_scan given first) before sink'.taken s early;
+    run = λ given before w src out_is at.
+        let st = stops (before ++ reply_bytes why scanned) (t.bytes before at) in
+        cut_two given first mid before st.0 begun (built_to sink') there s scanned count is_scanned (scan_answers given src) scan_leaves (half given st.0 w out_is st.2)
+        (st.1.bytes ∙ ap (λ y. Some ((before ++ reply_bytes y scanned) ++ st.0)) (sym w)) (record { cases = early; memory = λ e. st.1.memory (of_memory e) });
+    no_usage = λ kind e. early_usage s kind early e;
+    no_input = λ e. early_input s early e;
+    untouched = λ u. absurd (early_touches s early u);
+    blames = told;
+    completes = completes begun (built_to sink') s told (λ kind e. early_usage s kind early e) (λ e. early_input s early e);
+  }
+    where
+      told : Blames begun (built_to sink') s
+      told = record { source = λ e. absurd (early_source s early e); output = λ count e. absurd (early_out s count early e); sink = rose }
+
+      half : (given : Given) (part : List ℕ) → given.why ≡ why → contents out ≡ Some given.output → ((IsShort rebuilt × short × (part ≡ [])) ⊎ HalfBuild why rebuilt part)
+          → Stopped (s ≡ status.Memory) given mid 2 line.Build there (built_to sink').scene part
+      half given part w out_is (inl none) =
+          let spares = built_spares rebuilt r none.0 sink' in
+          inl (record {
+            memory = to_memory none.1;
+            spares = spares;
+            output = subst (λ c. Holds c mid.belief given.output) (sym spares.output.files) (mid_holds given out_is);
+            nothing = none.2;
+          })
+      half given part w out_is (inr h) = inr (record {
+        reply = h.reply;
+        new = last;
+        answers = r.answers given 2 h.reply (mid_holds given out_is) h.is;
+        output = r.belief given.output (mid_holds given out_is);
+        leaves = built_leaves rebuilt r h.reply h.is sink';
+        taken = h.taken;
+        part_is = h.part_is ∙ ap (λ y. take h.taken (reply_bytes y h.reply)) (sym w);
+      })
 
 -- ---- what is told of a whole run
 
 -- the run ended for want of memory before it had read what it is to do
-pub ends_unread : {D : Type 0} (contents : D → Option Files) (first : Standing) (why : Bool) (source : Option Files) (taken : Option (List ℕ)) (at : Effects D) (counts : Counts) (sink_first sink_now : ℕ) (s : Status) → first.belief ≡ None → s ≡ status.Memory
-    → OneBuild contents first why source taken taken at at counts sink_first sink_now s
-ends_unread contents first why source taken at counts sink_first sink_now s unlisted is =
-    ends_early contents first first refl unlisted why source taken at (s ≡ status.Memory) taken counts sink_first sink_now s
-    (λ given before w src t. ([], record { bytes = t ∙ ap Some (sym (append-nil before)); memory = λ _. refl }, inl (is, refl))) (inr is) (λ e. e) (λ e. e)
+pub ends_unread : {S D : Type 0} (first : Standing) (why : Bool) (at : Stage S D) (s : Status) → first.belief ≡ None → s ≡ status.Memory → OneBuild first why at at s
+ends_unread first why at s unlisted is =
+    ends_early first first refl unlisted why at (s ≡ status.Memory) at.scene.source at.sink s
+    (λ given before w src t. ([], record { bytes = t ∙ ap Some (sym (append-nil before)); memory = λ _. refl }, inl (record { memory = is; nothing = refl; files = refl; failures = refl }))) (inr is) (λ e. e) (λ e. e)
     (λ e. let none : status.Memory ≡ status.SinkFault = sym is ∙ e in absurd (cc (none)))
 
--- the same run, of equal standing, reasons and tally
-pub same_run : {D : Type 0} (contents : D → Option Files) (first start : Standing) (why said : Bool) (source : Option Files) (taken taken' : Option (List ℕ)) (was now : D) (none begun names : List ItemName) (counts : Counts) (sink_first sink_now : ℕ) (s : Status)
-    → first ≡ start → why ≡ said → none ≡ begun → OneBuild contents first why source taken taken' (effects was none) (effects now names) counts sink_first sink_now s
-    → OneBuild contents start said source taken taken' (effects was begun) (effects now names) counts sink_first sink_now s
-same_run contents first start why said source taken taken' was now none begun names counts sink_first sink_now s first_is why_is none_is run =
-    subst (λ (x : Standing × (Bool × List ItemName)). OneBuild contents x.0 x.1.0 source taken taken' (effects was x.1.1) (effects now names) counts sink_first sink_now s) (λ i. (first_is i, (why_is i, none_is i))) run
+-- the same run, of equal standing and reasons
+pub same_run : {S D : Type 0} (first start : Standing) (why said : Bool) (was other now : Stage S D) (s : Status) → first ≡ start → why ≡ said → was ≡ other → OneBuild first why was now s → OneBuild start said other now s
+same_run {S} {D} first start why said was other now s first_is why_is was_is run =
+    subst (λ (x : Standing × (Bool × Stage S D)). OneBuild x.0 x.1.0 x.1.1 now s) (λ i. (first_is i, (why_is i, was_is i))) run

@@ -1,13 +1,16 @@
 -- What a check answers of a site, and what the sink then took.
 use Rattle.std.specs.Prelude.{◌≡◌, ◌⊎◌, ℕ, false, List, ◌++◌, codes, Option, Some, None}
 use Rattle.std.specs.FinMap.{entries}
-use Rattle.site_base.specs.Places.{Files}
+use Rattle.site_base.specs.Ends.{Rose}
 use Rattle.site_base.specs.declared.faults.SiteFault.{SiteFault}
 use Rattle.source_tree.specs.Scan.{scan_fault}
 use Rattle.site_session.specs.Bytes.{fault_line, reply_bytes}
 use Rattle.site_session.specs.Session.{Given, first_fault}
+use Rattle.site_session.specs.Scenes.{SourceSeen}
 use Rattle.site_session.specs.Standing.{Standing}
+use Rattle.site_words.specs.declared.faults.UsageKind.{UsageKind}
 use Rattle.site_program.specs.Once.{after_scan, scanned, site_fault}
+use Rattle.site_program.specs.Stages.{Comes, Completes, SinkSeen, Stage}
 use Rattle.site_program.specs.declared.status.Status.{Status}
 use Rattle.site_program.specs.declared.status.Status.TheVariants.{Done, Site, Usage, SourceFault, OutFault, InputFault, SinkFault, Script, Memory}
 
@@ -60,9 +63,21 @@ CheckTook given now before after InputFault = ⊥
 CheckTook given now before after (Script number kind) = ⊥
 
 -- the check of what a session's first scan finds: when each status comes and what the sink took, where the ends tell it
-pub record OneCheck (first : Standing) (source : Option Files) (taken taken' : Option (List ℕ)) (ended : Status) : Type 0 where
-  pub told : (given : Given) → source ≡ Some given.source → Checked (after_scan given first) ended
-  pub took : (given : Given) (before : List ℕ) → source ≡ Some given.source → taken ≡ Some before → CheckTook given (after_scan given first) before taken' ended
+pub record CheckDone {S : Type 0} (first : Standing) (source source' : SourceSeen S) (sink sink' : SinkSeen) (ended : Status) : Type 0 where
+  pub told : (given : Given) → source.files ≡ Some given.source → Checked (after_scan given first) ended
+  pub took : (given : Given) (before : List ℕ) → source.files ≡ Some given.source → sink.taken ≡ Some before → CheckTook given (after_scan given first) before sink'.taken ended
+  pub no_usage : (kind : UsageKind) → ended ≡ Usage kind → ⊥
+  pub no_input : ended ≡ InputFault → ⊥
+  pub no_output : (count : ℕ) → ended ≡ OutFault count → ⊥
+  pub source_fault : ended ≡ SourceFault → Rose source.failures source'.failures
+  pub source_steady : Comes ended → source'.failures ≡ source.failures
+  pub sink_fault : ended ≡ SinkFault → Rose sink.failures sink'.failures
+
+-- the same, which leaves the output alone
+pub record OneCheck {S D : Type 0} (first : Standing) (was now : Stage S D) (ended : Status) : Type 0 where
+  pub done : CheckDone first was.scene.source now.scene.source was.sink now.sink ended
+  pub output : now.scene.output ≡ was.scene.output
+  pub completes : Completes was now ended
 
 -- ---- parts of a check
 

@@ -1,7 +1,9 @@
 pub mod Usage
 pub mod Once
+pub mod Stages
 pub mod OneBuild
 pub mod Checks
 pub mod Runs
 pub mod Sessions
 pub mod Makes
+pub mod Refused

@@ -2,6 +2,7 @@
 use Rattle.std.specs.Prelude.{◌≡◌, ℕ, ℤ, true, false, List, [], Option, Some, None}
 use Rattle.std.specs.Option.{option_or}
 use Rattle.std.specs.FinMap.{empty}
+use Rattle.site_base.specs.Ends.{Rose}
 use Rattle.site_base.specs.declared.faults.SiteFault.{SiteFault}
 use Rattle.site_base.specs.declared.settings.Settings.{Settings}
 use Rattle.site_generator.specs.Generator.{edited_site, made_site}
@@ -11,7 +12,9 @@ use Rattle.site_session.specs.Session.{Given, Nothing, first_fault, start, step}
 use Rattle.site_session.specs.Standing.{Standing}
 use Rattle.site_session.specs.declared.reply.Reply.{Reply}
 use Rattle.site_program.specs.Checks.{EndsAs, SaidBoth, verdict_status}
+use Rattle.site_program.specs.Stages.{Completes, SinkSeen, Stage}
 use Rattle.site_program.specs.declared.status.Status.{Status}
+use Rattle.site_program.specs.declared.status.Status.TheVariants.{SinkFault}
 
 -- an output without files, and no source
 abbrev pub in_memory : Given
@@ -57,6 +60,14 @@ second_bytes number count moment = unless_fault (first_fault (made number count 
 
 -- a made-up site was built, edited and built again: it ends with the first fault, unless the sink fails or memory is wanting, and the sink took the
 -- replies
-pub record OneMake (number count : ℕ) (moment : ℤ) (taken taken' : Option (List ℕ)) (ended : Status) : Type 0 where
+pub record MakeDone (number count : ℕ) (moment : ℤ) (sink sink' : SinkSeen) (ended : Status) : Type 0 where
   pub ends : EndsAs (make_status number count moment) ended
-  pub took : (before : List ℕ) → taken ≡ Some before → SaidBoth (first_bytes number count moment) (second_bytes number count moment) (make_status number count moment) before taken' ended
+  pub took : (before : List ℕ) → sink.taken ≡ Some before → SaidBoth (first_bytes number count moment) (second_bytes number count moment) (make_status number count moment) before sink'.taken ended
+  pub sink_fault : ended ≡ SinkFault → Rose sink.failures sink'.failures
+
+-- the same, which calls neither source nor output
+pub record OneMake {S D : Type 0} (number count : ℕ) (moment : ℤ) (was now : Stage S D) (ended : Status) : Type 0 where
+  pub done : MakeDone number count moment was.sink now.sink ended
+  pub source : now.scene.source ≡ was.scene.source
+  pub output : now.scene.output ≡ was.scene.output
+  pub completes : Completes was now ended

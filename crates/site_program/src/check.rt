@@ -3,11 +3,11 @@ ghost use Rattle.std.specs.Prelude.{◌≡◌, ◌≤◌, ℕ, List, Some, None,
 ghost use Rattle.site_base.specs.Ends.{Rose};
 ghost use Rattle.site_script.specs.Line.{is_moment};
 ghost use Rattle.site_session.specs.Bytes.{reply_bytes};
-ghost use Rattle.site_session.specs.Session.{Given, first_fault, start};
+ghost use Rattle.site_session.specs.Session.{first_fault, start};
 ghost use Rattle.site_session.specs.declared.reply.Reply.TheVariants.{Scanned};
-ghost use Rattle.site_words.specs.declared.faults.UsageKind.{UsageKind};
-ghost use Rattle.site_program.specs.Checks.{Checked, CheckTook, EndsAs, Said, SaidBoth, verdict, verdict_status};
-ghost use Rattle.site_program.specs.Once.{after_scan};
+ghost use Rattle.site_session.specs.Scenes.{source_seen};
+ghost use Rattle.site_program.specs.Checks.{CheckDone, EndsAs, Said, SaidBoth, verdict, verdict_status};
+ghost use Rattle.site_program.specs.Stages.{sink_seen};
 ghost use Rattle.site_program.specs.Runs.{reply_status};
 
 use crate::line::write_reply;
@@ -29,14 +29,7 @@ pub(crate) fn scan_and_check<S: SourceTree, K: ByteSink, R: Renderer<Meaning = P
     renderer: &R,
 ) -> Status
     requires { is_moment moment ≡ true }
-    ensures told { (given : Given) → S.files source.old ≡ Some given.source → Checked (after_scan given (start settings moment)) result }
-    ensures took { (given : Given) (before : List ℕ) → S.files source.old ≡ Some given.source → K.taken sink.old ≡ Some before →
-        CheckTook given (after_scan given (start settings moment)) before (K.taken sink.new) result }
-    ensures no_usage { (kind : UsageKind) → result ≡ Status.Usage kind → ⊥ }
-    ensures no_input { result ≡ Status.InputFault → ⊥ }
-    ensures no_output { (count : ℕ) → result ≡ Status.OutFault count → ⊥ }
-    ensures source_fault { result ≡ Status.SourceFault → Rose (S.failures source.old) (S.failures source.new) }
-    ensures sink_fault { result ≡ Status.SinkFault → Rose (K.failures sink.old) (K.failures sink.new) }
+    ensures { CheckDone (start settings moment) (source_seen S.files S.failures source.old) (source_seen S.files S.failures source.new) (sink_seen K.taken K.failures sink.old) (sink_seen K.taken K.failures sink.new) result }
 {
     let mut session = Session::open(alloc, settings, moment);
     match session.scan(alloc, source) {

@@ -1,19 +1,18 @@
 // Builds and sessions.
-ghost use Rattle.std.specs.Prelude.{◌≡◌, ◌++◌, ◌≤◌, ◌+◌, ◌-◌, ◌^◌, min, max, ℕ, List, Some, Ok, Err, true, IfNone, IfSome};
+ghost use Rattle.std.specs.Prelude.{◌≡◌, ◌≤◌, ℕ, List, Some, Ok, Err, true, IfNone, IfSome};
 ghost use Rattle.site_base.specs.Ends.{Rose};
 ghost use Rattle.site_base.specs.Places.{Files};
 ghost use Rattle.site_script.specs.Line.{IsInTime, is_moment};
 ghost use Rattle.site_session.specs.Standing.{Holds};
 ghost use Rattle.site_session.specs.Session.{Given, start};
-ghost use Rattle.site_session.specs.Tallied.{effects};
 ghost use Rattle.site_words.specs.declared.faults.UsageKind.{UsageKind};
 ghost use Rattle.site_words.specs.declared.orders.Options.{Options};
 ghost use Rattle.site_words.specs.declared.orders.Order.TheVariants as order;
-ghost use Rattle.site_program.specs.Checks.{Said};
-ghost use Rattle.site_program.specs.Once.{jobs_order, Untouched, WasUsage};
+ghost use Rattle.site_program.specs.Once.{jobs_order};
 ghost use Rattle.site_program.specs.OneBuild.{OneBuild};
-ghost use Rattle.site_program.specs.Sessions.{SessionRun, EndsAt, GoesOn, EndsSession, bad_status};
-ghost use Rattle.site_program.specs.Usage.{usage_line};
+ghost use Rattle.site_program.specs.Refused.{IsUsage};
+ghost use Rattle.site_program.specs.Sessions.{OneSession, SessionRun, EndsAt, GoesOn, EndsSession, bad_status};
+ghost use Rattle.site_program.specs.Stages.{Blames, BlamesInput, input_seen, stage};
 
 use crate::line::do_line;
 use crate::one_build::build_by_crew;
@@ -55,39 +54,19 @@ pub fn run_jobs<
     renderer: &R,
     tally: &mut Tally,
 ) -> Status
-    // A session does the lines of its script one after another, and takes no byte behind a line before it is done. It tells what it
-    // did; each build leaves the output as its reply says, and no other line calls it. The tally gets the names of the items that builds render, each
-    // once a build.
-    ensures session { (given : Given) (options : Options) (text before : List ℕ) → jobs_order words.now moment ≡ Ok (order.Session options) → given.why ≡ options.why →
-        S.files source.old ≡ Some given.source → O.contents out.old ≡ Some given.output → I.left input.old ≡ Some text → K.taken sink.old ≡ Some before →
-        SessionRun O.contents given (start options.settings moment) text before (I.left input.new) (K.taken sink.new) (effects out.old tally.old) (effects out.new tally.new)
-        (record { source_first = S.failures source.old; source_now = S.failures source.new; output_first = O.failures out.old; output_now = O.failures out.new }) result }
-    ensures session_status { (options : Options) → jobs_order words.now moment ≡ Ok (order.Session options) → EndsSession result }
-
-    // A build is one from nothing.
-    ensures build { (options : Options) → jobs_order words.now moment ≡ Ok (order.Build options) → OneBuild O.contents (start options.settings moment) options.why
-        (S.files source.old) (K.taken sink.old) (K.taken sink.new) (effects out.old tally.old) (effects out.new tally.new)
-        (record { source_first = S.failures source.old; source_now = S.failures source.new; output_first = O.failures out.old; output_now = O.failures out.new })
-        (K.failures sink.old) (K.failures sink.new) result }
-
-    // Whatever the ends tell: a build leaves the input alone, and the output too where it did not come to build,
-    ensures build_input { (options : Options) → jobs_order words.now moment ≡ Ok (order.Build options) → input.new ≡ input.old }
-    ensures build_untouched { (options : Options) → jobs_order words.now moment ≡ Ok (order.Build options) → Untouched result → out.new ≡ out.old }
-    // and the words alone decide about Usage.
-    ensures usage { (kind : UsageKind) → jobs_order words.now moment ≡ Err kind → WasUsage kind result }
-    ensures usage_took { (kind : UsageKind) (before : List ℕ) → K.taken sink.old ≡ Some before → result ≡ Status.Usage kind →
-        K.taken sink.new ≡ Some (before ++ usage_line kind) }
-    ensures usage_said { (kind : UsageKind) (before : List ℕ) → jobs_order words.now moment ≡ Err kind → K.taken sink.old ≡ Some before →
-        Said (usage_line kind) (Status.Usage kind) before (K.taken sink.new) result }
+    // A session does the lines of its script one after another, and takes no byte behind a line before it is done.
+    ensures session { (options : Options) → jobs_order words.now moment ≡ Ok (order.Session options) → let at = stage S.files S.failures O.contents O.calls O.failures K.taken K.failures in let read = input_seen I.left I.failures in
+        OneSession (start options.settings moment) options.why (at source.old out.old tally.old sink.old) (at source.new out.new tally.new sink.new) (read input.old) (read input.new) result }
+    // A build is one from nothing, and leaves the input alone.
+    ensures build { (options : Options) → jobs_order words.now moment ≡ Ok (order.Build options) → let at = stage S.files S.failures O.contents O.calls O.failures K.taken K.failures in
+        OneBuild (start options.settings moment) options.why (at source.old out.old tally.old sink.old) (at source.new out.new tally.new sink.new) result × (input.new ≡ input.old) }
+    // The words alone decide about Usage.
+    ensures usage { (kind : UsageKind) → jobs_order words.now moment ≡ Err kind → let at = stage S.files S.failures O.contents O.calls O.failures K.taken K.failures in
+        IsUsage kind (at source.old out.old tally.old sink.old) (at source.new out.new tally.new sink.new) result × (input.new ≡ input.old) }
     ensures only_usage { (kind : UsageKind) → result ≡ Status.Usage kind → jobs_order words.now moment ≡ Err kind }
-    ensures usage_untouched { (kind : UsageKind) → jobs_order words.now moment ≡ Err kind →
-        (source.new ≡ source.old) × (out.new ≡ out.old) × (input.new ≡ input.old) × (tally.new ≡ tally.old) }
-
-    // A failure is answered only where that end failed in this call.
-    ensures source_fault { result ≡ Status.SourceFault → Rose (S.failures source.old) (S.failures source.new) }
-    ensures out_fault { (count : ℕ) → result ≡ Status.OutFault count → min (O.failures out.old + max count 1) (2 ^ 64 - 1) ≤ O.failures out.new }
-    ensures input_fault { result ≡ Status.InputFault → Rose (I.failures input.old) (I.failures input.new) }
-    ensures sink_fault { result ≡ Status.SinkFault → Rose (K.failures sink.old) (K.failures sink.new) }
+    // Whatever the words and the ends tell, a failure is answered only where that end failed in this call.
+    ensures blames { let at = stage S.files S.failures O.contents O.calls O.failures K.taken K.failures in let read = input_seen I.left I.failures in
+        Blames (at source.old out.old tally.old sink.old) (at source.new out.new tally.new sink.new) result × BlamesInput (read input.old) (read input.new) result }
 {
     match read_order(alloc, words, TopCall::Jobs, moment) {
         Ok(order) => match order {
@@ -137,13 +116,8 @@ fn run_session<
 ) -> Status
     requires moment { is_moment moment ≡ true }
     requires jobs { (1 ≤ crew.now.jobs) × (crew.now.jobs ≤ 64) }
-    ensures run { (given : Given) (text before : List ℕ) → given.why ≡ options.why → S.files source.old ≡ Some given.source → O.contents out.old ≡ Some given.output →
-        I.left input.old ≡ Some text → K.taken sink.old ≡ Some before →
-        SessionRun O.contents given (start options.settings moment) text before (I.left input.new) (K.taken sink.new) (effects out.old tally.old) (effects out.new tally.new)
-        (record { source_first = S.failures source.old; source_now = S.failures source.new; output_first = O.failures out.old; output_now = O.failures out.new }) result }
-    ensures status { EndsSession result }
-    ensures input_fault { result ≡ Status.InputFault → Rose (I.failures input.old) (I.failures input.new) }
-    ensures sink_fault { result ≡ Status.SinkFault → Rose (K.failures sink.old) (K.failures sink.new) }
+    ensures { let at = stage S.files S.failures O.contents O.calls O.failures K.taken K.failures in let read = input_seen I.left I.failures in
+        OneSession (start options.settings moment) options.why (at source.old out.old tally.old sink.old) (at source.new out.new tally.new sink.new) (read input.old) (read input.new) result }
 {
     let mut session = Session::open(alloc, options.settings, moment);
     do_lines(
@@ -180,11 +154,11 @@ fn do_lines<
 ) -> Status
     requires { (1 ≤ crew.now.jobs) × (crew.now.jobs ≤ 64) }
     ensures run { (given : Given) (text before : List ℕ) → given.why ≡ why → S.files source.old ≡ Some given.source → Holds (O.contents out.old) session.old.belief given.output →
-        I.left input.old ≡ Some text → K.taken sink.old ≡ Some before →
-        SessionRun O.contents given session.old text before (I.left input.new) (K.taken sink.new) (effects out.old tally.old) (effects out.new tally.new)
-        (record { source_first = S.failures source.old; source_now = S.failures source.new; output_first = O.failures out.old; output_now = O.failures out.new }) result }
+        I.left input.old ≡ Some text → K.taken sink.old ≡ Some before → let at = stage S.files S.failures O.contents O.calls O.failures K.taken K.failures in
+        SessionRun given session.old text before (I.left input.new) (at source.old out.old tally.old sink.old) (at source.new out.new tally.new sink.new) result }
     ensures status { EndsSession result }
     ensures input_fault { result ≡ Status.InputFault → Rose (I.failures input.old) (I.failures input.new) }
+    ensures input_steady { (result ≡ Status.InputFault → ⊥) → I.failures input.new ≡ I.failures input.old }
     ensures sink_fault { result ≡ Status.SinkFault → Rose (K.failures sink.old) (K.failures sink.new) }
 {
     let mut reader = ScriptReader::new();
@@ -231,16 +205,16 @@ fn turn<
     requires line { IsInTime line }
     requires jobs { (1 ≤ crew.now.jobs) × (crew.now.jobs ≤ 64) }
     ensures next { (given : Given) (before : List ℕ) → given.why ≡ why → S.files source.old ≡ Some given.source → Holds (O.contents out.old) session.old.belief given.output →
-        K.taken sink.old ≡ Some before → IfNone result (GoesOn O.contents given session.old number line before session.new (K.taken sink.new) (effects out.old tally.old) (effects out.new tally.new)
-        (record { source_first = S.failures source.old; source_now = S.failures source.new; output_first = O.failures out.old; output_now = O.failures out.new })) }
+        K.taken sink.old ≡ Some before → let at = stage S.files S.failures O.contents O.calls O.failures K.taken K.failures in
+        IfNone result (GoesOn given session.old number line before session.new (at source.old out.old tally.old sink.old) (at source.new out.new tally.new sink.new)) }
     ensures ends { (given : Given) (before : List ℕ) → given.why ≡ why → S.files source.old ≡ Some given.source → Holds (O.contents out.old) session.old.belief given.output →
-        K.taken sink.old ≡ Some before → IfSome result (λ status. EndsAt O.contents given session.old number line before session.new (K.taken sink.new) (effects out.old tally.old) (effects out.new tally.new) status) }
+        K.taken sink.old ≡ Some before → let at = stage S.files S.failures O.contents O.calls O.failures K.taken K.failures in
+        IfSome result (λ status. EndsAt given session.old number line before session.new (at source.old out.old tally.old sink.old) (at source.new out.new tally.new sink.new) status) }
     ensures belief { (first : Files) → Holds (O.contents out.old) session.old.belief first → Holds (O.contents out.new) session.new.belief first }
     ensures status { IfSome result (λ status. EndsSession status) }
     ensures input { result ≡ Some Status.InputFault → line ≡ Line.Failed }
+    ensures failed { line ≡ Line.Failed → result ≡ Some Status.InputFault }
     ensures source_same { S.files source.new ≡ S.files source.old }
-    ensures source_later { S.failures source.old ≤ S.failures source.new }
-    ensures output_later { O.failures out.old ≤ O.failures out.new }
     ensures sink_later { K.failures sink.old ≤ K.failures sink.new }
     ensures sink_cause { result ≡ Some Status.SinkFault → Rose (K.failures sink.old) (K.failures sink.new) }
 {

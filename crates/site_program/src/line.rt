@@ -1,14 +1,13 @@
 // One line of a session, with its reply.
-ghost use Rattle.std.specs.Prelude.{◌≡◌, ◌+◌, ◌-◌, ◌^◌, ◌≤◌, ◌++◌, [], min, take, ℕ, List, Some, Err, IfOk, IfErr, OnOk, false};
+ghost use Rattle.std.specs.Prelude.{◌≡◌, ◌≤◌, ◌++◌, [], take, ℕ, List, Some, Err, IfOk, IfErr};
 ghost use Rattle.site_base.specs.Places.{Files};
 ghost use Rattle.site_base.specs.Ends.{Rose};
 ghost use Rattle.site_script.specs.Line.{IsInTime};
 ghost use Rattle.site_session.specs.Standing.{Holds};
-ghost use Rattle.site_session.specs.Session.{Given, Answers, output_failures, source_failures};
-ghost use Rattle.site_session.specs.Replies.{LeavesBy, has_called_output};
+ghost use Rattle.site_session.specs.Session.{Given, Answers};
+ghost use Rattle.site_session.specs.Replies.{LineLeaves};
 ghost use Rattle.site_session.specs.Bytes.{reply_bytes};
-ghost use Rattle.site_session.specs.Rounds.{in_any_order};
-ghost use Rattle.site_session.specs.Tallied.{LineTallied, effects};
+ghost use Rattle.site_session.specs.Scenes.{scene};
 ghost use Rattle.site_program.specs.Runs.{Stopped};
 
 use crate::status::Stop;
@@ -48,22 +47,16 @@ pub(crate) fn do_line<
         IfOk result (λ reply. Answers given session.old number line reply session.new) }
     ensures bytes { (before : List ℕ) → K.taken sink.old ≡ Some before → IfOk result (λ reply. K.taken sink.new ≡ Some (before ++ reply_bytes why reply)) }
     ensures belief { (first : Files) → Holds (O.contents out.old) session.old.belief first → Holds (O.contents out.new) session.new.belief first }
-    ensures leaves { (first : Files) → Holds (O.contents out.old) session.old.belief first →
-        IfOk result (λ reply. LeavesBy session.old reply (O.contents out.old) (O.contents out.new) session.new.belief) }
-    ensures untouched { IfOk result (λ reply. has_called_output reply ≡ false → out.new ≡ out.old) }
-    ensures tallied { OnOk result (LineTallied in_any_order session.old line tally.old tally.new) }
+    ensures leaves { let at = scene S.files S.failures O.contents O.calls O.failures in
+        IfOk result (λ reply. LineLeaves session.old line reply session.new.belief (at source.old out.old tally.old) (at source.new out.new tally.new)) }
 
     // Where the run is cut short, the line was not done, or done without its whole reply.
     ensures stopped { (given : Given) (before : List ℕ) → given.why ≡ why → S.files source.old ≡ Some given.source →
-        Holds (O.contents out.old) session.old.belief given.output → K.taken sink.old ≡ Some before →
-        IfErr result (λ stop. (part : List ℕ) × Stopped (stop ≡ Stop.Memory) O.contents given session.old number line (effects out.old tally.old) (effects out.new tally.new) part
+        Holds (O.contents out.old) session.old.belief given.output → K.taken sink.old ≡ Some before → let at = scene S.files S.failures O.contents O.calls O.failures in
+        IfErr result (λ stop. (part : List ℕ) × Stopped (stop ≡ Stop.Memory) given session.old number line (at source.old out.old tally.old) (at source.new out.new tally.new) part
         × (K.taken sink.new ≡ Some (before ++ part)) × (stop ≡ Stop.Memory → part ≡ [])) }
 
     ensures source_same { S.files source.new ≡ S.files source.old }
-    ensures source_later { S.failures source.old ≤ S.failures source.new }
-    ensures source_cause { IfOk result (λ reply. min (S.failures source.old + source_failures reply) (2 ^ 64 - 1) ≤ S.failures source.new) }
-    ensures output_later { O.failures out.old ≤ O.failures out.new }
-    ensures output_cause { IfOk result (λ reply. min (O.failures out.old + output_failures reply) (2 ^ 64 - 1) ≤ O.failures out.new) }
     ensures sink_later { K.failures sink.old ≤ K.failures sink.new }
     ensures sink_cause { result ≡ Err Stop.Sink → Rose (K.failures sink.old) (K.failures sink.new) }
 {

@@ -7,8 +7,9 @@ ghost use Rattle.site_script.specs.Line.{is_moment};
 ghost use Rattle.site_session.specs.Replies.{built_reply};
 ghost use Rattle.site_session.specs.Session.{Nothing, event_of, first_fault};
 ghost use Rattle.site_session.specs.Standing.{Holds};
-ghost use Rattle.site_program.specs.Checks.{EndsAs, Said, SaidBoth, verdict_status};
-ghost use Rattle.site_program.specs.Makes.{build_bytes, built, first_bytes, make_status, second_bytes};
+ghost use Rattle.site_program.specs.Checks.{EndsAs, Said, verdict_status};
+ghost use Rattle.site_program.specs.Makes.{MakeDone, build_bytes, built};
+ghost use Rattle.site_program.specs.Stages.{sink_seen};
 
 use crate::line::write_reply;
 use crate::status::{Status, status_of};
@@ -34,10 +35,7 @@ pub(crate) fn make<K: ByteSink, R: Renderer<Meaning = PageMeaning>>(
     requires moment { is_moment moment ≡ true }
     requires low { 1 ≤ count }
     requires high { count ≤ 1000 }
-    ensures ends { EndsAs (make_status number count moment) result }
-    ensures took { (before : List ℕ) → K.taken sink.old ≡ Some before →
-        SaidBoth (first_bytes number count moment) (second_bytes number count moment) (make_status number count moment) before (K.taken sink.new) result }
-    ensures sink_fault { result ≡ Status.SinkFault → Rose (K.failures sink.old) (K.failures sink.new) }
+    ensures { MakeDone number count moment (sink_seen K.taken K.failures sink.old) (sink_seen K.taken K.failures sink.new) result }
 {
     let Ok(held) = make_site(alloc, number, count) else {
         return Status::Memory;

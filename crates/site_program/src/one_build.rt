@@ -3,8 +3,9 @@ ghost use Rattle.std.specs.Prelude.{◌≡◌, ◌≤◌, MatchResult, true};
 ghost use Rattle.site_base.specs.Ends.{Rose};
 ghost use Rattle.site_script.specs.Line.{is_moment};
 ghost use Rattle.site_session.specs.Session.{start};
-ghost use Rattle.site_session.specs.Tallied.{effects};
+ghost use Rattle.site_session.specs.Scenes.{source_seen};
 ghost use Rattle.site_program.specs.OneBuild.{BuildStops, BuildTold, OneBuild, ScanStops, ScanTold};
+ghost use Rattle.site_program.specs.Stages.{stage};
 
 use crate::line::write_reply;
 use crate::status::{Status, Stop, status_of};
@@ -36,8 +37,8 @@ pub(crate) fn build_one_by_one<
     tally: &mut Tally,
 ) -> Status
     requires { is_moment moment ≡ true }
-    ensures { OneBuild O.contents (start options.settings moment) options.why (S.files source.old) (K.taken sink.old) (K.taken sink.new) (effects out.old tally.old) (effects out.new tally.new)
-        (record { source_first = S.failures source.old; source_now = S.failures source.new; output_first = O.failures out.old; output_now = O.failures out.new }) (K.failures sink.old) (K.failures sink.new) result }
+    ensures { let at = stage S.files S.failures O.contents O.calls O.failures K.taken K.failures in
+        OneBuild (start options.settings moment) options.why (at source.old out.old tally.old sink.old) (at source.new out.new tally.new sink.new) result }
 {
     let mut session = Session::open(alloc, options.settings, moment);
     let scanned = match tell_scan(alloc, options.why, &mut session, source, sink) {
@@ -74,8 +75,8 @@ pub(crate) fn build_by_crew<
 ) -> Status
     requires moment { is_moment moment ≡ true }
     requires jobs { (1 ≤ crew.now.jobs) × (crew.now.jobs ≤ 64) }
-    ensures { OneBuild O.contents (start options.settings moment) options.why (S.files source.old) (K.taken sink.old) (K.taken sink.new) (effects out.old tally.old) (effects out.new tally.new)
-        (record { source_first = S.failures source.old; source_now = S.failures source.new; output_first = O.failures out.old; output_now = O.failures out.new }) (K.failures sink.old) (K.failures sink.new) result }
+    ensures { let at = stage S.files S.failures O.contents O.calls O.failures K.taken K.failures in
+        OneBuild (start options.settings moment) options.why (at source.old out.old tally.old sink.old) (at source.new out.new tally.new sink.new) result }
 {
     let mut session = Session::open(alloc, options.settings, moment);
     let scanned = match tell_scan(alloc, options.why, &mut session, source, sink) {
@@ -102,8 +103,8 @@ fn tell_scan<S: SourceTree, K: ByteSink>(
     sink: &mut K,
 ) -> Result<Reply, Stop>
     ensures told { MatchResult result
-        (λ reply. ScanTold why (S.files source.old) (S.failures source.old) (S.failures source.new) session.old session.new (K.taken sink.old) (K.taken sink.new) reply)
-        (λ stop. ScanStops (stop ≡ Stop.Memory) why (S.files source.old) session.old (K.taken sink.old) (K.taken sink.new)) }
+        (λ reply. ScanTold why session.old session.new (source_seen S.files S.failures source.old) (source_seen S.files S.failures source.new) (K.taken sink.old) (K.taken sink.new) reply)
+        (λ stop. ScanStops (stop ≡ Stop.Memory) why session.old (source_seen S.files S.failures source.old) (source_seen S.files S.failures source.new) (K.taken sink.old) (K.taken sink.new)) }
     ensures later { K.failures sink.old ≤ K.failures sink.new }
     ensures cause { result ≡ Err Stop.Sink → Rose (K.failures sink.old) (K.failures sink.new) }
 {

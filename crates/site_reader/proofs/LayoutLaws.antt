@@ -1,5 +1,5 @@
 -- The names of layouts rise, since those with one name take one place.
-use Rattle.std.proofs.Common.{◌≡◌, ℕ, All, Bool, true, false, Err, if◌then◌else◌, List, [], ◌∷◌, Less, Equal, Greater, Ordering, Ok, arith, refl, ap, subst, ◌∙◌}
+use Rattle.std.proofs.Common.{◌≡◌, ℕ, All, List, [], ◌∷◌, Less, Equal, Greater, Ordering, Ok, arith, refl, ap, subst, ◌∙◌}
 use Rattle.std.specs.BTreeMap.{insert_entry}
 use Rattle.std.specs.Cmp.{IsTotalOrder}
 use Rattle.std.specs.Cmp.Lexicographic.{nat_list_cmp_total}
@@ -8,13 +8,11 @@ use Rattle.std.specs.List.Sorted.{IsStrictlySortedBy}
 use Rattle.std.specs.Map.{keys_of, values_of}
 use Rattle.std.specs.Ordering.{match_ordering, ordering_reverse}
 use Rattle.std.proofs.lemmas.Map.Keys.{IsDistinct-from_sorted}
-use Rattle.std.specs.Str.{is_utf8}
 use Rattle.std.proofs.lemmas.List.Elements.{All-from_recursion}
 use Rattle.site_base.specs.Places.{path_cmp}
-use Rattle.site_base.specs.declared.faults.FaultKind.TheVariants as fault
 use Rattle.site_files.specs.declared.place.Place.TheVariants as place
 use Rattle.site_items.specs.Files as file
-use Rattle.site_items.specs.Matter.{own_variables}
+use Rattle.site_items.specs.Matter.{matter}
 use Rattle.site_items.specs.declared.layout_file.LayoutFile.{LayoutFile}
 use Rattle.site_reader.specs.Found.{each, in_file}
 use Rattle.site_reader.specs.Lawful.{Differ, HasHash}
@@ -90,13 +88,9 @@ hashes_inserted made (e ∷ es) has all = by (path_cmp made.name e.0) (hashes_in
 
 -- the layout of a file has the variables of its front matter
 has_hash : (path bytes : List ℕ) (made : LayoutFile) → file.layout path bytes ≡ Ok made → HasHash made
-has_hash path bytes made e = by (is_utf8 bytes) e
-  where
-    by : (b : Bool) → (if b then file.layout_of_text path bytes else Err (0, fault.NotUtf8)) ≡ Ok made → HasHash made
-    by true is =
-        let own = found_before (own_variables bytes) _ made is in
-        subst HasHash (found_value (file.layout_with path bytes own.0) made own.2) (own.0, refl)
-    by false is = absurd (cc (is))
+has_hash path bytes made e =
+    let m = found_before (matter bytes) _ made e in
+    subst HasHash (found_value (file.layout_with path m.0) made m.2) (m.0.vars, refl)
 
 record InOrder (es : Layouts) : Type 0 where
   rise : IsStrictlySortedBy path_cmp (keys_of es)

@@ -5,6 +5,7 @@ mod Differing
 mod EachLaws
 mod IncludeLaws
 mod ItemLaws
+mod KeptLaws
 mod LawfulSites
 mod LayoutLaws
 mod NeighbourLaws

@@ -6,10 +6,9 @@ use Rattle.std.specs.Option.{unwrap_or}
 use Rattle.std.specs.Ordering.{match_ordering}
 use Rattle.std.specs.Prelude.{ℤ, ◌==◌}
 use Rattle.std.proofs.Common.{inl, inr}
-use Rattle.std.specs.Str.{bytes_eq, is_utf8}
+use Rattle.std.specs.Str.{bytes_eq}
 use Rattle.site_base.specs.Chains.{◌>>=◌}
 use Rattle.site_base.specs.Plain.{Plain, nil, bool, hash, site_item, text, Pairs, no_pairs, pair, get, set}
-use Rattle.site_base.specs.declared.faults.FaultKind.TheVariants as fault
 use Rattle.site_base.proofs.Entries.{same_text, text_same}
 use Rattle.site_config.specs.declared.config.Config.{Config}
 use Rattle.site_config.specs.declared.scope.Scope.{Scope}
@@ -19,11 +18,13 @@ use Rattle.site_items.specs.Dates.{given_date}
 use Rattle.site_items.specs.Defaults.{variable, variables}
 use Rattle.site_items.specs.Extensions.{output_ext}
 use Rattle.site_items.specs.Items as of
-use Rattle.site_items.specs.Matter as matter
+use Rattle.site_items.specs.Matter.{matter}
 use Rattle.site_items.specs.Outcomes.{Outcome}
 use Rattle.site_items.specs.declared.item.Item.{Item}
 use Rattle.site_items.specs.declared.kind.Kind.{Kind}
 use Rattle.site_items.specs.declared.kind.Kind.TheVariants as kind
+use Rattle.site_items.specs.declared.timeless.Timeless.{Timeless}
+use Rattle.site_items.specs.declared.timeless.Timeless.TheVariants.{Undated, Unpublished}
 use Rattle.site_reader.specs.Found.{each, in_file}
 use Rattle.site_reader.specs.Lawful.{HasVariables, IsNeighbour, KnowsItself}
 use Rattle.site_reader.specs.Neighbours.{neighbour, site_item_of, site_items, with_neighbours}
@@ -150,61 +151,77 @@ record IsMade (config : Config) (group : ℕ) (path : List ℕ) (made : Item) : 
 abbrev IsKnown : Config → ℕ → List ℕ → Item → Type 0
 IsKnown config group path made = Known path made.url made.vars × IsMade config group path made
 
-module _ (config : Config) (now : ℤ) (future : Bool) (k : Kind) (path : List ℕ) (made : Item) where
-  abbrev Makes : Outcome (Option Item) → Type 0
-  Makes found = found ≡ Ok (Some made)
+module _ (config : Config) (k : Kind) (path : List ℕ) (made : Item) where
+  abbrev Makes : Outcome Item → Type 0
+  Makes found = found ≡ Ok made
 
   abbrev Named : Pairs → Pairs
   Named given = of.kind_named config.timezone k (stem (file_name path)) given
 
+  at_address : (moment : Option ℤ) (given : Pairs) (text_body ext address : List ℕ) → Makes (of.item_at config k path moment (Named given) text_body ext address) → IsKnown config (group_of config k) path made
+  at_address moment given text_body ext address e =
+      let dest = found_before (dest_of config k address ext) _ made e in
+      let own = of.placed path address (Named given) in
+      subst (IsKnown config (group_of config k) path) (found_value _ made dest.2) (known_kind path address config k moment own (known_placed path address (Named given)), record { kind = k; in_group = refl; given = given; moment = moment; are = refl })
+
+  named : (moment : Option ℤ) (given : Pairs) (text_body : List ℕ) → Makes (of.named_item config k path moment given text_body) → IsKnown config (group_of config k) path made
+  named moment given text_body e =
+      let ext = output_ext config.markdown_ext (extension (file_name path)) in
+      let t = found_before (template config ext (stem (file_name path)) k (variable (codes "permalink") (Named given))) _ made e in
+      let address = found_before (found_url _) (of.item_at config k path moment (Named given) text_body ext) made t.2 in
+      at_address moment given text_body ext address.0 address.2
+
+  -- ---- what it was before the present moment is known
+
+  abbrev MakesSome : Outcome (Option Item) → Type 0
+  MakesSome found = found ≡ Ok (Some made)
+
   nothing : ◌≡◌ {A = Outcome (Option Item)} (Ok None) (Ok (Some made)) → ⊥
   nothing e = absurd (cc (found_value None (Some made) e))
 
-  at_address : (moment : Option ℤ) (given : Pairs) (text_body ext address : List ℕ) → Makes (of.item_at config k path moment (Named given) text_body ext address) → IsKnown config (group_of config k) path made
-  at_address moment given text_body ext address e =
-      let dest = found_before (dest_of config k address ext) _ (Some made) e in
-      let is = ap (λ (o : Option Item). unwrap_or o made) (found_value _ (Some made) dest.2) in
-      let own = of.placed path address (Named given) in
-      subst (IsKnown config (group_of config k) path) is (known_kind path address config k moment own (known_placed path address (Named given)), record { kind = k; in_group = refl; given = given; moment = moment; are = refl })
+  some_made : (found : Outcome Item) → MakesSome (of.some_item found) → Makes found
+  some_made found e =
+      let item = found_before found (λ i. Ok (Some i)) (Some made) e in
+      item.1 ∙ ap Ok (ap (λ (o : Option Item). unwrap_or o made) (found_value (Some item.0) (Some made) item.2))
 
-  built : (moment : Option ℤ) (text_body ext : List ℕ) (given : Pairs) → Makes (of.built_with config k path moment text_body ext (Named given)) → IsKnown config (group_of config k) path made
-  built moment text_body ext given e =
-      let t = found_before (template config ext (stem (file_name path)) k (variable (codes "permalink") (Named given))) _ (Some made) e in
-      let address = found_before (found_url _) (of.item_at config k path moment (Named given) text_body ext) (Some made) t.2 in
-      at_address moment given text_body ext address.0 address.2
+  module _ (now : ℤ) (future : Bool) where
+    abbrev Becomes : Timeless → Type 0
+    Becomes t = MakesSome (of.at now future config k path t)
 
-  dated : (vars : Pairs) (text_body : List ℕ) (given : Option ℤ) → Makes (of.dated_item config now future k path vars text_body given) → IsKnown config (group_of config k) path made
-  dated vars text_body given e = by (of.is_left_out now future moment) e
-    where
-      moment : Option ℤ
-      moment = of.document_date config.timezone now k (stem (file_name path)) given
+    not_later : (moment : Option ℤ) (found : Outcome Item) → MakesSome (of.unless_later now future moment found) → Makes found
+    not_later moment found e = by (of.is_left_out now future moment) e
+      where
+        by : (b : Bool) → MakesSome (if b then Ok None else of.some_item found) → Makes found
+        by true is = absurd (nothing is)
+        by false is = some_made found is
 
-      by : (b : Bool) → Makes (if b then Ok None else of.named_item config k path moment vars text_body) → IsKnown config (group_of config k) path made
-      by true is = absurd (nothing is)
-      by false is = built moment text_body (output_ext config.markdown_ext (extension (file_name path))) vars is
+    in_time : (moment : Option ℤ) (found : Outcome Item) → Becomes (of.of_moment moment found) → Makes found
+    in_time moment (Ok item) e = not_later item.moment (Ok item) e
+    in_time moment (Err f) e = not_later moment (Err f) e
 
-  published : (vars : Pairs) (text_body : List ℕ) (told : Bool) → Makes (of.published_item config now future k path vars text_body told) → IsKnown config (group_of config k) path made
-  published vars text_body told e = by (told || config.unpublished) e
-    where
-      by : (b : Bool) → Makes (if b then given_date config.timezone (variable (codes "date") vars) >>= of.dated_item config now future k path vars text_body else Ok None) → IsKnown config (group_of config k) path made
-      by true is =
-          let given = found_before (given_date config.timezone (variable (codes "date") vars)) (of.dated_item config now future k path vars text_body) (Some made) is in
-          dated vars text_body given.0 given.2
-      by false is = absurd (nothing is)
+    dated : (vars : Pairs) (text_body : List ℕ) (moment : Option ℤ) → Becomes (of.timeless_of config k path vars text_body moment) → IsKnown config (group_of config k) path made
+    dated vars text_body moment e = by (of.has_present k moment) e
+      where
+        by : (b : Bool) → Becomes (if b then Undated vars text_body else of.of_moment moment (of.named_item config k path moment vars text_body)) → IsKnown config (group_of config k) path made
+        by true is = named (Some now) vars text_body (some_made _ is)
+        by false is = named moment vars text_body (in_time moment _ is)
 
-  in_text : (scopes : List Scope) (s : List ℕ) → Makes (of.text_item config scopes now future k path s) → IsKnown config (group_of config k) path made
-  in_text scopes s e =
-      let own = found_before (matter.own_variables s) _ (Some made) e in
-      let vars = variables config scopes k path own.0 in
-      let told = found_before (of.is_published (variable (codes "published") vars)) (of.published_item config now future k path vars (matter.body s)) (Some made) own.2 in
-      published vars (matter.body s) told.0 told.2
+    published : (vars : Pairs) (text_body : List ℕ) (told : Bool) (t : Timeless) → of.timeless_published config k path vars text_body told ≡ Ok t → Becomes t → IsKnown config (group_of config k) path made
+    published vars text_body told t e becomes = by (told || config.unpublished) e
+      where
+        by : (b : Bool) → (if b then given_date config.timezone (variable (codes "date") vars) >>= of.timeless_dated config k path vars text_body else Ok Unpublished) ≡ Ok t → IsKnown config (group_of config k) path made
+        by true is =
+            let given = found_before (given_date config.timezone (variable (codes "date") vars)) (of.timeless_dated config k path vars text_body) t is in
+            dated vars text_body _ (subst Becomes (sym (found_value _ t given.2)) becomes)
+        by false is = absurd (nothing (subst Becomes (sym (found_value Unpublished t is)) becomes))
 
-  item_known : (scopes : List Scope) (bytes : List ℕ) → Makes (of.item config scopes now future k path bytes) → IsKnown config (group_of config k) path made
-  item_known scopes bytes e = by (is_utf8 bytes) e
-    where
-      by : (b : Bool) → Makes (if b then of.text_item config scopes now future k path bytes else Err (0, fault.NotUtf8)) → IsKnown config (group_of config k) path made
-      by true is = in_text scopes bytes is
-      by false is = absurd (cc (is))
+    item_known : (scopes : List Scope) (bytes : List ℕ) → MakesSome (of.item config scopes now future k path bytes) → IsKnown config (group_of config k) path made
+    item_known scopes bytes e =
+        let t = found_before (of.timeless config scopes k path bytes) (of.at now future config k path) (Some made) e in
+        let m = found_before (matter bytes) (of.matter_timeless config scopes k path) t.0 t.1 in
+        let vars = variables config scopes k path m.0.vars in
+        let told = found_before (of.is_published (variable (codes "published") vars)) (of.timeless_published config k path vars m.0.body) t.0 m.2 in
+        published vars m.0.body told.0 t.0 told.2 t.2
 
 -- ---- the items in their order
 
@@ -233,7 +250,7 @@ module _ (config : Config) (scopes : List Scope) (now : ℤ) (future : Bool) whe
       let read = found_before (in_file f.0 (of.item config scopes now future k f.0 f.1)) _ more e in
       let is = file_found f.0 (of.item config scopes now future k f.0 f.1) read.0 read.1 in
       subst (AreKnown config) (found_value _ more read.2)
-      (with_known k f.0 read.0 made (λ item some. item_known config now future k f.0 item scopes f.1 (is ∙ ap Ok some)) all)
+      (with_known k f.0 read.0 made (λ item some. item_known config k f.0 item now future scopes f.1 (is ∙ ap Ok some)) all)
 
 neighbours_known : (documents : ℕ) (rank : Rank) (before behind : Option Rank) (address : List ℕ) (vars : Pairs) → Known rank.path address vars → Known rank.path address (with_neighbours documents rank before behind vars)
 neighbours_known documents rank before behind address vars known = by (nat_lt rank.group documents)

@@ -8,3 +8,4 @@ pub mod Outputs
 pub mod Paginating
 pub mod Sites
 pub mod Lawful
+pub mod Kept

@@ -1,15 +1,16 @@
 // Which file is what.
 ghost use Rattle.std.specs.Prelude.{◌≡◌, ◌<◌, IfOk, map, slice_index_or};
 ghost use Rattle.std.specs.FinMap as finite;
+ghost use Rattle.site_base.specs.PathMap.{as_map};
 ghost use Rattle.site_dates.specs.Offset.{IsOffset};
 ghost use Rattle.site_reader.specs.Placing.{as_copy, as_item, builds_drafts, builds_future, copied_kind, has_matter, item_kind, placed, seen};
 ghost use Rattle.source_tree.specs.Limits.{CanBeHeld};
 
 use front_yaml::Front;
-use site_base::{Memory, Settings, SitePath};
+use site_base::{Memory, PathMap, Settings, SitePath};
 use site_config::Config;
 use site_files::Place;
-use site_items::{FileContent, Kind};
+use site_items::{FileContent, KeptFile, Kind};
 use source_tree::Held;
 use std::alloc::Global;
 
@@ -47,11 +48,54 @@ fn placed_file<'a>(held: &'a Held, number: u32, config: &Config, drafts: bool) -
     ensures place { seen result ≡ placed config.now drafts (seen result).1 }
 {
     let (path, bytes) = held.shared_at(number);
-    let place = Place::of(config, drafts, path.text());
+    placed(config, drafts, path, FileContent::of(bytes))
+}
+
+/// The same of files that are kept, with what is known of them.
+pub(crate) fn kept_files<'a>(
+    alloc: Global,
+    kept: &'a PathMap<KeptFile>,
+    config: &Config,
+    drafts: bool,
+) -> Result<Vec<PlacedFile<'a>>, Memory>
+    requires { IsOffset config.now.timezone }
+    ensures { IfOk result (λ files. map seen files.items ≡ map (placed config.now drafts) (finite.entries (as_map kept.entry.now))) }
+{
+    let mut files = Vec::with_capacity(alloc, kept.len())?;
+    for number in 0..kept.len() {
+        files.push(kept_file(kept, number, config, drafts))?;
+    }
+    Ok(files)
+}
+
+fn kept_file<'a>(
+    kept: &'a PathMap<KeptFile>,
+    number: usize,
+    config: &Config,
+    drafts: bool,
+) -> PlacedFile<'a>
+    requires offset { IsOffset config.now.timezone }
+    requires number { number < finite.len (as_map kept.now) }
+    ensures file { (seen result).1 ≡ slice_index_or (finite.entries (as_map kept.entry.now)) number (seen result).1 }
+    ensures place { seen result ≡ placed config.now drafts (seen result).1 }
+{
+    let (path, file) = kept.at(number);
+    placed(config, drafts, path, file.content())
+}
+
+fn placed<'a>(
+    config: &Config,
+    drafts: bool,
+    path: &'a SitePath,
+    content: FileContent<'a>,
+) -> PlacedFile<'a>
+    requires { IsOffset config.now.timezone }
+    ensures { seen result ≡ placed config.now drafts (path.entry.now, content.entry) }
+{
     PlacedFile {
-        place,
+        place: Place::of(config, drafts, path.text()),
         path,
-        content: FileContent::of(bytes),
+        content,
     }
 }
 
@@ -79,8 +123,8 @@ impl PlacedFile<'_> {
     }
 }
 
-// Whether there is front matter, closed or not.
-fn has_matter(front: Front) -> bool
+/// Whether there is front matter, closed or not.
+pub(crate) fn has_matter(front: Front) -> bool
     ensures { result ≡ has_matter front }
 {
     match front {
@@ -89,7 +133,8 @@ fn has_matter(front: Front) -> bool
     }
 }
 
-fn item_kind(place: Place) -> Option<Kind>
+/// The kind of item that a file with front matter is at a place.
+pub(crate) fn item_kind(place: Place) -> Option<Kind>
     ensures { result ≡ item_kind place }
 {
     match place {

@@ -74,8 +74,8 @@ fn site_with(
     placed_site(alloc, &files, moment, future, config)
 }
 
-// The site of files in their places.
-fn placed_site(
+/// The site of files in their places.
+pub(crate) fn placed_site(
     alloc: Global,
     files: &[PlacedFile],
     now: i64,

@@ -63,9 +63,10 @@ pub fn next_line<I: ByteSource>(alloc: Global, reader: &mut ScriptReader, input:
     ensures after { reader.old.over ≡ true →
         (result ≡ Line.Eof) × (reader.new ≡ reader.old) × (input.new ≡ input.old) }
 
-    // It fails only where the input does.
+    // It fails exactly where the input does.
     ensures later { I.failures input.old ≤ I.failures input.new }
     ensures failed { result ≡ Line.Failed → Rose (I.failures input.old) (I.failures input.new) }
+    ensures steady { (result ≡ Line.Failed → ⊥) → I.failures input.new ≡ I.failures input.old }
 {
     if reader.over {
         return Line::Eof;
@@ -93,6 +94,7 @@ fn read_line<I: ByteSource>(alloc: Global, number: u64, input: &mut I) -> Line
     ensures time { IsInTime result }
     ensures later { I.failures input.old ≤ I.failures input.new }
     ensures failed { result ≡ Line.Failed → Rose (I.failures input.old) (I.failures input.new) }
+    ensures steady { (result ≡ Line.Failed → ⊥) → I.failures input.new ≡ I.failures input.old }
 {
     let raw = match read_raw_line(alloc, input) {
         Ok(Some(raw)) => raw,
@@ -118,6 +120,7 @@ fn finish<I: ByteSource>(alloc: Global, number: u64, head: Head, input: &mut I) 
     ensures time { IsInTime result }
     ensures later { I.failures input.old ≤ I.failures input.new }
     ensures failed { result ≡ Line.Failed → Rose (I.failures input.old) (I.failures input.new) }
+    ensures steady { (result ≡ Line.Failed → ⊥) → I.failures input.new ≡ I.failures input.old }
 {
     match head {
         Head::Scan => Line::Scan,

@@ -16,6 +16,7 @@ use Rattle.site_base.specs.declared.faults.SiteFault.{SiteFault}
 use Rattle.out_tree.specs.declared.step.Step.{Step}
 use Rattle.site_session.specs.Standing.{Standing, TrueTo, Holds, MakesBut, MarksExactly}
 use Rattle.site_session.specs.Session.{Given, Reply, Event, Built, Marked, Unlisted, Nothing, TheScan, TheList, TheSteps, event_of, failed_in, failed_of, build_listed, build_reply, build_tree, plan, report}
+use Rattle.site_session.specs.Settled.{NothingPlanned}
 use Rattle.site_session.specs.Replies.{built_reply, build_calls, Called, ListsAtMost}
 use Rattle.site_session.specs.declared.output.Output.{Output}
 use Rattle.site_session.specs.declared.output.Written.{Written}
@@ -128,6 +129,11 @@ holds_again told (Some belief) first other some h = record { there = h.there; to
 pub same_told : (failed : List (List ℕ)) (written : Written) (told was tells : Option Files) → told ≡ was → MakesBut failed written told tells → MakesBut failed written was tells
 same_told failed written told was tells same made =
     record { old = made.old; new = made.new; told_is = sym same ∙ made.told_is; tells_is = made.tells_is; exactly = made.exactly }
+
+-- what is believed after a first list
+pub settled_by : (now : Option Belief) (written : Written) → IsSome now → plan (believed now) written ≡ [] → NothingPlanned written now
+settled_by None written some nothing = absurd (cc (some))
+settled_by (Some belief) written some nothing = record { belief = belief; is = refl; nothing = nothing }
 
 -- ---- how the output was called
 

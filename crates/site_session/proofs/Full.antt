@@ -1,17 +1,19 @@
 -- What a round over a site makes of a build.
-use Rattle.std.proofs.Common.{◌≡◌, ◌∙◌, ℕ, ◌+◌, ◌-◌, List, [], ◌∷◌, length, Some, None, Result, Ok, Err, refl, sym, ap, subst, arith}
+use Rattle.std.proofs.Common.{◌≡◌, ◌∙◌, ℕ, ◌+◌, ◌-◌, Bool, if◌then◌else◌, List, [], ◌∷◌, ◌++◌, length, Some, None, Result, Ok, Err, refl, sym, ap, subst, arith}
 use Rattle.std.proofs.lemmas.List.{append-nil}
 use Rattle.std.specs.Result.{IfOk}
 use Rattle.std.specs.FinMap.{empty}
 use Rattle.std.specs.List.{slice_get}
 use Rattle.memo_table.specs.Entries.{Entries}
 use Rattle.read_record.specs.Outcomes.{Page}
-use Rattle.read_record.specs.Queries.{Query, Gave, Failed, interpret}
+use Rattle.read_record.specs.Queries.{Query, Gave, Failed, Missed, interpret}
 use Rattle.read_record.specs.Worlds.{Sight}
 use Rattle.read_record.specs.declared.outcome.Outcome.{Outcome}
 use Rattle.render_workers.specs.Folds.{Folded, after_item, fold_from, fold_of}
 use Rattle.render_workers.specs.Whys.{why_names}
-use Rattle.render_workers.specs.Tallies.{times}
+use Rattle.render_workers.specs.Tallies.{times, Grows, HasBetween}
+use Rattle.render_workers.proofs.TallyLaws.{grows_none}
+use Rattle.memo_table.specs.SameNames.{same_name-refl}
 use Rattle.render_workers.specs.declared.answers.Round.{Round}
 use Rattle.render_workers.specs.declared.answers.RoundError.{RoundError}
 use Rattle.render_workers.specs.declared.answers.RoundError.TheVariants as round_error
@@ -79,6 +81,9 @@ module _ (adds : Adds) (files : Files) (kept : Entries) (site : Site) (new : Ent
         ∙ (λ i. Ok (record { written = written_by files (record { site = site; outs = round.outs }); rendered = length (sym w.why i); reused = (ap (λ ws. length (item_names site) - length ws) (sym w.why) ∙ sym number) i; why = sym w.why i }))
         ∙ ap Ok (sym is)
 
+    pub whole-fresh : names_rendered files new (Ok site) ≡ []
+    whole-fresh = ap (names_by (given_of files site new)) told ∙ ap why_names w.fresh
+
     pub whole-settled : Settled adds files kept (Ok site) new before after
     whole-settled = record {
       kept_is = w.kept ∙ ap (kept_by (given_of files site kept)) (sym told);
@@ -100,6 +105,47 @@ module _ (adds : Adds) (files : Files) (kept : Entries) (site : Site) (new : Ent
       tally = subst (λ (f : Folded). adds (names_by (given_of files site kept) f) (names_past (given_of files site kept) f) before after) (sym stopped) s.tally;
     }
 
+-- ---- what is added to a tally
+
+-- each way to add names adds them at the end, and none where none are due
+pub record AddsLaws (adds : Adds) : Type 0 where
+  pub grows : (due later before after : List ItemName) → adds due later before after → Grows before after
+  pub nothing : (before after : List ItemName) → adds [] [] before after → after ≡ before
+
+pub laws_in_order : AddsLaws in_order
+laws_in_order = record {
+  grows = λ due later before after is. (due, is);
+  nothing = λ before after is. is ∙ append-nil before;
+}
+
+-- a list in which no name stands is empty
+none-stands : (names : List ItemName) → HasBetween [] [] names → names ≡ []
+none-stands [] h = refl
+none-stands (name ∷ names) h =
+    let own : times name (name ∷ names) ≡ 1 + times name names = ap (λ (b : Bool). (if b then 1 else 0) + times name names) (same_name-refl name) in
+    let most = (h name).1 in
+    absurd (omega (arith, own, most))
+
+pub laws_in_any_order : AddsLaws in_any_order
+laws_in_any_order = record {
+  grows = λ due later before after h. (h.0, h.1);
+  nothing = λ before after h. h.1 ∙ ap (λ added. before ++ added) (none-stands h.0 h.2) ∙ append-nil before;
+}
+
+-- without a fault no item stands behind it
+past-gave : (g : Given) (site : Site) (f : Folded) (w : Whole) → whole_by site f ≡ Ok w → names_past g f ≡ []
+past-gave g site (Gave outs) w is = refl
+past-gave g site (Failed e) w is = cc
+past-gave g site (Missed k j) w is = refl
+
+past-whole : (files : Files) (kept : Entries) (site : Site) (w : Found Whole) (output : Output) → whole files site ≡ w → (w >>= λ w. Ok (output_of files kept w)) ≡ Ok output → names_behind files kept (Ok site) ≡ []
+past-whole files kept site (Ok w) output is e = past-gave (given_of files site kept) site (rendered files site) w is
+past-whole files kept site (Err f) output is e = cc
+
+pub none-behind : (files : Files) (kept : Entries) (found : Found Site) (output : Output) → output_in files kept found ≡ Ok output → names_behind files kept found ≡ []
+none-behind files kept (Ok site) output e = past-whole files kept site (whole files site) output refl e
+none-behind files kept (Err f) output e = refl
+
 -- ---- what a build answers before its output is touched
 
 -- the round's own count leaves room for the number of those that it rendered
@@ -108,16 +154,17 @@ pub counted : (adds : Adds) (g : Given) (fixed : ℕ) (round : Result Round Roun
 counted adds g fixed (Ok round) new before after w = w.reused
 counted adds g fixed (Err e) new before after w = tt
 
-pub came : (adds : Adds) (files : Files) (kept : Entries) (site : Site) (new : Entries) (before after : List ItemName) (round : Result Round RoundError) (result : Result Output SiteError)
+pub came : (adds : Adds) → AddsLaws adds → (files : Files) (kept : Entries) (site : Site) (new : Entries) (before after : List ItemName) (round : Result Round RoundError) (result : Result Output SiteError)
     → IsGone adds (given_of files site kept) (fixed_bytes files site) round new before after → Comes files site round result → IsOutput adds files kept (Ok site) result new before after
-came adds files kept site new before after (Ok round) (Ok output) w is = (whole-output adds files kept site new before after round w output is, whole-settled adds files kept site new before after round w)
-came adds files kept site new before after (Ok round) (Err e) w is = subst (λ e. IsOutput adds files kept (Ok site) (Err e) new before after) (sym is) tt
-came adds files kept site new before after (Err (round_error.Fault fault)) (Err e) s is =
+came adds laws files kept site new before after (Ok round) (Ok output) w is =
+    (whole-output adds files kept site new before after round w output is, whole-settled adds files kept site new before after round w, whole-fresh adds files kept site new before after round w)
+came adds laws files kept site new before after (Ok round) (Err e) w is = subst (λ e. IsOutput adds files kept (Ok site) (Err e) new before after) (sym is) (laws.grows (why_names round.why) [] before after w.tally)
+came adds laws files kept site new before after (Err (round_error.Fault fault)) (Err e) s is =
     subst (λ e. IsOutput adds files kept (Ok site) (Err e) new before after) (sym is)
     (stopped-output adds files kept site new before after fault s, stopped-settled adds files kept site new before after fault s)
-came adds files kept site new before after (Err round_error.Memory) (Err e) s is = subst (λ e. IsOutput adds files kept (Ok site) (Err e) new before after) (sym is) tt
-came adds files kept site new before after (Err (round_error.Fault fault)) (Ok output) s is = absurd is
-came adds files kept site new before after (Err round_error.Memory) (Ok output) s is = absurd is
+came adds laws files kept site new before after (Err round_error.Memory) (Err e) s is = subst (λ e. IsOutput adds files kept (Ok site) (Err e) new before after) (sym is) s
+came adds laws files kept site new before after (Err (round_error.Fault fault)) (Ok output) s is = absurd is
+came adds laws files kept site new before after (Err round_error.Memory) (Ok output) s is = absurd is
 
 -- a site that is not read renders nothing
 from_unread : (adds : Adds) → ((names : List ItemName) → adds [] [] names names) → (files : Files) (kept : Entries) (found : Found Site) (e : SiteError) (before : List ItemName) → IsFirst found e → IsOutput adds files kept found (Err e) kept before before
@@ -128,15 +175,13 @@ from_unread adds nothing files kept found (error.Fault fault) before first = (
     tally = subst (λ (f : Found Site). adds (names_rendered files kept f) (names_behind files kept f) before before) (sym first) (nothing before);
   },
 )
-from_unread adds nothing files kept found error.Memory before first = tt
+from_unread adds nothing files kept found error.Memory before first = grows_none before
 
 pub unread_in_order : (files : Files) (kept : Entries) (found : Found Site) (e : SiteError) (before : List ItemName) → IsFirst found e → IsOutput in_order files kept found (Err e) kept before before
 unread_in_order files kept found e before first = from_unread in_order (λ names. sym (append-nil names)) files kept found e before first
 
 none-between : (names : List ItemName) → in_any_order [] [] names names
-none-between names = λ name.
-    let e = ap (times name) (append-nil names) in
-    (omega (arith, e), omega (arith, e))
+none-between names = ([], sym (append-nil names), λ name. (omega arith, omega arith))
 
 pub unread_in_any_order : (files : Files) (kept : Entries) (found : Found Site) (e : SiteError) (before : List ItemName) → IsFirst found e → IsOutput in_any_order files kept found (Err e) kept before before
 unread_in_any_order files kept found e before first = from_unread in_any_order none-between files kept found e before first

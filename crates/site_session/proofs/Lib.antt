@@ -6,3 +6,4 @@ mod ShownLaws
 mod MadeLaws
 pub mod RoundLaws
 pub mod Rebuilding
+pub mod Lines

@@ -1,5 +1,5 @@
 -- What a site stands for: the files of its output, or its first fault. After Jekyll 4's manual, "Rendering process", whose order of the items is that of `site_reader`.
-use Rattle.std.specs.Prelude.{ℕ, ℤ, suc, ◌-◌, Bool, not, List, [], ◌∷◌, length, drop, fold, nat_lt, Option, Some, None, Ok, Err, if◌then◌else◌}
+use Rattle.std.specs.Prelude.{ℕ, ℤ, suc, ◌-◌, Bool, not, List, [], ◌∷◌, length, fold, nat_lt, Option, Some, None, Ok, Err, if◌then◌else◌}
 use Rattle.std.specs.FinMap.{empty, get, insert}
 use Rattle.memo_table.specs.Entries.{Entries, of_names}
 use Rattle.page_render.specs.Items.{item}
@@ -8,7 +8,7 @@ use Rattle.read_record.specs.declared.outcome.Outcome.{Outcome}
 use Rattle.read_record.specs.declared.outcome.Outcome.TheVariants.{Done, Fault}
 use Rattle.render_workers.specs.Folds.{Folded, fold_of}
 use Rattle.render_workers.specs.Rounds.{entries_below}
-use Rattle.render_workers.specs.Whys.{whys_below, why_names}
+use Rattle.render_workers.specs.Whys.{stale_behind, whys_below, why_names}
 use Rattle.render_workers.specs.declared.answers.Why.{Why}
 use Rattle.round_core.specs.Meant.{Given, given_by}
 use Rattle.site_base.specs.Chains.{◌>>=◌}
@@ -156,10 +156,10 @@ abbrev pub names_rendered : Files → Entries → Found Site → List ItemName
 names_rendered files kept (Ok site) = names_by (given_of files site kept) (rendered files site)
 names_rendered files kept (Err fault) = []
 
--- the names of the items behind the one that has the first fault, some of which a build may render too
+-- the names of the stale items behind the one that has the first fault, some of which a build may render too
 abbrev pub names_past : Given → Folded → List ItemName
 names_past g (Gave outs) = []
-names_past g (Failed e) = drop (suc e.0) g.names
+names_past g (Failed e) = stale_behind g (suc e.0)
 names_past g (Missed k j) = []
 
 abbrev pub names_behind : Files → Entries → Found Site → List ItemName

@@ -4,8 +4,10 @@ pub mod KeyTexts
 pub mod Makes
 pub mod Outputs
 pub mod Replies
+pub mod Scenes
 pub mod Seen
 pub mod Session
+pub mod Settled
 pub mod Standing
 pub mod Tallied
 pub mod Rebuilds

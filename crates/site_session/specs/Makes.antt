@@ -1,5 +1,5 @@
 -- What making an output does.
-use Rattle.std.specs.Prelude.{◌≡◌, ◌+◌, ◌-◌, ◌^◌, ◌≤◌, ℕ, min, List, Option, Some, Result, Ok, Err, OnErr}
+use Rattle.std.specs.Prelude.{◌≡◌, ◌+◌, ◌-◌, ◌^◌, ◌≤◌, ℕ, min, List, [], Option, Some, Result, Ok, Err, OnErr}
 use Rattle.out_tree.specs.Belief.{Belief}
 use Rattle.out_tree.specs.declared.step.Call.{Call}
 use Rattle.site_base.specs.Places.{Files}
@@ -8,7 +8,8 @@ use Rattle.site_base.specs.declared.faults.SiteFault.{SiteFault}
 use Rattle.site_reader.specs.declared.site_error.SiteError.{SiteError}
 use Rattle.site_reader.specs.declared.site_error.SiteError.TheVariants as error
 use Rattle.site_session.specs.Replies.{built_reply, Called, FailedAt}
-use Rattle.site_session.specs.Session.{Given, Reply, event_of, build_tree, output_failures}
+use Rattle.site_session.specs.Session.{Given, Reply, event_of, build_tree, output_failures, plan}
+use Rattle.site_session.specs.Settled.{NothingPlanned}
 use Rattle.site_session.specs.Standing.{Standing, Holds, MakesBut, MarksExactly}
 use Rattle.site_session.specs.declared.build.Rebuilt.{Rebuilt}
 use Rattle.site_session.specs.declared.build.Rebuilt.TheVariants as rebuilt
@@ -27,6 +28,8 @@ pub record Makes {D : Type 0} (contents : D → Option Files) (calls : D → Opt
   pub later : failures before ≤ failures after
   pub cause : (reply : Reply) → built_reply result ≡ Some reply → min (failures before + output_failures reply) (2 ^ 64 - 1) ≤ failures after
   pub steady : (report : Report) → result ≡ Ok (rebuilt.Built report) → failures after ≡ failures before
+  pub idle : (belief : Belief) → was ≡ Some belief → plan belief output.written ≡ [] → after ≡ before
+  pub settled : (report : Report) → result ≡ Ok (rebuilt.Built report) → NothingPlanned output.written now
   pub called : (first : Files) → Holds (contents before) was first → Called was first output.written result (calls before) (calls after)
   pub err : OnErr result (contents after ≡ contents before)
   pub short : OnErr result (failures after ≡ failures before)

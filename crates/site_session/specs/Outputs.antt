@@ -1,5 +1,5 @@
 -- What the reading and rendering of a build answer, before its output is touched.
-use Rattle.std.specs.Prelude.{◌≡◌, List, length, Result, Ok, Err}
+use Rattle.std.specs.Prelude.{◌≡◌, List, [], length, Result, Ok, Err}
 use Rattle.memo_table.specs.Entries.{Entries}
 use Rattle.site_base.specs.Places.{Files}
 use Rattle.site_base.specs.declared.item_name.ItemName.{ItemName}
@@ -8,6 +8,7 @@ use Rattle.site_reader.specs.declared.site.Site.{Site}
 use Rattle.site_reader.specs.declared.site_error.SiteError.{SiteError}
 use Rattle.site_reader.specs.declared.site_error.SiteError.TheVariants as error
 use Rattle.site_session.specs.Rounds.{Adds}
+use Rattle.render_workers.specs.Tallies.{Grows}
 use Rattle.render_workers.specs.declared.answers.Round.{Round}
 use Rattle.render_workers.specs.declared.answers.RoundError.{RoundError}
 use Rattle.render_workers.specs.declared.answers.RoundError.TheVariants as round_error
@@ -19,11 +20,11 @@ pub record Settled (adds : Adds) (files : Files) (kept : Entries) (found : Found
   pub kept_is : new ≡ kept_after files kept found
   pub tally : adds (names_rendered files kept found) (names_behind files kept found) before after
 
--- what the files stand for that make this site, or its first fault, unless memory was wanting
+-- what the files stand for that make this site, after which nothing is stale, or its first fault, unless memory was wanting
 abbrev pub IsOutput : Adds → Files → Entries → Found Site → Result Output SiteError → Entries → List ItemName → List ItemName → Type 0
-IsOutput adds files kept found (Ok output) new before after = (output_in files kept found ≡ Ok output) × Settled adds files kept found new before after
+IsOutput adds files kept found (Ok output) new before after = (output_in files kept found ≡ Ok output) × Settled adds files kept found new before after × (names_rendered files new found ≡ [])
 IsOutput adds files kept found (Err (error.Fault fault)) new before after = (output_in files kept found ≡ Err fault) × Settled adds files kept found new before after
-IsOutput adds files kept found (Err error.Memory) new before after = Unit {0}
+IsOutput adds files kept found (Err error.Memory) new before after = Grows before after
 
 -- what a round without a fault makes of a build
 abbrev pub output_by : Files → Site → Round → Output

@@ -1,5 +1,5 @@
 -- What a rebuild does to a session, its output and a tally.
-use Rattle.std.specs.Prelude.{◌≡◌, ◌+◌, ◌-◌, ◌^◌, ◌≤◌, ℕ, min, List, Option, Some, Result, Ok, Err, OnErr}
+use Rattle.std.specs.Prelude.{◌≡◌, ◌+◌, ◌-◌, ◌^◌, ◌≤◌, ℕ, min, List, Option, Some, Result, Ok, Err, OnErr, OnOk}
 use Rattle.out_tree.specs.declared.step.Call.{Call}
 use Rattle.site_base.specs.Places.{Files}
 use Rattle.site_base.specs.declared.errors.Memory.{Memory}
@@ -8,6 +8,7 @@ use Rattle.site_base.specs.declared.item_name.ItemName.{ItemName}
 use Rattle.site_script.specs.declared.line.Line.TheVariants as line
 use Rattle.site_session.specs.Rounds.{Adds}
 use Rattle.site_session.specs.Full.{full}
+use Rattle.site_session.specs.Settled.{IsSettled}
 use Rattle.site_session.specs.Replies.{built_reply, Called, FailedAt, Leaves}
 use Rattle.site_session.specs.Session.{Given, Reply, Answers, output_failures, rendered_now}
 use Rattle.site_session.specs.Standing.{Standing, Holds}
@@ -37,6 +38,9 @@ pub record Rebuilds {D : Type 0} (adds : Adds) (contents : D → Option Files) (
   pub later : failures before ≤ failures after
   pub cause : (reply : Reply) → built_reply result ≡ Some reply → min (failures before + output_failures reply) (2 ^ 64 - 1) ≤ failures after
   pub steady : (report : Report) → result ≡ Ok (rebuilt.Built report) → failures after ≡ failures before
+  -- where there is nothing to do, output and tally are the same values; and after a build without a failure there is nothing to do
+  pub idle : IsSettled old → (after ≡ before) × OnOk result (tally' ≡ tally)
+  pub settled : (report : Report) → result ≡ Ok (rebuilt.Built report) → IsSettled new
   pub same : (new.files ≡ old.files) × (new.moment ≡ old.moment) × (new.settings ≡ old.settings)
   pub err : OnErr result (contents after ≡ contents before)
   -- want of memory is not told in the place of a failure

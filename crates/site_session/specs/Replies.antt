@@ -3,18 +3,22 @@ use Rattle.std.specs.Prelude.{◌≡◌, ◌⊎◌, ℕ, ◌+◌, Bool, true, fa
 use Rattle.site_base.specs.declared.errors.Memory.{Memory}
 use Rattle.site_script.specs.Line.{line_number}
 use Rattle.site_script.specs.declared.line.Line.{Line}
+use Rattle.site_script.specs.declared.line.Line.TheVariants as line
 use Rattle.source_tree.specs.declared.scan_error.ScanError.{ScanError}
 use Rattle.source_tree.specs.declared.scan_error.ScanError.TheVariants as scan_error
-use Rattle.site_session.specs.Session.{Given, event_of, plan, step, Reply, Scanned, ScanFailed, Faulty, Fine, Absent, Built, Marked, Unlisted, BadLine, Silent, output_failures}
+use Rattle.site_session.specs.Session.{Given, event_of, plan, step, Reply, Scanned, ScanFailed, Faulty, Fine, Absent, Built, Marked, Unlisted, BadLine, Silent, output_failures, source_failures}
 use Rattle.site_base.specs.Places.{Files}
 use Rattle.out_tree.specs.Belief.{Belief, all_marked}
 use Rattle.out_tree.specs.Device.{Calls}
 use Rattle.out_tree.specs.declared.step.Call.{Call}
 use Rattle.out_tree.specs.declared.step.Call.TheVariants as call
-use Rattle.site_session.specs.Standing.{Standing, MakesBut, MarksExactly}
+use Rattle.render_workers.specs.Tallies.{Grows}
+use Rattle.site_session.specs.Standing.{Standing, Holds, MakesBut, MarksExactly}
 use Rattle.site_session.specs.Full.{full}
 use Rattle.site_session.specs.Rounds.{in_any_order}
-use Rattle.site_session.specs.Tallied.{Effects, LineTallied}
+use Rattle.site_session.specs.Scenes.{OutputSeen, SourceSeen, Scene, Rises}
+use Rattle.site_session.specs.Settled.{IsSettled}
+use Rattle.site_session.specs.Tallied.{LineTallied}
 use Rattle.site_session.specs.declared.output.Written.{Written}
 use Rattle.site_session.specs.declared.build.Rebuilt.{Rebuilt}
 use Rattle.site_session.specs.declared.build.Rebuilt.TheVariants as rebuilt
@@ -95,16 +99,68 @@ Called belief first written (Ok rebuilt.Unlisted) old new = Calls old new (call.
 Called belief first written (Ok (rebuilt.Fault fault)) old new = Calls old new []
 Called belief first written (Err error) old new = ListsAtMost belief old new
 
--- what a line has left that is replied so: an output that was not called is the same value, and a build leaves what `LeavesBy` says; what it rendered has joined the tally
-pub record LineLeaves {D : Type 0} (contents : D → Option Files) (now : Standing) (line : Line) (reply : Reply) (belief : Option Belief) (before after : Effects D) : Type 0 where
-  pub built : LeavesBy now reply (contents before.output) (contents after.output) belief
-  pub untouched : has_called_output reply ≡ false → after.output ≡ before.output
-  pub tallied : LineTallied in_any_order now line before.tally after.tally
+-- a build called the output as what the held files stand for asks
+pub record BuildsBy (now : Standing) (first : Files) (old new : Option (List Call)) : Type 0 where
+  pub written : Written
+  pub stands_for : full now.files now.moment now.settings ≡ Ok written
+  pub calls : Calls old new (build_calls now.belief first written)
+
+-- where the output tells its calls, how a line called it that is replied so; only a build calls it
+abbrev pub CalledBy : Standing → Files → Reply → Option (List Call) → Option (List Call) → Type 0
+CalledBy now first (Built report) old new = BuildsBy now first old new
+CalledBy now first (Marked paths) old new = BuildsBy now first old new
+CalledBy now first Unlisted old new = Calls old new (call.List ∷ [])
+CalledBy now first (Scanned count) old new = Calls old new []
+CalledBy now first ScanFailed old new = Calls old new []
+CalledBy now first (Faulty fault) old new = Calls old new []
+CalledBy now first Fine old new = Calls old new []
+CalledBy now first Absent old new = Calls old new []
+CalledBy now first (BadLine number kind) old new = Calls old new []
+CalledBy now first Silent old new = Calls old new []
+
+-- what a line that is replied so has done to the output, of which this is believed then, and is true: a build leaves what `LeavesBy` says, by the calls
+-- of `CalledBy`; an output that was not called is the same value, and so is one for which nothing was to be done; its count of failures rose by what
+-- the reply shows
+pub record OutputLeft {D : Type 0} (now : Standing) (reply : Reply) (belief : Option Belief) (before after : OutputSeen D) : Type 0 where
+  pub holds : (first : Files) → Holds before.files now.belief first → Holds after.files belief first
+  pub built : (first : Files) → Holds before.files now.belief first → LeavesBy now reply before.files after.files belief
+  pub called : (first : Files) → Holds before.files now.belief first → CalledBy now first reply before.calls after.calls
+  pub untouched : has_called_output reply ≡ false → after ≡ before
+  pub idle : IsSettled now → after ≡ before
+  pub failed : Rises (output_failures reply) before.failures after.failures
+
+-- what a line that is replied so has done to the source: only a scan touches it, its files stay, and its count of failures rose by what the reply shows
+pub record SourceLeft {S : Type 0} (at : Line) (reply : Reply) (before after : SourceSeen S) : Type 0 where
+  pub untouched : (at ≡ line.Scan → ⊥) → after ≡ before
+  pub files : after.files ≡ before.files
+  pub failed : Rises (source_failures reply) before.failures after.failures
+
+-- what a line has left that is replied so; what it rendered has joined the tally
+pub record LineLeaves {S D : Type 0} (now : Standing) (at : Line) (reply : Reply) (belief : Option Belief) (before after : Scene S D) : Type 0 where
+  pub output : OutputLeft now reply belief before.output after.output
+  pub source : SourceLeft at reply before.source after.source
+  pub tallied : LineTallied in_any_order now at before.tally after.tally
+
+-- for want of memory a build was not done: it listed the output at most, and no end failed
+pub record OutputSpared {D : Type 0} (belief : Option Belief) (before after : OutputSeen D) : Type 0 where
+  pub files : after.files ≡ before.files
+  pub called : (first : Files) → Holds before.files belief first → ListsAtMost belief before.calls after.calls
+  pub failures : after.failures ≡ before.failures
+
+-- for want of memory a line was not done: only a build may have touched output and tally, and only a scan the source, and no end failed
+pub record LineSpares {S D : Type 0} (now : Standing) (at : Line) (before after : Scene S D) : Type 0 where
+  pub output : OutputSpared now.belief before.output after.output
+  pub output_untouched : (at ≡ line.Build → ⊥) → after.output ≡ before.output
+  pub tallied : Grows before.tally after.tally
+  pub untallied : (at ≡ line.Build → ⊥) → after.tally ≡ before.tally
+  pub source_untouched : (at ≡ line.Scan → ⊥) → after.source ≡ before.source
+  pub source_files : after.source.files ≡ before.source.files
+  pub source_failures : after.source.failures ≡ before.source.failures
 
 -- after so many lines, the session gives these replies to these lines, and each has left what it may
-abbrev pub AllLeave : {D : Type 0} → (D → Option Files) → Given → Standing → ℕ → List Line → List Reply → Effects D → Effects D → Type 0
-AllLeave contents given old before [] replies first last = last ≡ first
-AllLeave contents given old before (line ∷ lines) [] first last = ⊥
-AllLeave {D} contents given old before (line ∷ lines) (reply ∷ replies) first last =
+abbrev pub AllLeave : {S D : Type 0} → Given → Standing → ℕ → List Line → List Reply → Scene S D → Scene S D → Type 0
+AllLeave given old before [] replies first last = last ≡ first
+AllLeave given old before (line ∷ lines) [] first last = ⊥
+AllLeave {S} {D} given old before (line ∷ lines) (reply ∷ replies) first last =
     let new = (step given old (line_number before) line (event_of reply)).0 in
-    (there : Effects D) × LineLeaves contents old line reply new.belief first there × AllLeave contents given new (before + 1) lines replies there last
+    (there : Scene S D) × LineLeaves old line reply new.belief first there × AllLeave given new (before + 1) lines replies there last

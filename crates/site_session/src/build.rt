@@ -7,6 +7,7 @@ ghost use Rattle.site_session.specs.Standing.{Standing, Holds, MakesBut, MarksEx
 ghost use Rattle.site_session.specs.Session.{Given, Reply, event_of, failed_of, build_tree, build_listed, output_failures, plan, TheList};
 ghost use Rattle.out_tree.specs.Tries.{CallsFor};
 ghost use Rattle.site_session.specs.Makes.{Finishes};
+ghost use Rattle.site_session.specs.Settled.{NothingPlanned};
 ghost use Rattle.site_session.specs.Replies.{built_reply, Called, FailedAt};
 ghost use Rattle.site_session.specs.declared.build.Report.{Report};
 
@@ -79,6 +80,8 @@ fn make<O: OutTree>(
     ensures later { O.failures out.old ≤ O.failures out.new }
     ensures cause { (reply : Reply) → built_reply result ≡ Some reply → min (O.failures out.old + output_failures reply) (2 ^ 64 - 1) ≤ O.failures out.new }
     ensures steady { (report : Report) → result ≡ Ok (Rebuilt.Built report) → O.failures out.new ≡ O.failures out.old }
+    ensures idle { (belief : Belief) → keeper.old ≡ Some belief → plan belief output.written ≡ [] → out.new ≡ out.old }
+    ensures settled { (report : Report) → result ≡ Ok (Rebuilt.Built report) → NothingPlanned output.written keeper.new }
     ensures called { (first : Files) → Holds (O.contents out.old) keeper.old first →
         Called keeper.old first output.written result (O.calls out.old) (O.calls out.new) }
     ensures err { OnErr result (O.contents out.new ≡ O.contents out.old) }
@@ -112,6 +115,8 @@ fn make_listed<O: OutTree>(
     ensures cause { (reply : Reply) → built_reply result ≡ Some reply → min (O.failures out.old + output_failures reply) (2 ^ 64 - 1) ≤ O.failures out.new }
     ensures unlisted { (reply : Reply) → built_reply result ≡ Some reply → event_of reply ≡ TheList → ⊥ }
     ensures steady { (report : Report) → result ≡ Ok (Rebuilt.Built report) → O.failures out.new ≡ O.failures out.old }
+    ensures idle { plan (believed keeper.old) output.written ≡ [] → out.new ≡ out.old }
+    ensures settled { (report : Report) → result ≡ Ok (Rebuilt.Built report) → plan (believed keeper.new) output.written ≡ [] }
     ensures called { OnOk result (CallsFor (plan (believed keeper.old) output.written) (O.calls out.old) (O.calls out.new)) }
     ensures err { OnErr result ((keeper.new ≡ keeper.old) × (out.new ≡ out.old)) }
 {

@@ -1,10 +1,11 @@
 // A session.
-ghost use Rattle.std.specs.Prelude.{◌≡◌, ◌⊎◌, ◌+◌, ◌-◌, ◌^◌, ◌≤◌, min, ℕ, Option, Some, None, Ok, Err, OnOk, OnErr, IfOk, MatchResult, List, length, if◌then◌else◌, codes, true, false, ◌++◌, [], ◌∷◌};
+ghost use Rattle.std.specs.Prelude.{◌≡◌, ◌⊎◌, ◌≤◌, ℕ, Some, OnOk, OnErr, IfOk, MatchResult, true};
 ghost use Rattle.std.specs.FinMap as map;
 ghost use Rattle.site_base.specs.Places.{Files};
 ghost use Rattle.site_base.specs.Ends.{HasCauseOf, Rose};
 ghost use Rattle.source_tree.specs.Put.{put_refusal};
 ghost use Rattle.site_base.specs.declared.faults.SiteFault.{SiteFault};
+ghost use Rattle.render_workers.specs.Tallies.{Grows};
 ghost use Rattle.site_script.specs.Line.{IsInTime, is_moment};
 ghost use Rattle.site_session.specs.Full.{full};
 ghost use Rattle.site_session.specs.Standing.{Holds};
@@ -12,9 +13,9 @@ ghost use Rattle.site_session.specs.Session.{Given, Reply, Fine, Absent, Answers
 ghost use Rattle.site_session.specs.declared.build.Report.{Report};
 ghost use Rattle.site_session.specs.declared.output.Written.{Written};
 ghost use Rattle.site_session.specs.Rebuilds.{Rebuilds};
-ghost use Rattle.site_session.specs.Replies.{scan_reply, built_reply, Called, FailedAt, Leaves, LeavesBy, IsQuiet, has_called_output};
+ghost use Rattle.site_session.specs.Replies.{scan_reply, IsQuiet, LineLeaves, LineSpares, OutputLeft, OutputSpared, SourceLeft};
+ghost use Rattle.site_session.specs.Scenes.{output_seen, scene, source_seen};
 ghost use Rattle.site_session.specs.Rounds.{in_any_order, in_order};
-ghost use Rattle.site_session.specs.Tallied.{LineTallied};
 ghost use Rattle.site_script.specs.declared.line.Line.TheVariants as line;
 
 use crate::build::{Rebuilt, finish};
@@ -223,22 +224,13 @@ impl Session {
         ensures answers { (given : Given) → S.files source.old ≡ Some given.source → Holds (O.contents out.old) self.old.belief given.output →
             IfOk result (λ reply. Answers given self.old number line reply self.new) }
         ensures belief { (first : Files) → Holds (O.contents out.old) self.old.belief first → Holds (O.contents out.new) self.new.belief first }
-        // Where memory is wanting, the output's files and all but what is believed of them are as before.
-        ensures err { OnErr result (O.contents out.new ≡ O.contents out.old) }
+        // What else a line changes is what its reply says. A build renders what is stale.
+        ensures leaves { let at = scene S.files S.failures O.contents O.calls O.failures in
+            IfOk result (λ reply. LineLeaves self.old line reply self.new.belief (at source.old out.old tally.old) (at source.new out.new tally.new)) }
+        // Where memory is wanting, nothing is done but the first list of the output, and that is not told in the place of a failure.
+        ensures spares { let at = scene S.files S.failures O.contents O.calls O.failures in
+            OnErr result (LineSpares self.old line (at source.old out.old tally.old) (at source.new out.new tally.new)) }
         ensures kept { OnErr result ((self.new.files ≡ self.old.files) × (self.new.moment ≡ self.old.moment) × (self.new.settings ≡ self.old.settings)) }
-        ensures leaves { (first : Files) → Holds (O.contents out.old) self.old.belief first →
-            IfOk result (λ reply. LeavesBy self.old reply (O.contents out.old) (O.contents out.new) self.new.belief) }
-        // Want of memory is not told in the place of a failure.
-        ensures short { OnErr result ((S.failures source.new ≡ S.failures source.old) × (O.failures out.new ≡ O.failures out.old)) }
-        // Where no build was tried, the output is the same value as before.
-        ensures untouched { IfOk result (λ reply. has_called_output reply ≡ false → out.new ≡ out.old) }
-        ensures source_same { S.files source.new ≡ S.files source.old }
-        ensures source_later { S.failures source.old ≤ S.failures source.new }
-        ensures source_cause { IfOk result (λ reply. min (S.failures source.old + source_failures reply) (2 ^ 64 - 1) ≤ S.failures source.new) }
-        ensures output_later { O.failures out.old ≤ O.failures out.new }
-        ensures output_cause { IfOk result (λ reply. min (O.failures out.old + output_failures reply) (2 ^ 64 - 1) ≤ O.failures out.new) }
-        // What a build renders is what is stale; other lines render nothing.
-        ensures tallied { OnOk result (LineTallied in_any_order self.old line tally.old tally.new) }
     {
         match line {
             Line::Scan => self.answer_scan(alloc, number, source),
@@ -264,12 +256,11 @@ impl Session {
         ensures answers { (given : Given) → S.files source.old ≡ Some given.source →
             IfOk result (λ reply. Answers given self.old number line.Scan reply self.new) }
         ensures belief { self.new.belief ≡ self.old.belief }
-        ensures same { S.files source.new ≡ S.files source.old }
-        ensures later { S.failures source.old ≤ S.failures source.new }
-        ensures cause { IfOk result (λ reply. min (S.failures source.old + source_failures reply) (2 ^ 64 - 1) ≤ S.failures source.new) }
+        ensures leaves { let seen = source_seen S.files S.failures in
+            IfOk result (λ reply. IsQuiet reply × SourceLeft line.Scan reply (seen source.old) (seen source.new)) }
         ensures err { OnErr result (self.new ≡ self.old) }
-        ensures short { OnErr result (S.failures source.new ≡ S.failures source.old) }
-        ensures quiet { IfOk result (λ reply. IsQuiet reply) }
+        // Want of memory is not told in the place of a failure.
+        ensures spares { OnErr result ((S.files source.new ≡ S.files source.old) × (S.failures source.new ≡ S.failures source.old)) }
     {
         match self.scan(alloc, source) {
             Ok(count) => Ok(Reply::Scanned(count)),
@@ -317,15 +308,11 @@ impl Session {
         ensures answers { (given : Given) → Holds (O.contents out.old) self.old.belief given.output →
             IfOk result (λ reply. Answers given self.old number line.Build reply self.new) }
         ensures belief { (first : Files) → Holds (O.contents out.old) self.old.belief first → Holds (O.contents out.new) self.new.belief first }
-        ensures leaves { (first : Files) → Holds (O.contents out.old) self.old.belief first →
-            IfOk result (λ reply. LeavesBy self.old reply (O.contents out.old) (O.contents out.new) self.new.belief) }
-        ensures untouched { IfOk result (λ reply. has_called_output reply ≡ false → out.new ≡ out.old) }
-        ensures err { OnErr result (O.contents out.new ≡ O.contents out.old) }
+        ensures leaves { let seen = output_seen O.contents O.calls O.failures in
+            IfOk result (λ reply. (source_failures reply ≡ 0) × OutputLeft self.old reply self.new.belief (seen out.old) (seen out.new)) }
+        ensures spares { let seen = output_seen O.contents O.calls O.failures in
+            OnErr result (OutputSpared self.old.belief (seen out.old) (seen out.new) × Grows tally.old tally.new) }
         ensures kept { OnErr result ((self.new.files ≡ self.old.files) × (self.new.moment ≡ self.old.moment) × (self.new.settings ≡ self.old.settings)) }
-        ensures later { O.failures out.old ≤ O.failures out.new }
-        ensures cause { IfOk result (λ reply. min (O.failures out.old + output_failures reply) (2 ^ 64 - 1) ≤ O.failures out.new) }
-        ensures quiet { IfOk result (λ reply. source_failures reply ≡ 0) }
-        ensures short { OnErr result (O.failures out.new ≡ O.failures out.old) }
         ensures tallied { OnOk result (in_any_order (names_now self.old) (names_past_now self.old) tally.old tally.new) }
     {
         match self.rebuild_by(alloc, out, crew, tally) {

@@ -6,11 +6,15 @@ use Rattle.std.specs.Option.{is_some}
 use Rattle.std.specs.Str.{bytes_eq}
 use Rattle.std.specs.FinMap.{from_entries, get, len}
 use Rattle.site_base.specs.Clash.{ClashFree}
+use Rattle.site_base.specs.Ends.{SinkState}
 use Rattle.site_base.specs.Path.{path_refusal}
 use Rattle.site_base.specs.Places.{AllDiffer, Files, paths_of}
+use Rattle.site_base.specs.declared.item_name.ItemName.{ItemName}
 use Rattle.site_base.specs.declared.path.PathError.{PathError}
 use Rattle.site_base.specs.declared.path.PathError.TheVariants as path_error
 use Rattle.out_tree.specs.Memory.{OutState}
+use Rattle.source_tree.specs.Memory.{SourceState}
+use Rattle.site_program.specs.Stages.{Stage, stage}
 use Rattle.site_session.specs.Session.{Given}
 use Rattle.site_words.specs.declared.orders.Options.{Options}
 use Rattle.site_tests.specs.declared.scenario.Scenario.{Scenario}
@@ -50,9 +54,17 @@ told_of scenario options = record (given_of scenario) { why = options.why }
 abbrev pub output_of : Scenario → OutState
 output_of scenario = record { files = files_of scenario.outputs.now; told = Some []; fail = scenario.output_fails.now; calls = 0; failures = 0; short = 0 }
 
--- an output in memory tells its contents
-abbrev pub contents : OutState → Option Files
-contents out = Some out.files
+-- the source before the run
+abbrev pub source_of : Scenario → SourceState
+source_of scenario = record { files = files_of scenario.sources.now; fail = scenario.source_fails.now; calls = 0; failures = 0 }
+
+-- the sink before the run
+abbrev pub sink_of : Scenario → SinkState
+sink_of scenario = record { taken = []; fail = scenario.sink_fails.now; calls = 0; failures = 0; short = 0 }
+
+-- ends in memory tell all that they hold
+abbrev pub memory_stage : SourceState → OutState → List ItemName → SinkState → Stage SourceState OutState
+memory_stage = stage (λ source. Some source.files) (λ source. source.failures) (λ out. Some out.files) (λ out. out.told) (λ out. out.failures) (λ sink. Some sink.taken) (λ sink. sink.failures)
 
 -- no call of an end is listed as one that fails
 pub record FailsNowhere (scenario : Scenario) : Type 0 where

@@ -51,6 +51,18 @@ const ONCE_AND_CHECK: &[Row] = &[
         replies: "scanned 2\nout-fault 1\nmarked p.html\n",
         outputs: &[("q.html", "q")],
     },
+    // A write over a file fails: the file is left as it was, and not taken away.
+    Row {
+        given: Scenario {
+            sources: &[("p.html", "new"), ("q.html", "q")],
+            outputs: &[("p.html", "old")],
+            output_fails: &[2],
+            ..PLAIN
+        },
+        status: 4,
+        replies: "scanned 2\nout-fault 1\nmarked p.html\n",
+        outputs: &[("p.html", "old"), ("q.html", "q")],
+    },
     // A removal fails: all else is done all the same.
     Row {
         given: Scenario {

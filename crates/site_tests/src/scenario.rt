@@ -1,7 +1,6 @@
 // A run over ends in memory, and what came of it.
 ghost use Rattle.std.specs.Prelude.{◌≡◌, List, [], ◌∷◌, codes, Ok, Some, true, IfErr, IfOk, IsErrOf};
 ghost use Rattle.site_session.specs.Session.{start};
-ghost use Rattle.site_session.specs.Tallied.{effects};
 ghost use Rattle.site_base.specs.declared.item_name.ItemName.{ItemName};
 ghost use Rattle.site_base.specs.declared.settings.Settings.{Settings};
 ghost use Rattle.site_words.specs.declared.orders.Options.{Options};
@@ -11,7 +10,7 @@ ghost use Rattle.site_program.specs.Checks.{CheckTook, Checked};
 ghost use Rattle.site_program.specs.Sessions.{SessionRun};
 ghost use Rattle.source_tree.specs.Put.{plain};
 ghost use Rattle.site_base.specs.Places.{paths_of};
-ghost use Rattle.site_tests.specs.Scenarios.{IsFault, contents, file_list, output_of, files_of, given_of, has_just, has_refused, told_of, FailsNowhere, word_list};
+ghost use Rattle.site_tests.specs.Scenarios.{IsFault, file_list, memory_stage, output_of, sink_of, source_of, files_of, given_of, has_just, has_refused, told_of, FailsNowhere, word_list};
 
 use crate::scenario_error::ScenarioError;
 use out_tree::MemoryOut;
@@ -124,8 +123,8 @@ impl<'a> Scenario<'a> {
             outcome.ends.input.left ≡ self.now.script.now) }
         // Of `session`: that it does the lines of the script, tells what it did, and notes what it renders in a tally.
         ensures session { (options : Options) → jobs_order (word_list self.now.words.now) moment ≡ Ok (order.Session options) → IfOk result (λ outcome.
-            (names : List ItemName) × SessionRun contents (told_of self.now options) (start options.settings moment) self.now.script.now [] (Some outcome.ends.input.left) (Some outcome.ends.sink.taken)
-            (effects (output_of self.now) []) (effects outcome.ends.out names) (record { source_first = 0; source_now = outcome.ends.source.failures; output_first = 0; output_now = outcome.ends.out.failures }) outcome.status) }
+            (names : List ItemName) × SessionRun (told_of self.now options) (start options.settings moment) self.now.script.now [] (Some outcome.ends.input.left)
+            (memory_stage (source_of self.now) (output_of self.now) [] (sink_of self.now)) (memory_stage outcome.ends.source outcome.ends.out names outcome.ends.sink) outcome.status) }
         ensures fault { IfErr result (IsFault self.now) }
     {
         let words = words(alloc, self.words)?;
@@ -149,10 +148,10 @@ impl<'a> Scenario<'a> {
 
     /// The ends before a run: each holds what the scenario gives it and fails at the calls that are its own.
     pub fn ends(&self, alloc: Global) -> Result<Ends, ScenarioError>
-        ensures source { IfOk result (λ ends. ends.source ≡ record { files = files_of self.now.sources.now; fail = self.now.source_fails.now; calls = 0; failures = 0 }) }
+        ensures source { IfOk result (λ ends. ends.source ≡ source_of self.now) }
         ensures out { IfOk result (λ ends. ends.out ≡ output_of self.now) }
         ensures input { IfOk result (λ ends. ends.input ≡ record { left = self.now.script.now; fail = self.now.input_fails.now; calls = 0; failures = 0 }) }
-        ensures sink { IfOk result (λ ends. ends.sink ≡ record { taken = []; fail = self.now.sink_fails.now; calls = 0; failures = 0; short = 0 }) }
+        ensures sink { IfOk result (λ ends. ends.sink ≡ sink_of self.now) }
         ensures fault { IfErr result (IsFault self.now) }
     {
         let sources = files(alloc, self.sources)?;

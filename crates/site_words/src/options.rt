@@ -2,8 +2,8 @@
 ghost use Rattle.std.specs.Prelude.{◌≡◌, ◌≢◌, ◌⊎◌, Bool, List, ℕ, IfOk, map, codes};
 ghost use Rattle.std.specs.List.{list_any};
 ghost use Rattle.std.specs.Str.{bytes_eq};
-ghost use Rattle.clap.specs.Words.{app_of, found_of, first_of, one_of, rows_of};
-ghost use Rattle.site_words.specs.Commands.{IsFlag, Tells, jobs_app, options_app, settings_app};
+ghost use Rattle.clap.specs.Words.{app_of, found_of, first_of, one_of, rows_of, with_rule};
+ghost use Rattle.site_words.specs.Commands.{IsFlag, Tells, jobs_app, long_option, options_app, plain_app, settings_app};
 ghost use Rattle.site_words.specs.Numbers.{number_in};
 ghost use Rattle.site_words.specs.Words.{AnswersOptions, Given, has_jobs, jobs_of, options_in, options_of};
 
@@ -57,29 +57,38 @@ fn has_dashes(words: &[&str]) -> bool
 fn settings_command<'a>(alloc: Global) -> Result<Command<'a>, AllocError>
     ensures { IfOk result (λ command. app_of command ≡ settings_app) }
 {
-    let drafts = Arg::new(alloc, "drafts")
-        .long("drafts")
-        .action(ArgAction::SetTrue);
-    let future = Arg::new(alloc, "future")
-        .long("future")
-        .action(ArgAction::SetTrue);
-    Command::new(alloc, "sitebuild")
-        .no_binary_name(true)
-        .disable_help_flag(true)
-        .disable_version_flag(true)
-        .arg(drafts)?
-        .arg(future)
+    let with_drafts = with_option(alloc, plain_command(alloc), "drafts", ArgAction::SetTrue)?;
+    with_option(alloc, with_drafts, "future", ArgAction::SetTrue)
 }
 
 // A command that knows `--jobs N` and `--why` besides.
 fn jobs_command<'a>(alloc: Global) -> Result<Command<'a>, AllocError>
     ensures { IfOk result (λ command. app_of command ≡ jobs_app) }
 {
-    let jobs = Arg::new(alloc, "jobs").long("jobs").action(ArgAction::Set);
-    let why = Arg::new(alloc, "why")
-        .long("why")
-        .action(ArgAction::SetTrue);
-    settings_command(alloc)?.arg(jobs)?.arg(why)
+    let with_jobs = with_option(alloc, settings_command(alloc)?, "jobs", ArgAction::Set)?;
+    with_option(alloc, with_jobs, "why", ArgAction::SetTrue)
+}
+
+// A command that knows no option.
+fn plain_command<'a>(alloc: Global) -> Command<'a>
+    ensures { app_of result ≡ plain_app }
+{
+    Command::new(alloc, "sitebuild")
+        .no_binary_name(true)
+        .disable_help_flag(true)
+        .disable_version_flag(true)
+}
+
+// The command with one more option, of this long name.
+fn with_option<'a>(
+    alloc: Global,
+    command: Command<'a>,
+    name: &'a str,
+    action: ArgAction,
+) -> Result<Command<'a>, AllocError>
+    ensures { IfOk result (λ made. app_of made ≡ with_rule (app_of command.entry) (long_option name.entry.now action)) }
+{
+    command.arg(Arg::new(alloc, name).long(name).action(action))
 }
 
 fn options_command<'a>(alloc: Global, takes: Takes) -> Result<Command<'a>, AllocError>

@@ -10,7 +10,6 @@ use read_record::Tally;
 use site_base::Words;
 use site_program::{Status, StdSink, run_jobs, run_once};
 use site_script::StdInput;
-use site_words::UsageKind;
 use source_tree::DiskSource;
 use std::env;
 use std::io::ErrorKind;
@@ -62,12 +61,12 @@ fn main(rt: HostRuntime) -> ExitCode {
     end(&rt, &words, status, obstacle)
 }
 
-// The words of the command line, without the program's name. Where they are no text, they have no kind of their own.
+// The words of the command line, without the program's name. Where one is no text there are none, which is told as no command.
 fn words(rt: &HostRuntime) -> Result<Words, Status> {
     let arguments = match env::args(rt) {
         Ok(arguments) => arguments,
         Err(error) if error.kind() == ErrorKind::OutOfMemory => return Err(Status::Memory),
-        Err(_) => return Err(Status::Usage(UsageKind::Missing)),
+        Err(_) => return Ok(Words::new(rt.alloc())),
     };
     let mut words = Words::new(rt.alloc());
     for word in arguments.skip(1) {

@@ -6,3 +6,4 @@ pub mod Put
 pub mod Reading
 pub mod Rise
 pub mod Scan
+pub mod Unread

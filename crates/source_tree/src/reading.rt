@@ -17,9 +17,7 @@ ghost use Rattle.source_tree.specs.Scan.{first_long, scan_fault};
 use crate::held::Held;
 use crate::limits::{MOST_FILES, MOST_SITE_BYTES};
 use crate::{ScanError, SourceTree};
-use site_base::{
-    FaultKind, ListError, MOST_BYTES, Memory, PathMap, ReadError, SharedBytes, SitePath,
-};
+use site_base::{FaultKind, ListError, MOST_BYTES, Memory, PathMap, SharedBytes, SitePath};
 use std::alloc::Global;
 
 // The files that were read, in byte order, or the path at which their sum passed its limit.
@@ -161,11 +159,7 @@ fn read_one<S: SourceTree>(
     ensures cause { HasCauseOf ScanError.Failed (S.failures source.old) (S.failures source.new) result }
     ensures no_limit { (fault : SiteFault) → IsErrOf result (ScanError.Limit fault) → ⊥ }
 {
-    match source.read(alloc, path) {
-        Ok(bytes) => Ok(bytes),
-        Err(ReadError::Failed) => Err(ScanError::Failed),
-        Err(ReadError::Memory) => Err(ScanError::Memory),
-    }
+    Ok(source.read(alloc, path)?)
 }
 
 fn measure_one<S: SourceTree>(
@@ -179,9 +173,5 @@ fn measure_one<S: SourceTree>(
     ensures cause { HasCauseOf ScanError.Failed (S.failures source.old) (S.failures source.new) result }
     ensures no_limit { (fault : SiteFault) → IsErrOf result (ScanError.Limit fault) → ⊥ }
 {
-    match source.measure(alloc, path) {
-        Ok(length) => Ok(length),
-        Err(ReadError::Failed) => Err(ScanError::Failed),
-        Err(ReadError::Memory) => Err(ScanError::Memory),
-    }
+    Ok(source.measure(alloc, path)?)
 }

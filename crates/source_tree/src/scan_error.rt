@@ -2,7 +2,7 @@
 ghost use Rattle.std.specs.Prelude.{◌≡◌};
 ghost use Rattle.site_base.specs.Faults.{fault_at};
 
-use site_base::{FaultKind, Memory, SiteFault, SitePath};
+use site_base::{FaultKind, Memory, ReadError, SiteFault, SitePath};
 
 /// Why a scan gave no files.
 #[derive(Drop)]
@@ -24,6 +24,21 @@ impl ScanError {
             line: 0,
             kind,
         })
+    }
+}
+
+/// A file that could not be read is a failure of the source.
+impl From<ReadError> for ScanError {
+    ghost use Rattle.std.specs.Prelude.{◌≡◌};
+    ghost use Rattle.source_tree.specs.Unread.{unread};
+
+    ghost from_gives = { λ read error. error ≡ unread read };
+
+    fn from(error: ReadError) -> ScanError {
+        match error {
+            ReadError::Failed => ScanError::Failed,
+            ReadError::Memory => ScanError::Memory,
+        }
     }
 }
 

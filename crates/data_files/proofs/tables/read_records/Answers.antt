@@ -4,7 +4,9 @@ use Rattle.csv.specs.Records.{fields_of}
 use Rattle.csv.specs.declared.parser.Config.{Config}
 use Rattle.csv.specs.declared.parser.State.TheVariants as st
 use Rattle.csv.proofs.ReadFacts.{rows-more}
+use Rattle.data_files.specs.Columns.{GoesOn}
 use Rattle.data_files.specs.Tables.{separated}
+use Rattle.data_files.proofs.RecordLaws.{ok_and}
 use Rattle.data_files.proofs.tables.read_records.Goals as goal
 
 pub loop-row-init : goal.loop-row-init
@@ -32,7 +34,8 @@ loop-row-init c =
 pub loop-row-preserved : goal.loop-row-preserved
 loop-row-preserved c =
     let inv = c.loop-row.invariant in
-    let row = fields_of c.in-Ok.row in
-    let s = rw (c.in-Some.is, c.in-Ok.is) at ((c.next.ensures.steps inv.2 inv.0).0 inv.1) in
+    let found = ok_and c.in-Some.row (λ found. GoesOn c.loop-row.table (fields_of found) c.in_ok-table.table) c.in_ok-table.ensures in
+    let row = fields_of found.0 in
+    let s = rw (c.in-Some.is, found.1) at ((c.next.ensures.steps inv.2 inv.0).0 inv.1) in
     let m = rows-more (λ (s : Bor (List ℕ)). Some s.now) c.loop-row.row-iterator.rdr c.next.new.self.rdr row (separated c.args.separator) st.StartRecord (strip_bom c.args.text.now) inv.4 inv.6 inv.3 inv.5 inv.7 s.0 in
-    (s.0.3 ∙ inv.0, inl s.1, s.3, s.0.2 ∙ inv.3, m.0, m.1, inv.6 ++ row ∷ [], m.2, c.in_ok-table-in-Ok.ensures inv.6 inv.8)
+    (s.0.3 ∙ inv.0, inl s.1, s.3, s.0.2 ∙ inv.3, m.0, m.1, inv.6 ++ row ∷ [], m.2, found.2 inv.6 inv.8)

@@ -1,6 +1,5 @@
 use Rattle.std.proofs.Common.{length, ◌*◌, ◌≡◌, ◌+◌, ◌-◌, ◌≤◌, drop}
-use Rattle.front_yaml.specs.Flow.{node, collection, items, pairs, hash_pairs}
-use Rattle.front_yaml.proofs.FlowLaws.{with_items, with_pairs}
+use Rattle.front_yaml.specs.Flow.{node, collection, items, pairs, with_items, with_pairs}
 use Rattle.front_yaml.proofs.flow_values.+flow.Given as goal
 
 abbrev pub decreases-collection : goal.decreases-collection
@@ -21,32 +20,38 @@ decreases-item_part l = 10 * l.depth + 4
 abbrev pub decreases-pair_part : goal.decreases-pair_part
 decreases-pair_part l = 10 * l.depth + 4
 
+abbrev pub decreases-add_items : goal.decreases-add_items
+decreases-add_items l = 10 * l.depth + 5
+
+abbrev pub decreases-add_pairs : goal.decreases-add_pairs
+decreases-add_pairs l = 10 * l.depth + 5
+
 abbrev pub decreases-items : goal.decreases-items
-decreases-items l = 10 * l.depth + 5
+decreases-items l = 10 * l.depth + 6
 
 abbrev pub decreases-pairs : goal.decreases-pairs
-decreases-pairs l = 10 * l.depth + 5
+decreases-pairs l = 10 * l.depth + 6
 
 abbrev pub decreases-list : goal.decreases-list
-decreases-list l = 10 * l.depth + 6
+decreases-list l = 10 * l.depth + 7
 
 abbrev pub decreases-hash : goal.decreases-hash
-decreases-hash l = 10 * l.depth + 6
+decreases-hash l = 10 * l.depth + 7
 
-abbrev pub invariant-items-loop-n : goal.invariant-items-loop-n
-invariant-items-loop-n l = record {
+abbrev pub invariant-add_items-loop-n : goal.invariant-add_items-loop-n
+invariant-add_items-loop-n l = record {
   within : l.n ≤ length l.text;
-  told : with_items l.n l.items (items (node (collection l.depth)) (drop l.n l.text)) ≡ items (node (collection l.depth)) l.text;
+  told : with_items l.n l.list (items (node (collection l.depth)) (drop l.n l.text)) ≡ with_items 0 l.fn.list (items (node (collection l.depth)) l.text);
 }
 
-abbrev pub decreases-items-loop-n : goal.decreases-items-loop-n
-decreases-items-loop-n l = length l.text - l.n
+abbrev pub decreases-add_items-loop-n : goal.decreases-add_items-loop-n
+decreases-add_items-loop-n l = length l.text - l.n
 
-abbrev pub invariant-pairs-loop-n : goal.invariant-pairs-loop-n
-invariant-pairs-loop-n l = record {
+abbrev pub invariant-add_pairs-loop-n : goal.invariant-add_pairs-loop-n
+invariant-add_pairs-loop-n l = record {
   within : l.n ≤ length l.text;
-  told : with_pairs l.n l.pairs (pairs (node (collection l.depth)) (drop l.n l.text)) ≡ hash_pairs (node (collection l.depth)) l.text;
+  told : with_pairs l.n l.hash (pairs (node (collection l.depth)) (drop l.n l.text)) ≡ with_pairs 0 l.fn.hash (pairs (node (collection l.depth)) l.text);
 }
 
-abbrev pub decreases-pairs-loop-n : goal.decreases-pairs-loop-n
-decreases-pairs-loop-n l = length l.text - l.n
+abbrev pub decreases-add_pairs-loop-n : goal.decreases-add_pairs-loop-n
+decreases-add_pairs-loop-n l = length l.text - l.n

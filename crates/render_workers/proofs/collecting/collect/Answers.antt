@@ -4,6 +4,7 @@ use Rattle.round_core.specs.Meant.{given_by}
 use Rattle.render_workers.specs.Brought.{all_placed}
 use Rattle.render_workers.proofs.WhyLaws.{whys-few}
 use Rattle.render_workers.proofs.CollectLaws.{Collected, right-at, went-on, ended-at, collected-all}
+use Rattle.render_workers.proofs.TallyLaws.{grows_more}
 use Rattle.render_workers.proofs.PlaceLaws.{begun, length-placed}
 use Rattle.render_workers.proofs.collecting.collect.Goals as goal
 
@@ -17,6 +18,7 @@ loop-item-init g c =
     let placed : ws ≡ all_placed all.brought.items (replicate (length (g.W.World.names w)) None) = c.in_ok-places.ensures ∙ ap (λ n. all_placed all.brought.items (replicate n None)) c.items.ensures in
     record {
       room = ap length placed ∙ length-placed all.brought.items _ ∙ length-replicate (length (g.W.World.names w)) None;
+      grown = (all.tally, c.in_ok-join.ensures);
       collected = subst (λ n. Collected given n 0 p c.args.memo.now c.args.tally.now c.join.new.self ws) (c.new-progress.ensures.bytes ∙ c.fixed_bytes.ensures)
           (begun _ given p c.args.tally.now c.join.new.self all.tally all.seat all.brought.items ws c.new-progress.ensures.outs c.new-progress.ensures.why c.in_ok-join.ensures c.requires.0 c.requires.1 placed);
     }
@@ -33,14 +35,14 @@ collect_next-requires-clause-right g c =
     right-at given (g.met.W.World.names_differ w) (g.W.World.fixed w) at.item within at.progress at.memo c.args.tally.now at.tally at.places.items c.take_from-work.new.places.items c.take_from-work.result
     at.invariant.collected c.take_from-work.ensures.taken c.take_from-work.ensures.rest
 
-pub returns-in-Err : goal.returns-in-Err
-returns-in-Err g c =
+pub returns-in-Err-clause-worked : goal.returns-in-Err-clause-worked
+returns-in-Err-clause-worked g c =
     let w = c.args.world.now in
     let given = given_by (g.W.World.names w) (g.W.World.sight w) g.R.Meaning.ItemMeaning.item c.args.memo.now in
     let at = c.loop-item in
     let within : at.item < length (g.W.World.names w) = omega (arith, c.items-item-end.ensures, c.loop-item-test.true) in
     ended-at given (g.met.W.World.names_differ w) (g.W.World.fixed w) at.item within at.progress at.memo c.args.tally.now at.tally at.places.items c.take_from-work.new.places.items c.take_from-work.result
-    at.invariant.collected c.take_from-work.ensures.taken c.take_from-work.ensures.rest c.collect_next.new.progress c.collect_next.new.memo c.collect_next.new.tally c.in-Err.error c.in-Err.ensures
+    at.invariant.collected c.take_from-work.ensures.taken c.take_from-work.ensures.rest c.collect_next.new.progress c.collect_next.new.memo c.collect_next.new.tally c.in-Err.error c.in-Err.ensures.turn
 
 pub loop-item-preserved : goal.loop-item-preserved
 loop-item-preserved g c =
@@ -51,7 +53,8 @@ loop-item-preserved g c =
     record {
       room = ap length c.take_from-work.ensures.rest ∙ length-set at.places.items at.item None ∙ at.invariant.room;
       collected = went-on given (g.met.W.World.names_differ w) (g.W.World.fixed w) at.item within at.progress at.memo c.args.tally.now at.tally at.places.items c.take_from-work.new.places.items c.take_from-work.result
-          at.invariant.collected c.take_from-work.ensures.taken c.take_from-work.ensures.rest c.collect_next.new.progress c.collect_next.new.memo c.collect_next.new.tally c.in-Ok.field-0 c.in-Ok.ensures;
+          at.invariant.collected c.take_from-work.ensures.taken c.take_from-work.ensures.rest c.collect_next.new.progress c.collect_next.new.memo c.collect_next.new.tally c.in-Ok.field-0 c.in-Ok.ensures.turn;
+      grown = grows_more _ _ _ at.invariant.grown c.collect_next.ensures.grows;
     }
 
 pub closed-requires : goal.closed-requires
@@ -61,11 +64,17 @@ closed-requires g c =
     let few : length c.loop-item.progress.why ≤ c.loop-item.item = subst (λ ws. length ws ≤ c.loop-item.item) (sym c.loop-item.invariant.collected.so_far.why) (whys-few given c.loop-item.item) in
     omega (arith, c.items-item-end.ensures)
 
-pub returns : goal.returns
-returns g c =
+pub returns-in-Err-clause-grows : goal.returns-in-Err-clause-grows
+returns-in-Err-clause-grows g c = grows_more _ _ _ c.loop-item.invariant.grown c.collect_next.ensures.grows
+
+pub returns-clause-grows : goal.returns-clause-grows
+returns-clause-grows g c = c.loop-item.invariant.grown
+
+pub returns-clause-worked : goal.returns-clause-worked
+returns-clause-worked g c =
     let w = c.args.world.now in
     let given = given_by (g.W.World.names w) (g.W.World.sight w) g.R.Meaning.ItemMeaning.item c.args.memo.now in
     let at = c.loop-item in
     let all : at.item ≡ length (g.W.World.names w) = omega (arith, c.items-item-end.ensures) in
     let e = c.closed.ensures in
-    collected-all given (g.W.World.fixed w) at.item at.progress at.memo c.closed.new.memo c.args.tally.now at.tally _ c.closed.result all at.invariant.collected e.outs e.why e.reused e.kept
+    collected-all given (g.met.W.World.names_differ w) (g.W.World.fixed w) at.item at.progress at.memo c.closed.new.memo c.args.tally.now at.tally _ c.closed.result all at.invariant.collected e.outs e.why e.reused e.kept

@@ -2,7 +2,9 @@ use Rattle.std.proofs.Common.{◌≡◌, ◌<◌, ◌≤◌, ◌∙◌, length, 
 use Rattle.round_core.specs.Meant.{given_by}
 use Rattle.render_workers.proofs.FoldLaws.{told}
 use Rattle.render_workers.proofs.WhyLaws.{whys-few}
+use Rattle.render_workers.specs.Whys.{why_names, whys_below}
 use Rattle.render_workers.proofs.RoundLaws.{SoFar, start, went_on, ended_at, whole}
+use Rattle.render_workers.proofs.TallyLaws.{grows_more}
 use Rattle.render_workers.proofs.serial.regenerate_serial.Goals as goal
 
 pub loop-item-init : goal.loop-item-init
@@ -18,7 +20,19 @@ returns-in-Err-clause-round g c =
     let given = given_by (g.W.World.names w) (g.W.World.sight w) g.R.Meaning.ItemMeaning.item c.args.memo.now in
     let within : c.loop-item.item < length (g.W.World.names w) = omega (arith, c.items-item-end.ensures, c.loop-item-test.true) in
     ended_at given (g.met.W.World.names_differ w) (g.W.World.fixed w) c.loop-item.item within c.loop-item.progress c.next_item.new.progress c.loop-item.memo c.next_item.new.memo c.args.tally.now c.loop-item.tally c.next_item.new.tally
-    c.loop-item.invariant c.in-Err.error c.in-Err.ensures
+    c.loop-item.invariant c.in-Err.error c.in-Err.ensures.turn
+
+pub returns-in-Err-clause-grows : goal.returns-in-Err-clause-grows
+returns-in-Err-clause-grows g c =
+    let w = c.args.world.now in
+    let given = given_by (g.W.World.names w) (g.W.World.sight w) g.R.Meaning.ItemMeaning.item c.args.memo.now in
+    grows_more _ _ _ (why_names (whys_below given c.loop-item.item), c.loop-item.invariant.tally) c.next_item.ensures.grows
+
+pub returns-clause-grows : goal.returns-clause-grows
+returns-clause-grows g c =
+    let w = c.args.world.now in
+    let given = given_by (g.W.World.names w) (g.W.World.sight w) g.R.Meaning.ItemMeaning.item c.args.memo.now in
+    (why_names (whys_below given c.loop-item.item), c.loop-item.invariant.tally)
 
 pub returns-in-Err-clause-told : goal.returns-in-Err-clause-told
 returns-in-Err-clause-told g c = let w = c.args.world.now in told (given_by (g.W.World.names w) (g.W.World.sight w) g.R.Meaning.ItemMeaning.item c.args.memo.now) (g.met.W.World.lawful w) (g.W.World.fixed w)
@@ -29,7 +43,7 @@ loop-item-preserved g c =
     let given = given_by (g.W.World.names w) (g.W.World.sight w) g.R.Meaning.ItemMeaning.item c.args.memo.now in
     let within : c.loop-item.item < length (g.W.World.names w) = omega (arith, c.items-item-end.ensures, c.loop-item-test.true) in
     went_on given (g.met.W.World.names_differ w) (g.W.World.fixed w) c.loop-item.item within c.loop-item.progress c.next_item.new.progress c.loop-item.memo c.next_item.new.memo c.args.tally.now c.loop-item.tally c.next_item.new.tally
-    c.loop-item.invariant c.in-Ok.field-0 c.in-Ok.ensures
+    c.loop-item.invariant c.in-Ok.field-0 c.in-Ok.ensures.turn
 
 pub closed-requires : goal.closed-requires
 closed-requires g c =
@@ -44,7 +58,7 @@ returns-clause-round g c =
     let given = given_by (g.W.World.names w) (g.W.World.sight w) g.R.Meaning.ItemMeaning.item c.args.memo.now in
     let all : c.loop-item.item ≡ length (g.W.World.names w) = omega (arith, c.items-item-end.ensures) in
     let e = c.closed.ensures in
-    whole given (g.W.World.fixed w) c.loop-item.item c.loop-item.progress c.loop-item.memo c.closed.new.memo c.args.tally.now c.loop-item.tally _ all c.loop-item.invariant e.outs e.why e.reused e.kept
+    whole given (g.met.W.World.names_differ w) (g.W.World.fixed w) c.loop-item.item c.loop-item.progress c.loop-item.memo c.closed.new.memo c.args.tally.now c.loop-item.tally _ all c.loop-item.invariant e.outs e.why e.reused e.kept
 
 pub returns-clause-told : goal.returns-clause-told
 returns-clause-told g c = let w = c.args.world.now in told (given_by (g.W.World.names w) (g.W.World.sight w) g.R.Meaning.ItemMeaning.item c.args.memo.now) (g.met.W.World.lawful w) (g.W.World.fixed w)

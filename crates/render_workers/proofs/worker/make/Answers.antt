@@ -12,7 +12,7 @@ returns-in-Kept g c =
     let work = c.loop.invariant.work in
     let e = c.in_ok-add-in-Kept.ensures in
     let part = part-kept given (g.met.W.World.lawful w) c.args.table.now at.hand work.1.1 c.args.item c.requires.item at.part.seat c.add.new.self.seat at.part.tally c.settle.new.tally at.part.brought.items c.add.new.self.brought.items
-    work.0 e.seat c.in-Kept.entry.now c.in-Kept.ensures e.brought in
+    work.0 e.seat c.in-Kept.entry.now c.in-Kept.ensures.settled e.brought in
     (subst (λ t. IsPart given c.args.table.now c.add.new.self.seat t c.add.new.self.brought.items) (sym e.tally) part, work.1)
 
 pub returns-in-New : goal.returns-in-New
@@ -23,7 +23,7 @@ returns-in-New g c =
     let work = c.loop.invariant.work in
     let e = c.in_ok-add-in-New.ensures in
     let part = part-new given (g.met.W.World.lawful w) c.args.table.now at.hand work.1.1 c.args.item c.requires.item at.part.seat c.add-in-New.new.self.seat at.part.tally c.settle.new.tally at.part.brought.items c.add-in-New.new.self.brought.items
-    work.0 e.seat c.in-New.entry c.in-New.why c.in-New.ensures e.brought in
+    work.0 e.seat c.in-New.entry c.in-New.why c.in-New.ensures.settled e.brought in
     (subst (λ t. IsPart given c.args.table.now c.add-in-New.new.self.seat t c.add-in-New.new.self.brought.items) (sym e.tally) part, work.1)
 
 pub returns-then-not-learn : goal.returns-then-not-learn
@@ -31,7 +31,7 @@ returns-then-not-learn g c =
     let w = c.args.world.now in
     let given = given_by (g.W.World.names w) (g.W.World.sight w) g.R.Meaning.ItemMeaning.item c.args.memo.now in
     let work = c.loop.invariant.work in
-    let same = waits-same (g.W.World.names w) c.args.item c.requires.item _ g.R.Meaning.ItemMeaning.item _ _ _ _ c.in-Needs.ensures in
+    let same = waits-same (g.W.World.names w) c.args.item c.requires.item _ g.R.Meaning.ItemMeaning.item _ _ _ _ c.in-Needs.ensures.settled in
     learned given c.args.table.now _ c.learn.new.worker.part c.loop.worker.part.tally _ c.learn.new.worker.hand c.learn.ensures.part same work.0 work.1 c.learn.ensures.hand
 
 pub loop-preserved : goal.loop-preserved
@@ -39,7 +39,7 @@ loop-preserved g c =
     let w = c.args.world.now in
     let given = given_by (g.W.World.names w) (g.W.World.sight w) g.R.Meaning.ItemMeaning.item c.args.memo.now in
     let work = c.loop.invariant.work in
-    let same = waits-same (g.W.World.names w) c.args.item c.requires.item _ g.R.Meaning.ItemMeaning.item _ _ _ _ c.in-Needs.ensures in
+    let same = waits-same (g.W.World.names w) c.args.item c.requires.item _ g.R.Meaning.ItemMeaning.item _ _ _ _ c.in-Needs.ensures.settled in
     record {
       next = search rules;
       finite = search rules;

@@ -1,15 +1,11 @@
-use Rattle.std.proofs.Common.{ap, refl, subst, sym, ◌∙◌}
+use Rattle.std.proofs.Common.{ap, refl}
 use Rattle.std.proofs.Math.Facts.{to_z-of_z}
 use Rattle.site_session.specs.Session.{start}
-use Rattle.site_session.specs.Tallied.{effects}
-use Rattle.site_session.specs.Standing.{Standing}
 use Rattle.site_words.specs.declared.orders.Options.{Options}
-use Rattle.site_program.specs.Sessions.{Counts, SessionRun}
 use Rattle.site_program.specs.declared.usage.TopCall.TheVariants as call
 use Rattle.site_program.proofs.OneBuilds.{ends_unread, same_run}
-use Rattle.site_program.proofs.Onces.{holds_first}
 use Rattle.site_program.proofs.Orders.{build_jobs_in_range, in_time, known, none_for_jobs, ordered, same_build, same_session, same_start, session_jobs_in_range}
-use Rattle.site_program.proofs.Turns.{session_none}
+use Rattle.site_program.proofs.Turns.{same_session_run, session_unread}
 use Rattle.site_program.proofs.jobs.run_jobs.Goals as goal
 
 pub build_by_crew-requires-clause-moment : goal.build_by_crew-requires-clause-moment
@@ -33,25 +29,17 @@ returns-in-Build-clause-build g c = λ options is.
     let moment_is = to_z-of_z c.ranges.moment in
     let order_is = ordered call.Jobs c.args.words.now _ _ _ _ moment_is c.in-Ok.ensures is in
     let options_is = same_build c.in-Ok.order c.in-Build.options options c.in-Build.is order_is in
-    same_run g.O.OutTree.contents _ _ _ _ _ _ _ _ _ _ _ _ _ _ _ _ (same_start _ _ _ _ (ap (λ (o : Options). o.settings) options_is) moment_is) (ap (λ (o : Options). o.why) options_is) refl c.build_by_crew.ensures
+    (same_run _ _ _ _ _ _ _ _ (same_start _ _ _ _ (ap (λ (o : Options). o.settings) options_is) moment_is) (ap (λ (o : Options). o.why) options_is) refl c.build_by_crew.ensures, refl)
 
 pub returns-in-Session-clause-session : goal.returns-in-Session-clause-session
-returns-in-Session-clause-session g c = λ given options text before is why told out bytes w.
+returns-in-Session-clause-session g c = λ options is.
     let moment_is = to_z-of_z c.ranges.moment in
     let order_is = ordered call.Jobs c.args.words.now _ _ _ _ moment_is c.in-Ok.ensures is in
     let options_is = same_session c.in-Ok.order c.in-Session.options options c.in-Session.is order_is in
-    let counts : Counts = record {
-      source_first = g.S.SourceTree.failures c.args.source.now;
-      source_now = g.S.SourceTree.failures c.run_session.new.source;
-      output_first = g.O.OutTree.failures c.args.out.now;
-      output_now = g.O.OutTree.failures c.run_session.new.out;
-    } in
-    subst (λ (s : Standing). SessionRun g.O.OutTree.contents given s text before (g.I.ByteSource.left c.run_session.new.input) (g.K.ByteSink.taken c.run_session.new.sink) (effects c.args.out.now c.args.tally.now) (effects c.run_session.new.out c.run_session.new.tally) counts c.run_session.result) (same_start _ _ _ _ (ap (λ (o : Options). o.settings) options_is) moment_is)
-    (c.run_session.ensures.run given text before (why ∙ ap (λ (o : Options). o.why) (sym options_is)) told out bytes w)
+    same_session_run _ _ _ _ _ _ _ _ _ (same_start _ _ _ _ (ap (λ (o : Options). o.settings) options_is) moment_is) (ap (λ (o : Options). o.why) options_is) c.run_session.ensures
 
 pub returns-in-Err-Memory-clause-build : goal.returns-in-Err-Memory-clause-build
-returns-in-Err-Memory-clause-build g c = λ options is. ends_unread g.O.OutTree.contents (start options.settings c.args.moment) options.why _ _ _ _ _ _ _ refl refl
+returns-in-Err-Memory-clause-build g c = λ options is. (ends_unread (start options.settings c.args.moment) options.why _ _ refl refl, refl)
 
 pub returns-in-Err-Memory-clause-session : goal.returns-in-Err-Memory-clause-session
-returns-in-Err-Memory-clause-session g c = λ given options text before is why told out bytes w.
-    session_none g.O.OutTree.contents given (start options.settings c.args.moment) text before _ _ _ _ _ _ (holds_first (start options.settings c.args.moment) _ given.output refl out) bytes w refl
+returns-in-Err-Memory-clause-session g c = λ options is. session_unread (start options.settings c.args.moment) options.why _ _ _ refl refl

@@ -6,7 +6,7 @@ use Rattle.site_program.proofs.line.do_line.Goals as goal
 pub returns-in-Err-clause-stopped : goal.returns-in-Err-clause-stopped
 returns-in-Err-clause-stopped g c = λ given before why told h w. (
   [],
-  inl (record { memory = refl; kept = c.in-Err.ensures.err; output = subst (λ files. Holds files c.args.session.now.belief given.output) (sym c.in-Err.ensures.err) h; nothing = refl }),
+  inl (record { memory = refl; spares = c.in-Err.ensures.spares; output = subst (λ files. Holds files c.args.session.now.belief given.output) (sym c.in-Err.ensures.spares.output.files) h; nothing = refl }),
   w ∙ ap Some (sym (append-nil before)),
   λ _. refl,
 )
@@ -20,7 +20,7 @@ returns-in-Err-write_reply-clause-stopped g c = λ given before why told h w.
         new = c.answer.new.self;
         answers = c.in-Ok.ensures.answers given told h;
         output = c.in-Ok.ensures.belief given.output h;
-        leaves = record { built = c.in-Ok.ensures.leaves given.output h; untouched = c.in-Ok.ensures.untouched; tallied = c.in-Ok.ensures.tallied };
+        leaves = c.in-Ok.ensures.leaves;
         taken = p.0;
         part_is = refl;
       }),

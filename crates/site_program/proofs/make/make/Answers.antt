@@ -1,4 +1,4 @@
-use Rattle.std.proofs.Common.{◌≡◌, ◌∙◌, ◌++◌, ap, refl, sym, subst, Some}
+use Rattle.std.proofs.Common.{◌≡◌, ◌∙◌, ◌++◌, ap, refl, sym, subst, Some, arith}
 use Rattle.std.proofs.Math.Facts.{to_z-of_z}
 use Rattle.std.specs.FinMap.{empty}
 use Rattle.out_tree.proofs.ClashLemmas.{none_differ}
@@ -33,27 +33,23 @@ returns-in_default-tell_build g c =
       sink_fault = c.tell_build.ensures.sink_fault;
     }
 
-pub returns-in-Ok-edit-clause-ends : goal.returns-in-Ok-edit-clause-ends
-returns-in-Ok-edit-clause-ends g c =
+pub returns-in-Ok-edit : goal.returns-in-Ok-edit
+returns-in-Ok-edit g c =
     let number = c.args.number in let count = c.args.count in let moment = c.args.moment in
     let made_is : c.holding-session.result ≡ made number count moment = c.holding-session.ensures ∙ (λ i. record (start make_settings (to_z-of_z c.ranges.moment i)) { files = c.in-Ok.ensures i }) in
     let edited_is : c.edit.new.session ≡ edited number count moment = c.in-Ok-edit.ensures ∙ ap (λ (s : Standing). record s { files = edited_site number count }) (c.tell_build.ensures.new c.in-Done.is ∙ ap (λ s. (built s).0) made_is) in
     let none = done_none (first_fault (made number count moment)) (subst (λ (s : Status). EndsAs (verdict_status (first_fault (made number count moment))) s) c.in-Done.is
     (subst (λ (s : Standing). EndsAs (verdict_status (first_fault s)) c.tell_build.result) made_is c.tell_build.ensures.ends)) in
-    then_ends (first_fault (made number count moment)) (first_fault (edited number count moment)) c.tell_build-in-Ok-edit.result none
-    (subst (λ (s : Standing). EndsAs (verdict_status (first_fault s)) c.tell_build-in-Ok-edit.result) edited_is c.tell_build-in-Ok-edit.ensures.ends)
-
-pub returns-in-Ok-edit-clause-took : goal.returns-in-Ok-edit-clause-took
-returns-in-Ok-edit-clause-took g c = λ before w.
-    let number = c.args.number in let count = c.args.count in let moment = c.args.moment in
-    let made_is : c.holding-session.result ≡ made number count moment = c.holding-session.ensures ∙ (λ i. record (start make_settings (to_z-of_z c.ranges.moment i)) { files = c.in-Ok.ensures i }) in
-    let edited_is : c.edit.new.session ≡ edited number count moment = c.in-Ok-edit.ensures ∙ ap (λ (s : Standing). record s { files = edited_site number count }) (c.tell_build.ensures.new c.in-Done.is ∙ ap (λ s. (built s).0) made_is) in
-    let none = done_none (first_fault (made number count moment)) (subst (λ (s : Status). EndsAs (verdict_status (first_fault (made number count moment))) s) c.in-Done.is
-    (subst (λ (s : Standing). EndsAs (verdict_status (first_fault s)) c.tell_build.result) made_is c.tell_build.ensures.ends)) in
-    let first = build_bytes (made number count moment) in
-    let mid = done_took first (verdict_status (first_fault (made number count moment))) before _
-    (subst (λ (s : Status). Said first (verdict_status (first_fault (made number count moment))) before (g.K.ByteSink.taken c.tell_build.new.sink) s) c.in-Done.is
-    (subst (λ (s : Standing). Said (build_bytes s) (verdict_status (first_fault s)) before (g.K.ByteSink.taken c.tell_build.new.sink) c.tell_build.result) made_is (c.tell_build.ensures.took before w))) in
-    then_second first (build_bytes (edited number count moment)) (first_fault (made number count moment)) (first_fault (edited number count moment)) before _ c.tell_build-in-Ok-edit.result none
-    (subst (λ (s : Standing). Said (build_bytes s) (verdict_status (first_fault s)) (before ++ first) (g.K.ByteSink.taken c.tell_build-in-Ok-edit.new.sink) c.tell_build-in-Ok-edit.result) edited_is
-    (c.tell_build-in-Ok-edit.ensures.took (before ++ first) mid))
+    record {
+      ends = then_ends (first_fault (made number count moment)) (first_fault (edited number count moment)) c.tell_build-in-Ok-edit.result none
+          (subst (λ (s : Standing). EndsAs (verdict_status (first_fault s)) c.tell_build-in-Ok-edit.result) edited_is c.tell_build-in-Ok-edit.ensures.ends);
+      took = λ before w.
+          let first = build_bytes (made number count moment) in
+          let mid = done_took first (verdict_status (first_fault (made number count moment))) before _
+          (subst (λ (s : Status). Said first (verdict_status (first_fault (made number count moment))) before (g.K.ByteSink.taken c.tell_build.new.sink) s) c.in-Done.is
+          (subst (λ (s : Standing). Said (build_bytes s) (verdict_status (first_fault s)) before (g.K.ByteSink.taken c.tell_build.new.sink) c.tell_build.result) made_is (c.tell_build.ensures.took before w))) in
+          then_second first (build_bytes (edited number count moment)) (first_fault (made number count moment)) (first_fault (edited number count moment)) before _ c.tell_build-in-Ok-edit.result none
+          (subst (λ (s : Standing). Said (build_bytes s) (verdict_status (first_fault s)) (before ++ first) (g.K.ByteSink.taken c.tell_build-in-Ok-edit.new.sink) c.tell_build-in-Ok-edit.result) edited_is
+          (c.tell_build-in-Ok-edit.ensures.took (before ++ first) mid));
+      sink_fault = λ e. (let rose = c.tell_build-in-Ok-edit.ensures.sink_fault e in omega (arith, rose, c.tell_build.ensures.later));
+    }

@@ -4,7 +4,9 @@ use Rattle.site_session.specs.Session.{start}
 use Rattle.site_session.specs.Standing.{Standing}
 use Rattle.site_program.specs.Checks.{OneCheck}
 use Rattle.site_program.specs.Makes.{OneMake}
+use Rattle.site_program.specs.Stages.{stage}
 use Rattle.site_program.specs.declared.usage.TopCall.TheVariants as call
+use Rattle.site_program.proofs.Completes.{one_check, one_make}
 use Rattle.site_program.proofs.OneBuilds.{ends_unread, same_run}
 use Rattle.site_program.proofs.Orders.{in_time, known, makes_in_range, none_for_once, ordered, same_check, same_make, same_once, same_start}
 use Rattle.site_program.proofs.once.run_once.Goals as goal
@@ -21,38 +23,38 @@ unreachable-requires g c = none_for_once c.in-Ok.order (known call.Once c.args.w
 -- the order is the one that the clause speaks of, and a moment that is handed on is the same number
 pub returns-in-Once-clause-once : goal.returns-in-Once-clause-once
 returns-in-Once-clause-once g c = λ settings is.
+    let at = stage g.S.SourceTree.files g.S.SourceTree.failures g.O.OutTree.contents g.O.OutTree.calls g.O.OutTree.failures g.K.ByteSink.taken g.K.ByteSink.failures in
     let moment_is = to_z-of_z c.ranges.moment in
     let order_is = ordered call.Once c.args.words.now _ _ _ _ moment_is c.in-Ok.ensures is in
     let settings_is = same_once c.in-Ok.order c.in-Once.settings settings c.in-Once.is order_is in (
       c.build_one_by_one.new.tally,
-      same_run g.O.OutTree.contents _ _ false false _ _ _ _ _ _ _ _ _ _ _ _ (same_start _ _ _ _ settings_is moment_is) refl c.new-tally.ensures c.build_one_by_one.ensures,
+      same_run _ _ false false _ _ _ _ (same_start _ _ _ _ settings_is moment_is) refl (λ i. at c.args.source.now c.args.out.now (c.new-tally.ensures i) c.args.sink.now) c.build_one_by_one.ensures,
     )
 
 pub returns-in-Check-clause-check : goal.returns-in-Check-clause-check
 returns-in-Check-clause-check g c = λ settings is.
+    let at = stage g.S.SourceTree.files g.S.SourceTree.failures g.O.OutTree.contents g.O.OutTree.calls g.O.OutTree.failures g.K.ByteSink.taken g.K.ByteSink.failures in
+    let was = at c.args.source.now c.args.out.now [] c.args.sink.now in
+    let now = at c.scan_and_check.new.source c.args.out.now [] c.scan_and_check.new.sink in
     let moment_is = to_z-of_z c.ranges.moment in
     let order_is = ordered call.Once c.args.words.now _ _ _ _ moment_is c.in-Ok.ensures is in
     let settings_is = same_check c.in-Ok.order c.in-Check.settings settings c.in-Check.is order_is in
-    subst (λ (s : Standing). OneCheck s (g.S.SourceTree.files c.args.source.now) (g.K.ByteSink.taken c.args.sink.now) (g.K.ByteSink.taken c.scan_and_check.new.sink) c.scan_and_check.result) (same_start _ _ _ _ settings_is moment_is)
-    (record { told = c.scan_and_check.ensures.told; took = c.scan_and_check.ensures.took })
+    subst (λ (s : Standing). OneCheck s was now c.scan_and_check.result) (same_start _ _ _ _ settings_is moment_is) (one_check _ was now c.scan_and_check.result c.scan_and_check.ensures refl)
 
 pub returns-in-Make-clause-make : goal.returns-in-Make-clause-make
 returns-in-Make-clause-make g c = λ number count is.
+    let at = stage g.S.SourceTree.files g.S.SourceTree.failures g.O.OutTree.contents g.O.OutTree.calls g.O.OutTree.failures g.K.ByteSink.taken g.K.ByteSink.failures in
+    let was = at c.args.source.now c.args.out.now [] c.args.sink.now in
+    let now = at c.args.source.now c.args.out.now [] c.make.new.sink in
     let moment_is = to_z-of_z c.ranges.moment in
     let order_is = ordered call.Once c.args.words.now _ _ _ _ moment_is c.in-Ok.ensures is in
     let same = same_make c.in-Ok.order c.in-Make.number c.in-Make.count number count c.in-Make.is order_is in
-    subst (λ (t : ℕ × (ℕ × ℤ)). OneMake t.0 t.1.0 t.1.1 (g.K.ByteSink.taken c.args.sink.now) (g.K.ByteSink.taken c.make.new.sink) c.make.result) (λ i. (same.0 i, (same.1 i, moment_is i)))
-    (record { ends = c.make.ensures.ends; took = c.make.ensures.took })
+    subst (λ (t : ℕ × (ℕ × ℤ)). OneMake t.0 t.1.0 t.1.1 was now c.make.result) (λ i. (same.0 i, (same.1 i, moment_is i)))
+    (one_make c.in-Make.number c.in-Make.count _ was now c.make.result c.make.ensures refl refl)
 
 -- without memory for the words nothing was done
 pub returns-clause-once : goal.returns-clause-once
-returns-clause-once g c = λ settings is. ([], ends_unread g.O.OutTree.contents (start settings c.args.moment) false _ _ _ _ _ _ _ refl refl)
-
-pub returns-clause-check : goal.returns-clause-check
-returns-clause-check g c = λ settings is. record { told = λ given told. tt; took = λ given before told w. inl w }
-
-pub returns-clause-make : goal.returns-clause-make
-returns-clause-make g c = λ number count is. record { ends = inr (inr refl); took = λ before w. inr (inr (refl, inl w)) }
+returns-clause-once g c = λ settings is. ([], ends_unread (start settings c.args.moment) false _ _ refl refl)
 
 pub make-requires-clause-moment : goal.make-requires-clause-moment
 make-requires-clause-moment g c = in_time call.Once c.args.words.now _ _ c.in-Ok.ensures

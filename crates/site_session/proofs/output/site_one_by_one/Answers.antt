@@ -1,6 +1,6 @@
 use Rattle.site_session.specs.Full.{given_of}
 use Rattle.site_session.specs.Rounds.{in_order}
-use Rattle.site_session.proofs.Full.{came, counted}
+use Rattle.site_session.proofs.Full.{came, counted, laws_in_order}
 use Rattle.site_world.specs.Sights.{fixed_bytes}
 use Rattle.site_session.proofs.output.site_one_by_one.Goals as goal
 
@@ -10,4 +10,4 @@ output_of-requires-clause-counted g c =
 
 pub returns : goal.returns
 returns g c =
-    came in_order c.args.held.now c.args.memo.now c.args.site.now c.one_by_one-round.new.memo c.args.tally.now c.one_by_one-round.new.tally c.one_by_one-round.result c.output_of.result c.one_by_one-round.ensures c.output_of.ensures
+    came in_order laws_in_order c.args.held.now c.args.memo.now c.args.site.now c.one_by_one-round.new.memo c.args.tally.now c.one_by_one-round.new.tally c.one_by_one-round.result c.output_of.result c.one_by_one-round.ensures c.output_of.ensures

@@ -14,7 +14,7 @@ pub returns : goal.returns
 returns g c =
     let world = c.in_ok-world.world in let kept = c.args.memo.now in
     let result = c.regenerate.result in let memo = c.regenerate.new.memo in let before = c.args.tally.now in let after = c.regenerate.new.tally in
-    let gone = worked_gone (given_of world.held.now world.site.now kept) (fixed_bytes world.held.now world.site.now) result memo before after c.regenerate.ensures.round in
+    let gone = worked_gone (given_of world.held.now world.site.now kept) (fixed_bytes world.held.now world.site.now) result memo before after c.regenerate.ensures.round c.regenerate.ensures.grows in
     subst (λ (files : Files). IsGone in_any_order (given_of files c.args.site.now kept) (fixed_bytes files c.args.site.now) result memo before after) c.in_ok-world.ensures.held
     (subst (λ (site : Site). IsGone in_any_order (given_of world.held.now site kept) (fixed_bytes world.held.now site) result memo before after) c.in_ok-world.ensures.site gone)
 

@@ -3,6 +3,7 @@ use Rattle.std.proofs.Math.Facts.{to_z-of_z}
 use Rattle.site_base.specs.Ends.{SinkState}
 use Rattle.source_tree.specs.Memory.{SourceState}
 use Rattle.out_tree.specs.Memory.{OutState}
+use Rattle.site_session.specs.Scenes.{OutputSeen}
 use Rattle.site_session.specs.Session.{start}
 use Rattle.site_session.specs.Standing.{Standing}
 use Rattle.site_program.specs.Checks.{CheckTook, Checked}
@@ -36,7 +37,7 @@ returns-clause-check c = λ settings is.
     let order = ap (λ m. once_order c.in_ok-words.words m) same ∙ ap (λ w. once_order w c.args.moment) c.in_ok-words.ensures.words ∙ is in
     let source = ap (λ (s : SourceState). Some s.files) c.in_ok-ends.ensures.source in
     let given = given_of c.args.self.now in
-    subst (λ (s : Standing). Checked (after_scan given s) c.run_once-status.result) (ap (start settings) same) ((c.run_once-status.ensures.check settings order).told given source)
+    subst (λ (s : Standing). Checked (after_scan given s) c.run_once-status.result) (ap (start settings) same) ((c.run_once-status.ensures.check settings order).done.told given source)
 
 pub returns-clause-check_took : goal.returns-clause-check_took
 returns-clause-check_took c = λ settings is.
@@ -46,4 +47,10 @@ returns-clause-check_took c = λ settings is.
     let sink = ap (λ (s : SinkState). Some s.taken) c.in_ok-ends.ensures.sink in
     let given = given_of c.args.self.now in
     subst (λ (s : Standing). CheckTook given (after_scan given s) [] (Some c.run_once-status.new.sink.taken) c.run_once-status.result) (ap (start settings) same)
-    ((c.run_once-status.ensures.check settings order).took given [] source sink)
+    ((c.run_once-status.ensures.check settings order).done.took given [] source sink)
+
+pub returns-clause-check_untouched : goal.returns-clause-check_untouched
+returns-clause-check_untouched c = λ settings is.
+    let same = to_z-of_z c.ranges.moment in
+    let order = ap (λ m. once_order c.in_ok-words.words m) same ∙ ap (λ w. once_order w c.args.moment) c.in_ok-words.ensures.words ∙ is in
+    ap (λ (o : OutputSeen OutState). o.value.files) (c.run_once-status.ensures.check settings order).output ∙ ap (λ (o : OutState). o.files) c.in_ok-ends.ensures.out

@@ -4,10 +4,8 @@ use Rattle.site_base.specs.Ends.{InputState, SinkState}
 use Rattle.source_tree.specs.Memory.{SourceState}
 use Rattle.out_tree.specs.Memory.{OutState}
 use Rattle.site_session.specs.Session.{start}
-use Rattle.site_session.specs.Tallied.{effects}
 use Rattle.site_program.specs.Once.{jobs_order}
-use Rattle.site_program.specs.Sessions.{Counts}
-use Rattle.site_tests.specs.Scenarios.{contents, given_of, told_of}
+use Rattle.site_tests.specs.Scenarios.{given_of, memory_stage, told_of}
 use Rattle.site_tests.proofs.Told.{ended, session, took}
 use Rattle.site_tests.proofs.scenario.Scenario.run_jobs.Goals as goal
 
@@ -19,7 +17,7 @@ returns-clause-build g c = λ options is.
     let order = ap (λ m. jobs_order c.in_ok-words.words m) same ∙ ap (λ w. jobs_order w c.args.moment) c.in_ok-words.ensures.words ∙ is in
     let source = ap (λ (s : SourceState). Some s.files) c.in_ok-ends.ensures.source in
     let out = ap (λ (o : OutState). Some o.files) c.in_ok-ends.ensures.out in
-    ended (given_of c.args.self.now) _ _ _ _ _ _ (ap (start options.settings) same) out ((c.run_jobs-status.ensures.build options order).told (given_of c.args.self.now) source out)
+    ended (given_of c.args.self.now) _ _ _ _ _ _ (ap (start options.settings) same) out ((c.run_jobs-status.ensures.build options order).0.told (given_of c.args.self.now) source out)
 
 pub returns-clause-build_took : goal.returns-clause-build_took
 returns-clause-build_took g c = λ options is.
@@ -29,7 +27,7 @@ returns-clause-build_took g c = λ options is.
     let out = ap (λ (o : OutState). Some o.files) c.in_ok-ends.ensures.out in
     let sink = ap (λ (s : SinkState). Some s.taken) c.in_ok-ends.ensures.sink in
     let given = told_of c.args.self.now options in
-    took given _ _ _ _ (ap (start options.settings) same) ((c.run_jobs-status.ensures.build options order).took given [] refl source out sink)
+    took given _ _ _ _ (ap (start options.settings) same) ((c.run_jobs-status.ensures.build options order).0.took given [] refl source out sink)
 
 pub returns-clause-session : goal.returns-clause-session
 returns-clause-session g c = λ options is.
@@ -40,11 +38,9 @@ returns-clause-session g c = λ options is.
     let input = ap (λ (i : InputState). Some i.left) c.in_ok-ends.ensures.input in
     let sink = ap (λ (s : SinkState). Some s.taken) c.in_ok-ends.ensures.sink in
     let given = told_of c.args.self.now options in
-    let source_first = ap (λ (s : SourceState). s.failures) c.in_ok-ends.ensures.source in
-    let output_first = ap (λ (o : OutState). o.failures) c.in_ok-ends.ensures.out in
     let none = c.new-tally.ensures in (
       c.run_jobs-status.new.tally,
-      session contents given _ _ c.args.self.now.script.now _ _ _ _ _ _ _ _ (ap (start options.settings) same) (λ i. effects (c.in_ok-ends.ensures.out i) (none i))
-          (λ i. record { source_first = source_first i; source_now = c.run_jobs-status.new.source.failures; output_first = output_first i; output_now = c.run_jobs-status.new.out.failures })
-          (c.run_jobs-status.ensures.session given options c.args.self.now.script.now [] order refl source out input sink),
+      session given _ _ c.args.self.now.script.now _ _ _ _ _ (ap (start options.settings) same)
+          (λ i. memory_stage (c.in_ok-ends.ensures.source i) (c.in_ok-ends.ensures.out i) (none i) (c.in_ok-ends.ensures.sink i))
+          ((c.run_jobs-status.ensures.session options order).run given c.args.self.now.script.now [] refl source out input sink),
     )

@@ -1,0 +1,10 @@
+use Rattle.std.proofs.Common.{◌≡◌, sym, ap, ap₂, ◌∙◌}
+use Rattle.site_base.specs.PathMap.{as_map}
+use Rattle.site_base.specs.Places.{Files}
+use Rattle.site_reader.specs.Kept.{Kept, parsed_under}
+use Rattle.site_reader.proofs.kept_reader.KeptReader.read_under.Goals as goal
+
+pub returns-in-Ok-clause-parsed : goal.returns-in-Ok-clause-parsed
+returns-in-Ok-clause-parsed g c =
+    let kept : as_map c.self.inside.files ≡ c.args.self.now.kept = ap (λ (k : Kept). k.kept) c.self.view_is in
+    sym (c.in_ok-renewed.ensures.parsed ∙ ap₂ (λ drafts (files : Files). parsed_under c.args.config drafts files c.args.held.now) c.builds_drafts-drafts.ensures kept)
