@@ -7,11 +7,11 @@ use Rattle.site_base.specs.Values.{value_text}
 use Rattle.site_base.specs.View.{plain, pairs_of}
 use Rattle.site_base.specs.declared.faults.FaultKind.{FaultKind}
 use Rattle.site_base.specs.declared.value.Pair.{Pair}
-use Rattle.liquid_filters.specs.Answers.{Makes}
-use Rattle.liquid_filters.specs.Elements.{alone}
-use Rattle.liquid_filters.specs.Limits.{fits}
-use Rattle.liquid_filters.specs.Taken.{entry_of}
-use Rattle.liquid_filters.specs.declared.keyed.Entry.{Entry}
+use Rattle.filter_base.specs.Answers.{Makes}
+use Rattle.filter_base.specs.Elements.{alone}
+use Rattle.filter_base.specs.Limits.{fits}
+use Rattle.filter_base.specs.Taken.{entry_of}
+use Rattle.filter_base.specs.declared.keyed.Entry.{Entry}
 use Rattle.read_record.specs.declared.stop.Stop.TheVariants as stop
 use Rattle.jekyll_filters.specs.Groups.{added, groups, size_of, group, shown, shown_groups}
 

@@ -17,9 +17,9 @@ use Rattle.std.specs.declared.cmp.Ordering.{Ordering}
 use Rattle.std.specs.declared.cmp.Ordering.TheVariants.{Less, Equal, Greater}
 use Rattle.read_record.specs.Queries.{Query, Give, bind, View, Trace, RanTo, run}
 use Rattle.read_record.proofs.QueryLaws.{run_gave}
-use Rattle.liquid_filters.specs.Answers.{Stops}
-use Rattle.liquid_filters.specs.Stops.{Stop}
-use Rattle.liquid_filters.proofs.CallLaws.{stops_bind}
+use Rattle.filter_base.specs.Answers.{Stops}
+use Rattle.filter_base.specs.Stops.{Stop}
+use Rattle.filter_base.proofs.CallLaws.{stops_bind}
 use Rattle.jekyll_filters.specs.JsonTexts.{data_of, items_data, pairs_data}
 
 -- ---- what stands in a list or a hash has fewer constructors

@@ -9,8 +9,8 @@ use Rattle.site_text.specs.Fronts.{run_len}
 use Rattle.site_text.specs.declared.classes.Class.TheVariants as class
 use Rattle.read_record.specs.declared.key.Key.TheVariants.{SiteVar}
 use Rattle.read_record.specs.Queries.{Query, Give, Ask, bind}
-use Rattle.liquid_filters.specs.Answers.{made}
-use Rattle.liquid_filters.specs.Arguments.{no_more}
+use Rattle.filter_base.specs.Answers.{made}
+use Rattle.filter_base.specs.Arguments.{no_more}
 use Rattle.jekyll_filters.specs.declared.addresses.AddressFilter.{AddressFilter}
 use Rattle.jekyll_filters.specs.declared.addresses.AddressFilter.TheVariants.{AbsoluteUrl, RelativeUrl}
 

@@ -5,12 +5,12 @@ use Rattle.site_base.specs.Plain.{Plain, text}
 use Rattle.site_base.specs.Values.{value_text}
 use Rattle.site_base.specs.declared.faults.FaultKind.{FaultKind}
 use Rattle.permalinks.specs.Slug.{slug}
-use Rattle.liquid_filters.specs.Arguments.{no_more}
-use Rattle.liquid_filters.specs.Marks.{marked}
-use Rattle.liquid_filters.specs.Urls.{url_byte}
-use Rattle.liquid_filters.specs.White.{without_front, without_end}
-use Rattle.liquid_filters.specs.declared.marks.Mark.TheVariants as mark
-use Rattle.liquid_filters.specs.declared.urls.UrlCode.TheVariants as url_code
+use Rattle.filter_base.specs.Arguments.{no_more}
+use Rattle.filter_base.specs.White.{without_front, without_end}
+use Rattle.text_filters.specs.Marks.{marked}
+use Rattle.text_filters.specs.Urls.{url_byte}
+use Rattle.text_filters.specs.declared.marks.Mark.TheVariants as mark
+use Rattle.text_filters.specs.declared.urls.UrlCode.TheVariants as url_code
 use Rattle.jekyll_filters.specs.declared.changes.TextChange.{TextChange}
 use Rattle.jekyll_filters.specs.declared.changes.TextChange.TheVariants.{CgiEscape, NormalizeWhitespace, Slugify, UriEscape, XmlEscape}
 

@@ -3,9 +3,9 @@ use Rattle.std.specs.Prelude.{ℕ, List, codes}
 use Rattle.site_base.specs.Plain.{Plain}
 use Rattle.site_base.specs.declared.faults.FaultKind.{FaultKind}
 use Rattle.read_record.specs.Queries.{Query, bind}
-use Rattle.liquid_filters.specs.Answers.{made}
-use Rattle.liquid_filters.specs.Arguments.{no_more}
-use Rattle.liquid_filters.specs.Dates.{dated}
+use Rattle.filter_base.specs.Answers.{made}
+use Rattle.filter_base.specs.Arguments.{no_more}
+use Rattle.filter_base.specs.Dates.{dated}
 use Rattle.jekyll_filters.specs.declared.dates.DateFilter.{DateFilter}
 use Rattle.jekyll_filters.specs.declared.dates.DateFilter.TheVariants.{DateToLongString, DateToRfc822, DateToString, DateToXmlschema}
 

@@ -5,11 +5,11 @@ use Rattle.site_base.specs.Plain.{Plain, nil, bool, int, text, list, hash, site_
 use Rattle.site_base.specs.Values.{value_text}
 use Rattle.site_base.specs.declared.faults.FaultKind.{FaultKind}
 use Rattle.read_record.specs.Queries.{Query, bind}
-use Rattle.liquid_filters.specs.Answers.{made}
-use Rattle.liquid_filters.specs.Arguments.{one}
-use Rattle.liquid_filters.specs.Elements.{alone}
-use Rattle.liquid_filters.specs.Keyed.{Entry, Source, entries, keyed}
-use Rattle.liquid_filters.specs.Numerals.{fitting}
+use Rattle.filter_base.specs.Answers.{made}
+use Rattle.filter_base.specs.Arguments.{one}
+use Rattle.filter_base.specs.Elements.{alone}
+use Rattle.filter_base.specs.Keyed.{Entry, Source, entries, keyed}
+use Rattle.filter_base.specs.Numerals.{fitting}
 
 -- the items of a list, and none of any other value
 abbrev pub items_in : Plain → Items

@@ -5,7 +5,7 @@ use Rattle.std.specs.declared.alloc.Global.{Global}
 use Rattle.serde_json.specs.Data.{Data, Members}
 use Rattle.serde_json.specs.View.{view, members_view}
 use Rattle.serde_json.specs.declared.value.Value.{Value}
-use Rattle.liquid_filters.specs.Stops.{Stop}
+use Rattle.filter_base.specs.Stops.{Stop}
 
 abbrev pub in_data : Result Value Stop → Result Data Stop
 in_data (Ok v) = Ok (view v)

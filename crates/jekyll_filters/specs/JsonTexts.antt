@@ -10,8 +10,8 @@ use Rattle.serde_json.specs.Written.{compact_text}
 use Rattle.read_record.specs.declared.key.Key.{Key}
 use Rattle.read_record.specs.declared.key.Key.TheVariants.{Var}
 use Rattle.read_record.specs.Queries.{Query, Give, Ask, bind}
-use Rattle.liquid_filters.specs.Answers.{made}
-use Rattle.liquid_filters.specs.Arguments.{no_more}
+use Rattle.filter_base.specs.Answers.{made}
+use Rattle.filter_base.specs.Arguments.{no_more}
 
 -- the address of an item
 abbrev pub url_key : List ℕ → ℕ → Key

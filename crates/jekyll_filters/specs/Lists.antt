@@ -4,8 +4,8 @@ use Rattle.site_base.specs.Chains.{◌>>=◌}
 use Rattle.site_base.specs.Plain.{Plain, text, list, Items, no_items, item, count, onto}
 use Rattle.site_base.specs.Values.{value_text}
 use Rattle.site_base.specs.declared.faults.FaultKind.{FaultKind}
-use Rattle.liquid_filters.specs.Arguments.{no_more, one, one_or_none}
-use Rattle.liquid_filters.specs.Elements.{elements, alone}
+use Rattle.filter_base.specs.Arguments.{no_more, one, one_or_none}
+use Rattle.filter_base.specs.Elements.{elements, alone}
 use Rattle.jekyll_filters.specs.declared.lists.ListFilter.{ListFilter}
 use Rattle.jekyll_filters.specs.declared.lists.ListFilter.TheVariants.{ArrayToSentenceString, Pop, Push, Shift, Unshift}
 

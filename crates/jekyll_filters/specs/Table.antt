@@ -2,7 +2,7 @@
 use Rattle.std.specs.Prelude.{ℕ, List, [], ◌∷◌, codes, Option}
 use Rattle.std.specs.Map.{lookup}
 use Rattle.std.specs.Str.{bytes_eq}
-use Rattle.liquid_filters.specs.Answers.{Meaning, made}
+use Rattle.filter_base.specs.Answers.{Meaning, made}
 use Rattle.jekyll_filters.specs.Addresses.{address_filter}
 use Rattle.jekyll_filters.specs.declared.addresses.AddressFilter.TheVariants.{AbsoluteUrl, RelativeUrl}
 use Rattle.jekyll_filters.specs.Changes.{change_filter}

@@ -2,10 +2,10 @@
 ghost use Rattle.std.specs.Prelude.{◌≡◌, ◌++◌, IfOk, OnOk, map};
 ghost use Rattle.site_base.specs.Values.{value_text};
 ghost use Rattle.site_base.specs.View.{plain};
-ghost use Rattle.liquid_filters.specs.Answers.{Gives};
+ghost use Rattle.filter_base.specs.Answers.{Gives};
 ghost use Rattle.jekyll_filters.specs.Addresses.{begins_colon, has_scheme, lacks_slash, behind_slash, without_last_slash, address, based, absolute_url, in_site, address_filter};
 
-use liquid_filters::{Stop, no_more, site_variable};
+use filter_base::{Stop, no_more, site_variable};
 use read_record::Look;
 use site_base::{Memory, Text, Value, value_text};
 use site_text::{Class, class_run, is_letter};

@@ -1,15 +1,14 @@
 // The filters that change a text, without arguments.
 ghost use Rattle.std.specs.Prelude.{◌≡◌, map, IfOk};
 ghost use Rattle.site_base.specs.View.{plain};
-ghost use Rattle.liquid_filters.specs.Answers.{Makes};
+ghost use Rattle.filter_base.specs.Answers.{Makes};
 ghost use Rattle.jekyll_filters.specs.Changes.{change_filter, changed};
 
-use liquid_filters::{
-    Mark, Stop, UrlCode, marked, no_more, percent_encoded, without_end, without_front,
-};
+use filter_base::{Stop, no_more, without_end, without_front};
 use permalinks::slugify;
 use site_base::{Memory, Text, Value, value_text};
 use std::alloc::Global;
+use text_filters::{Mark, UrlCode, marked, percent_encoded};
 
 /// A filter that changes a text, without arguments.
 #[derive(Clone, Copy, Debug, PartialEq, Eq)]

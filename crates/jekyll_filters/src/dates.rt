@@ -1,10 +1,10 @@
 // The filters that write dates by a pattern of their own.
 ghost use Rattle.std.specs.Prelude.{◌≡◌, map};
 ghost use Rattle.site_base.specs.View.{plain};
-ghost use Rattle.liquid_filters.specs.Answers.{Gives};
+ghost use Rattle.filter_base.specs.Answers.{Gives};
 ghost use Rattle.jekyll_filters.specs.Dates.{pattern_of, date_filter};
 
-use liquid_filters::{Stop, dated, no_more};
+use filter_base::{Stop, dated, no_more};
 use read_record::Look;
 use site_base::Value;
 use std::alloc::Global;

@@ -2,7 +2,7 @@
 ghost use Rattle.std.specs.Prelude.{◌≡◌, map};
 ghost use Rattle.site_base.specs.View.{plain};
 ghost use Rattle.read_record.specs.Queries.{run};
-ghost use Rattle.liquid_filters.specs.Answers.{limited, Gives, Replies, Filters};
+ghost use Rattle.filter_base.specs.Answers.{limited, Gives, Replies, Filters};
 ghost use Rattle.jekyll_filters.specs.Table.{filter_named, meaning_of};
 
 use crate::FilterName;
@@ -14,7 +14,7 @@ use crate::json_texts::jsonify;
 use crate::lists::list_filter;
 use crate::markdown::markdownify;
 use crate::words::number_of_words;
-use liquid_filters::{Filtered, Stop, finished};
+use filter_base::{Filtered, Stop, finished};
 use markdown_grammar::Convert;
 use read_record::Look;
 use site_base::Value;

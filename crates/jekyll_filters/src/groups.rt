@@ -1,15 +1,15 @@
 // Elements in groups by a property.
-#![tactic(auto, using(liquid_filters::proofs::CallLaws::binds))]
+#![tactic(auto, using(filter_base::proofs::CallLaws::binds))]
 
 ghost use Rattle.std.specs.Prelude.{◌≡◌, IfOk, OnOk, map};
 ghost use Rattle.site_base.specs.Plain.{no_pairs, get, taken};
 ghost use Rattle.site_base.specs.Values.{value_text};
 ghost use Rattle.site_base.specs.View.{plain, pairs_of};
-ghost use Rattle.liquid_filters.specs.Answers.{Gives, Makes};
-ghost use Rattle.liquid_filters.specs.Taken.{entry_of, source_of};
+ghost use Rattle.filter_base.specs.Answers.{Gives, Makes};
+ghost use Rattle.filter_base.specs.Taken.{entry_of, source_of};
 ghost use Rattle.jekyll_filters.specs.Groups.{items_in, items_found, added, groups, size_of, group, shown_groups, grouped, grouped_by, group_by};
 
-use liquid_filters::{Entry, Source, Stop, fit, one};
+use filter_base::{Entry, Source, Stop, fit, one};
 use read_record::Look;
 use site_base::{FaultKind, Hash, List, Memory, Pair, Text, Value, copy, value_text};
 use std::alloc::Global;

@@ -1,5 +1,5 @@
 // Values as texts in JSON.
-#![tactic(auto, using(liquid_filters::proofs::CallLaws::binds))]
+#![tactic(auto, using(filter_base::proofs::CallLaws::binds))]
 
 ghost use Rattle.std.specs.Prelude.{◌≡◌, [], false, IfOk, OnOk, map};
 ghost use Rattle.site_base.specs.Plain.{site_item};
@@ -9,11 +9,11 @@ ghost use Rattle.serde_json.specs.Data.{no_members, put, string};
 ghost use Rattle.serde_json.specs.View.{view, items_view, members_view};
 ghost use Rattle.serde_json.specs.Written.{compact_text, has_float, items_have_float, members_have_float};
 ghost use Rattle.read_record.specs.Queries.{run};
-ghost use Rattle.liquid_filters.specs.Answers.{Finds, Gives};
+ghost use Rattle.filter_base.specs.Answers.{Finds, Gives};
 ghost use Rattle.jekyll_filters.specs.JsonTexts.{data_of, items_data, pairs_data, json_text, jsonify};
 ghost use Rattle.jekyll_filters.specs.JsonFound.{in_data, in_list, in_members};
 
-use liquid_filters::{Stop, no_more};
+use filter_base::{Stop, no_more};
 use read_record::{Key, Look, ask};
 use serde_json::{Map, Number, Value as Json};
 use site_base::{ItemName, Memory, Pair, Text, Value, value_text};

@@ -2,11 +2,11 @@
 ghost use Rattle.std.specs.Prelude.{◌≡◌, ◌<◌, Ok, IfOk, map};
 ghost use Rattle.site_base.specs.Plain.{text};
 ghost use Rattle.site_base.specs.View.{plain, items_of};
-ghost use Rattle.liquid_filters.specs.Answers.{Makes, given};
-ghost use Rattle.liquid_filters.specs.Writing.{Writes};
+ghost use Rattle.filter_base.specs.Answers.{Makes, given};
+ghost use Rattle.filter_base.specs.Writing.{Writes};
 ghost use Rattle.jekyll_filters.specs.Lists.{without_last, without_first, pop, push, shift, unshift, before_last, words_before, sentence, connector_text, array_to_sentence_string, list_filter};
 
-use liquid_filters::{Elements, Stop, Writer, no_more, one, one_or_none, push_copies};
+use filter_base::{Elements, Stop, Writer, no_more, one, one_or_none, push_copies};
 use site_base::{List, Memory, Text, Value, copy, value_text};
 use std::alloc::Global;
 

@@ -3,10 +3,10 @@ ghost use Rattle.std.specs.Prelude.{Ok, map};
 ghost use Rattle.site_base.specs.Plain.{text as plain_text};
 ghost use Rattle.site_base.specs.View.{plain};
 ghost use Rattle.markdown_grammar.specs.Html.{html};
-ghost use Rattle.liquid_filters.specs.Answers.{Makes};
+ghost use Rattle.filter_base.specs.Answers.{Makes};
 ghost use Rattle.jekyll_filters.specs.Markdown.{markdownify};
 
-use liquid_filters::{MOST_TEXT, Stop, no_more};
+use filter_base::{MOST_TEXT, Stop, no_more};
 use markdown_grammar::{Convert, HtmlError};
 use site_base::{FaultKind, Value, value_text};
 use std::alloc::Global;

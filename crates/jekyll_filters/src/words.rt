@@ -1,11 +1,11 @@
 // The words of a text.
 ghost use Rattle.std.specs.Prelude.{◌≡◌, length, map};
 ghost use Rattle.site_base.specs.View.{plain};
-ghost use Rattle.liquid_filters.specs.Answers.{Makes};
-ghost use Rattle.liquid_filters.specs.Words.{words};
+ghost use Rattle.filter_base.specs.Answers.{Makes};
+ghost use Rattle.text_filters.specs.Words.{words};
 ghost use Rattle.jekyll_filters.specs.Words.{number_of_words};
 
-use liquid_filters::{Stop, fit, is_white, no_more};
+use filter_base::{Stop, fit, is_white, no_more};
 use site_base::{Value, value_text};
 use std::alloc::Global;
 

@@ -10,7 +10,7 @@ use Rattle.read_record.specs.Answers.{Finds}
 use Rattle.read_record.specs.Queries.{View, Trace, Give, run}
 use Rattle.read_record.specs.declared.stop.Stop.{Stop}
 use Rattle.read_record.specs.declared.stop.Stop.TheVariants as stop
-use Rattle.liquid_filters.specs.Limits.{most_text}
+use Rattle.filter_base.specs.Limits.{most_text}
 use Rattle.liquid_values.proofs.PlaceLaws.{found_runs}
 use Rattle.liquid_values.specs.Answers.{IsFault}
 use Rattle.liquid_values.specs.Places.{Place, fault_at, found_at}

@@ -7,7 +7,7 @@ use Rattle.site_base.specs.declared.faults.FaultKind.TheVariants as kind
 use Rattle.read_record.specs.Queries.{Gave, Failed}
 use Rattle.liquid_filters.specs.Table.{rows}
 use Rattle.jekyll_filters.specs.Table as jekyll
-use Rattle.liquid_filters.specs.Marks.{marked_after}
+use Rattle.text_filters.specs.Marks.{marked_after}
 use Rattle.liquid_grammar.specs.Pieces.{cut_from}
 use Rattle.liquid_grammar.specs.Tokens.{tokens_after}
 use Rattle.liquid_grammar.specs.Readings.{many_after}

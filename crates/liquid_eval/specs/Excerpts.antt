@@ -9,7 +9,7 @@ use Rattle.site_text.specs.Extensions.{is_listed}
 use Rattle.markdown_grammar.specs.Html.{html}
 use Rattle.read_record.specs.declared.key.Key.TheVariants.{Source, Var, SiteVar}
 use Rattle.read_record.specs.Queries.{Query, Give, Fail, Ask, bind}
-use Rattle.liquid_filters.specs.Limits.{most_text}
+use Rattle.filter_base.specs.Limits.{most_text}
 use Rattle.liquid_grammar.specs.Trees.{Tree, Fault, tree}
 use Rattle.liquid_parse.specs.declared.error.ParseError.{ParseError}
 use Rattle.liquid_parse.specs.declared.error.ParseError.TheVariants as parse_error

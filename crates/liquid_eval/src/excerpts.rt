@@ -14,7 +14,7 @@ ghost use Rattle.liquid_eval.specs.Nodes.{entering, excerpts_made, none_made};
 
 use crate::evaluating::enter;
 use crate::starting::whole_place;
-use liquid_filters::MOST_TEXT;
+use filter_base::MOST_TEXT;
 use liquid_parse::{ParseError, SharedTemplate, Templates};
 use liquid_tags::{Nodes, State, Tools, before, is_nil};
 use liquid_values::{

@@ -12,7 +12,7 @@ ghost use Rattle.liquid_eval.specs.Works.{inside, kept_apart, over, rows, work};
 
 use crate::signal::Signal;
 use crate::work::{Apart, Cells, Turns, Use, Work};
-use liquid_filters::Writer;
+use filter_base::Writer;
 use liquid_grammar::{Block, Leaf, Loop};
 use liquid_tags::{
     Elements, Grid, Nodes, State, Tools, assign, branch, cycle, decrement, include,

@@ -7,7 +7,7 @@ ghost use Rattle.liquid_eval.specs.Works.{used};
 
 use crate::signal::Signal;
 use crate::work::Use;
-use liquid_filters::Writer;
+use filter_base::Writer;
 use liquid_tags::{State, highlighted};
 use liquid_values::{Place, Stop};
 use site_base::{Text, Value};

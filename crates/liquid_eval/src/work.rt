@@ -1,6 +1,6 @@
 // What is left of a tag once it was begun.
 use crate::signal::Signal;
-use liquid_filters::Writer;
+use filter_base::Writer;
 use liquid_tags::{Elements, Grid, Included, Nodes};
 use site_base::Text;
 

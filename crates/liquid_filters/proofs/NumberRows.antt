@@ -2,7 +2,7 @@
 use Rattle.std.specs.Prelude.{◌≡◌, pos, negsuc, [], ◌∷◌, Ok, Err, codes, refl}
 use Rattle.site_base.specs.Plain.{nil, int, text}
 use Rattle.site_base.specs.declared.faults.FaultKind.TheVariants.{FilterArgument, DividedByZero, Overflow, Fraction}
-use Rattle.liquid_filters.specs.Numerals.{num}
+use Rattle.filter_base.specs.Numerals.{num}
 use Rattle.liquid_filters.specs.Numbers.{number_filter}
 use Rattle.liquid_filters.specs.declared.numbers.NumberFilter.TheVariants.{Abs, AtMost, DividedBy, Modulo, Plus, Times}
 

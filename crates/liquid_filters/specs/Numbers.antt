@@ -5,8 +5,8 @@ use Rattle.site_base.specs.Chains.{◌>>=◌}
 use Rattle.site_base.specs.Plain.{Plain}
 use Rattle.site_base.specs.declared.faults.FaultKind.{FaultKind}
 use Rattle.site_base.specs.declared.faults.FaultKind.TheVariants.{DividedByZero}
-use Rattle.liquid_filters.specs.Arguments.{no_more, one}
-use Rattle.liquid_filters.specs.Numerals.{num, fitting}
+use Rattle.filter_base.specs.Arguments.{no_more, one}
+use Rattle.filter_base.specs.Numerals.{num, fitting}
 use Rattle.liquid_filters.specs.declared.numbers.NumberFilter.{NumberFilter}
 use Rattle.liquid_filters.specs.declared.numbers.NumberFilter.TheVariants.{Abs, AtLeast, AtMost, Ceil, DividedBy, Floor, Minus, Modulo, Plus, Round, Times}
 

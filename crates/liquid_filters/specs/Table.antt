@@ -5,33 +5,33 @@ use Rattle.std.specs.Str.{bytes_eq}
 use Rattle.site_base.specs.Chains.{◌>>=◌}
 use Rattle.site_base.specs.Plain.{Plain, int}
 use Rattle.site_base.specs.declared.faults.FaultKind.{FaultKind}
-use Rattle.liquid_filters.specs.Answers.{Meaning, made}
+use Rattle.filter_base.specs.Answers.{Meaning, made}
+use Rattle.filter_base.specs.Dates.{date}
+use Rattle.filter_base.specs.Lists.{list_filter}
+use Rattle.filter_base.specs.declared.lists.ListFilter.{ListFilter}
+use Rattle.filter_base.specs.declared.lists.ListFilter.TheVariants.{Concat, Default, First, Join, Last, Reverse, Size}
+use Rattle.list_filters.specs.Selections.{selection_filter}
+use Rattle.list_filters.specs.declared.selections.Selection.TheVariants.{Compact, Map, Uniq, Where}
+use Rattle.list_filters.specs.Sortings.{sort_filter}
+use Rattle.list_filters.specs.declared.sortings.Sorting.TheVariants.{Sort, SortNatural}
+use Rattle.text_filters.specs.Changes.{change_filter}
+use Rattle.text_filters.specs.declared.changes.TextChange.{TextChange}
+use Rattle.text_filters.specs.declared.changes.TextChange.TheVariants.{Capitalize, Downcase, Escape, EscapeOnce, Lstrip, NewlineToBr, Rstrip, Strip, StripHtml, StripNewlines, Upcase, UrlEncode}
+use Rattle.text_filters.specs.Replacements.{replacement_filter}
+use Rattle.text_filters.specs.declared.replacements.Replacement.{Replacement}
+use Rattle.text_filters.specs.declared.replacements.Replacement.TheVariants.{Remove, RemoveFirst, Replace, ReplaceFirst}
+use Rattle.text_filters.specs.Spans.{span_filter}
+use Rattle.text_filters.specs.declared.spans.Span.{Span}
+use Rattle.text_filters.specs.declared.spans.Span.TheVariants.{Slice, Truncate}
+use Rattle.text_filters.specs.Splitting.{split_filter}
+use Rattle.text_filters.specs.Texts.{text_filter}
+use Rattle.text_filters.specs.declared.texts.TextFilter.{TextFilter}
+use Rattle.text_filters.specs.declared.texts.TextFilter.TheVariants.{Append, Prepend}
+use Rattle.text_filters.specs.UrlTexts.{url_decode}
+use Rattle.text_filters.specs.Words.{words_filter}
 use Rattle.liquid_filters.specs.Numbers.{number_filter}
 use Rattle.liquid_filters.specs.declared.numbers.NumberFilter.{NumberFilter}
 use Rattle.liquid_filters.specs.declared.numbers.NumberFilter.TheVariants.{Abs, AtLeast, AtMost, Ceil, DividedBy, Floor, Minus, Modulo, Plus, Round, Times}
-use Rattle.liquid_filters.specs.Changes.{change_filter}
-use Rattle.liquid_filters.specs.declared.changes.TextChange.{TextChange}
-use Rattle.liquid_filters.specs.declared.changes.TextChange.TheVariants.{Capitalize, Downcase, Escape, EscapeOnce, Lstrip, NewlineToBr, Rstrip, Strip, StripHtml, StripNewlines, Upcase, UrlEncode}
-use Rattle.liquid_filters.specs.Dates.{date}
-use Rattle.liquid_filters.specs.Lists.{list_filter}
-use Rattle.liquid_filters.specs.declared.lists.ListFilter.{ListFilter}
-use Rattle.liquid_filters.specs.declared.lists.ListFilter.TheVariants.{Concat, Default, First, Join, Last, Reverse, Size}
-use Rattle.liquid_filters.specs.Replacements.{replacement_filter}
-use Rattle.liquid_filters.specs.declared.replacements.Replacement.{Replacement}
-use Rattle.liquid_filters.specs.declared.replacements.Replacement.TheVariants.{Remove, RemoveFirst, Replace, ReplaceFirst}
-use Rattle.liquid_filters.specs.Selections.{selection_filter}
-use Rattle.liquid_filters.specs.declared.selections.Selection.TheVariants.{Compact, Map, Uniq, Where}
-use Rattle.liquid_filters.specs.Sortings.{sort_filter}
-use Rattle.liquid_filters.specs.declared.sortings.Sorting.TheVariants.{Sort, SortNatural}
-use Rattle.liquid_filters.specs.Spans.{span_filter}
-use Rattle.liquid_filters.specs.declared.spans.Span.{Span}
-use Rattle.liquid_filters.specs.declared.spans.Span.TheVariants.{Slice, Truncate}
-use Rattle.liquid_filters.specs.Splitting.{split_filter}
-use Rattle.liquid_filters.specs.Texts.{text_filter}
-use Rattle.liquid_filters.specs.declared.texts.TextFilter.{TextFilter}
-use Rattle.liquid_filters.specs.declared.texts.TextFilter.TheVariants.{Append, Prepend}
-use Rattle.liquid_filters.specs.UrlTexts.{url_decode}
-use Rattle.liquid_filters.specs.Words.{words_filter}
 use Rattle.liquid_filters.specs.declared.filter_name.FilterName.{FilterName}
 use Rattle.liquid_filters.specs.declared.filter_name.FilterName.TheVariants as family
 

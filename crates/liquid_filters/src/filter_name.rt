@@ -2,14 +2,10 @@
 ghost use Rattle.std.specs.Prelude.{◌≡◌, option_map};
 ghost use Rattle.liquid_filters.specs.Table.{filter_named, meaning_of};
 
-use crate::changes::TextChange;
-use crate::lists::ListFilter;
 use crate::numbers::NumberFilter;
-use crate::replacements::Replacement;
-use crate::selections::Selection;
-use crate::sortings::Sorting;
-use crate::spans::Span;
-use crate::texts::TextFilter;
+use filter_base::ListFilter;
+use list_filters::{Selection, Sorting};
+use text_filters::{Replacement, Span, TextChange, TextFilter};
 
 /// A filter, by the family that it belongs to.
 #[derive(Clone, Copy, Debug, PartialEq, Eq)]

@@ -2,27 +2,20 @@
 ghost use Rattle.std.specs.Prelude.{◌≡◌, map};
 ghost use Rattle.site_base.specs.View.{plain};
 ghost use Rattle.read_record.specs.Queries.{run};
-ghost use Rattle.liquid_filters.specs.Answers.{limited, Makes, Gives, Replies, Filters};
+ghost use Rattle.filter_base.specs.Answers.{limited, Makes, Gives, Replies, Filters};
 ghost use Rattle.liquid_filters.specs.Table.{filter_named, meaning_of, number_value};
 
 use crate::FilterName;
-use crate::changes::change_filter;
-use crate::dates::date;
-use crate::limits::finished;
-use crate::lists::list_filter;
 use crate::numbers::number_filter;
-use crate::replacements::replacement_filter;
-use crate::selections::selection_filter;
-use crate::sortings::sort_filter;
-use crate::spans::span_filter;
-use crate::splitting::split_filter;
-use crate::stop::{Filtered, Stop};
-use crate::texts::text_filter;
-use crate::url_texts::url_decode;
-use crate::words::words_filter;
+use filter_base::{Filtered, Stop, date, finished, list_filter};
+use list_filters::{selection_filter, sort_filter};
 use read_record::Look;
 use site_base::{FaultKind, Value};
 use std::alloc::Global;
+use text_filters::{
+    change_filter, replacement_filter, span_filter, split_filter, text_filter, url_decode,
+    words_filter,
+};
 
 /// What the filter of a name makes of an input and arguments, by what it looks up. `Unknown` comes exactly where the name is not
 /// in the table.

@@ -2,11 +2,10 @@
 ghost use Rattle.std.specs.Prelude.{◌≡◌, ◌<ℤ◌, ◌≤ℤ◌, pos, neg_ℤ, map};
 ghost use Rattle.std.specs.Int.{int_max, int_min, int_div_euclid, int_rem_euclid};
 ghost use Rattle.site_base.specs.View.{plain};
-ghost use Rattle.liquid_filters.specs.Numerals.{fitting};
+ghost use Rattle.filter_base.specs.Numerals.{fitting};
 ghost use Rattle.liquid_filters.specs.Numbers.{absolute, sum, difference, product, quotient, remainder, lone, both, number_filter};
 
-use crate::arguments::{no_more, one};
-use crate::numerals::{fit, num};
+use filter_base::{fit, no_more, num, one};
 use site_base::{FaultKind, Value};
 
 /// A filter that gives a number.

@@ -8,7 +8,7 @@ use Rattle.read_record.proofs.CallLaws.{finds_at}
 use Rattle.read_record.specs.Answers.{Stops, Finds}
 use Rattle.read_record.specs.Queries.{Query, Give, bind, View, Trace, Ran, RanTo, run}
 use Rattle.read_record.specs.declared.stop.Stop.{Stop}
-use Rattle.liquid_filters.specs.Choosing.{same_value}
+use Rattle.list_filters.specs.Choosing.{same_value}
 use Rattle.liquid_grammar.specs.declared.item.Part.{Part}
 use Rattle.liquid_grammar.specs.Operands.{Operand}
 use Rattle.liquid_grammar.specs.Trees.{Tree, done, leaf, block, part}

@@ -18,7 +18,7 @@ use Rattle.read_record.specs.Queries.{Query, Give, bind, View, Trace, RanTo, run
 use Rattle.read_record.specs.declared.stop.Stop.{Stop}
 use Rattle.read_record.proofs.CallLaws.{stops_bind}
 use Rattle.read_record.proofs.QueryLaws.{run_gave}
-use Rattle.liquid_filters.specs.Choosing.{same_value}
+use Rattle.list_filters.specs.Choosing.{same_value}
 use Rattle.liquid_grammar.specs.declared.condition.Joined.{Joined}
 use Rattle.liquid_grammar.specs.declared.condition.Test.{Test}
 use Rattle.liquid_grammar.specs.declared.step.Step.{Step}

@@ -6,7 +6,7 @@ use Rattle.std.proofs.lemmas.Option.{slice_get-get_or}
 use Rattle.site_base.specs.Plain.{Plain, nil, int, text, Items, no_items, item, item_list, count, Pairs, no_pairs, pair, count_pairs}
 use Rattle.site_base.specs.View.{plain, pairs_of}
 use Rattle.site_base.specs.declared.value.Pair.{Pair}
-use Rattle.liquid_filters.specs.Elements.{counted, range_len, range_count}
+use Rattle.filter_base.specs.Elements.{counted, range_len, range_count}
 use Rattle.liquid_tags.specs.Elements.{pair_value, pair_list, lone_text, cut_from, cut_to, turned_round}
 use Rattle.liquid_tags.specs.Sources.{passed, kept}
 

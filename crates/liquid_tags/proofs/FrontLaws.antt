@@ -4,7 +4,7 @@ use Rattle.std.specs.Option.{option_map}
 use Rattle.std.specs.Str.Pattern.{FindsText, LacksTextAt, SplitsAroundMatch}
 use Rattle.std.proofs.lemmas.Bool.Decides.{Decides-eqb}
 use Rattle.std.proofs.lemmas.Slice.Eq.{starts_is}
-use Rattle.liquid_filters.proofs.PartLaws.{cut_whole, cut_lacks}
+use Rattle.text_filters.proofs.PartLaws.{cut_whole, cut_lacks}
 use Rattle.liquid_grammar.specs.Pieces.{begins}
 use Rattle.liquid_tags.specs.Fronts.{before}
 

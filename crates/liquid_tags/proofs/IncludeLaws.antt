@@ -13,10 +13,10 @@ use Rattle.read_record.specs.Answers.{Stops}
 use Rattle.read_record.specs.Queries.{Fail, View, Trace, FailedAt, run}
 use Rattle.read_record.specs.declared.stop.Stop.{Stop}
 use Rattle.read_record.specs.declared.stop.Stop.TheVariants as stop
-use Rattle.liquid_filters.specs.Answers.{fitted}
-use Rattle.liquid_filters.specs.Limits.{excess, fits, unless}
-use Rattle.liquid_filters.specs.declared.stop.Filtered.{Filtered}
-use Rattle.liquid_filters.specs.declared.stop.Filtered.TheVariants as filtered
+use Rattle.filter_base.specs.Answers.{fitted}
+use Rattle.filter_base.specs.Limits.{excess, fits, unless}
+use Rattle.filter_base.specs.declared.stop.Filtered.{Filtered}
+use Rattle.filter_base.specs.declared.stop.Filtered.TheVariants as filtered
 use Rattle.liquid_values.specs.Answers.{AnsweredAt, FoundAt, IsFault, IsKnown, in_plain}
 use Rattle.liquid_values.specs.Places.{Place}
 use Rattle.liquid_grammar.specs.declared.expression.Parameter.{Parameter}

@@ -6,7 +6,7 @@ use Rattle.site_base.specs.declared.faults.SiteFault.{SiteFault}
 use Rattle.read_record.specs.Queries.{Query, Give, Fail, bind}
 use Rattle.read_record.specs.declared.stop.Stop.{Stop}
 use Rattle.read_record.specs.declared.stop.Stop.TheVariants as stop
-use Rattle.liquid_filters.specs.Limits.{most_text}
+use Rattle.filter_base.specs.Limits.{most_text}
 use Rattle.liquid_values.specs.Answers.{FoundAt, IsFault, Settles}
 use Rattle.liquid_values.specs.Places.{Place, fault_at, found_at}
 use Rattle.liquid_tags.specs.Answers.{Pushes}

@@ -1,7 +1,7 @@
 -- Blocks that write nothing, since their parts hold white space, `assign`, `capture` and such blocks alone. docs/PROFILE.md has the rule.
 use Rattle.std.specs.Prelude.{ℕ, Bool, true, false, ◌&&◌, ◌||◌, List, [], ◌∷◌, Option, Some, None}
 use Rattle.std.specs.List.{list_all}
-use Rattle.liquid_filters.specs.White.{is_white}
+use Rattle.filter_base.specs.White.{is_white}
 use Rattle.liquid_grammar.specs.declared.item.Leaf.{Leaf}
 use Rattle.liquid_grammar.specs.declared.item.Leaf.TheVariants as leaves
 use Rattle.liquid_grammar.specs.declared.item.Block.{Block}

@@ -13,7 +13,7 @@ use Rattle.liquid_grammar.specs.Operands as operands
 use Rattle.liquid_grammar.specs.Trees.{Tree, done, leaf, block, part}
 use Rattle.liquid_values.specs.Places.{Place, at_line}
 use Rattle.liquid_values.specs.Operands.{operand}
-use Rattle.liquid_filters.specs.Choosing.{same_value}
+use Rattle.list_filters.specs.Choosing.{same_value}
 use Rattle.liquid_tags.specs.Conditions.{condition}
 use Rattle.liquid_values.specs.Names.{Excerpting}
 use Rattle.liquid_tags.specs.Expressions.{expression}

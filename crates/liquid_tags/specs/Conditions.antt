@@ -9,9 +9,9 @@ use Rattle.site_base.specs.declared.faults.FaultKind.{FaultKind}
 use Rattle.site_base.specs.declared.faults.FaultKind.TheVariants.{Unlike}
 use Rattle.site_base.specs.declared.faults.SiteFault.{SiteFault}
 use Rattle.read_record.specs.Queries.{Query, Give, bind}
-use Rattle.liquid_filters.specs.Choosing.{same_value}
-use Rattle.liquid_filters.specs.White.{is_white}
-use Rattle.liquid_filters.specs.Lists.{is_blank}
+use Rattle.filter_base.specs.White.{is_white}
+use Rattle.filter_base.specs.Lists.{is_blank}
+use Rattle.list_filters.specs.Choosing.{same_value}
 use Rattle.liquid_grammar.specs.declared.condition.Condition.{Condition}
 use Rattle.liquid_grammar.specs.declared.condition.Joined.{Joined}
 use Rattle.liquid_grammar.specs.declared.condition.Test.{Test}

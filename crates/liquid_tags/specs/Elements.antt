@@ -8,7 +8,7 @@ use Rattle.site_base.specs.declared.faults.FaultKind.{FaultKind}
 use Rattle.site_base.specs.declared.faults.FaultKind.TheVariants.{FilterArgument}
 use Rattle.site_base.specs.declared.faults.SiteFault.{SiteFault}
 use Rattle.read_record.specs.Queries.{Query, Give, bind}
-use Rattle.liquid_filters.specs.Elements.{counted, range_len, range_count}
+use Rattle.filter_base.specs.Elements.{counted, range_len, range_count}
 use Rattle.liquid_grammar.specs.declared.expression.Expr.{Expr}
 use Rattle.liquid_grammar.specs.declared.tag.Loop.{Loop}
 use Rattle.liquid_grammar.specs.declared.tag.LoopKey.{LoopKey}

@@ -4,7 +4,7 @@ use Rattle.std.specs.Option.{option_or}
 use Rattle.site_base.specs.Plain.{Plain, Pairs}
 use Rattle.site_base.specs.declared.faults.SiteFault.{SiteFault}
 use Rattle.read_record.specs.Queries.{Query, Give, bind}
-use Rattle.liquid_filters.specs.Answers.{Meaning, limited}
+use Rattle.filter_base.specs.Answers.{Meaning, limited}
 use Rattle.liquid_filters.specs.Table.{filter_named}
 use Rattle.jekyll_filters.specs.Table as jekyll
 use Rattle.liquid_grammar.specs.declared.expression.Expr.{Expr}

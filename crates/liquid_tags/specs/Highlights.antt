@@ -2,8 +2,8 @@
 use Rattle.std.specs.Prelude.{ℕ, ◌==◌, ◌||◌, ◌-◌, Bool, List, ◌++◌, length, take, drop, map, codes, if◌then◌else◌}
 use Rattle.std.specs.Char.{to_ascii_lowercase}
 use Rattle.std.specs.List.{prefix_len, suffix_len}
-use Rattle.liquid_filters.specs.Changes.{changed}
-use Rattle.liquid_filters.specs.declared.changes.TextChange.TheVariants.{Escape}
+use Rattle.text_filters.specs.Changes.{changed}
+use Rattle.text_filters.specs.declared.changes.TextChange.TheVariants.{Escape}
 
 -- without CR and LF at both ends
 abbrev pub is_line_end : ℕ → Bool

@@ -9,7 +9,7 @@ use Rattle.site_base.specs.declared.faults.SiteFault.{SiteFault}
 use Rattle.read_record.specs.declared.key.Key.{Key}
 use Rattle.read_record.specs.declared.key.Key.TheVariants.{Include, File}
 use Rattle.read_record.specs.Queries.{Query, Give, Fail, Ask, bind}
-use Rattle.liquid_filters.specs.Limits.{fits}
+use Rattle.filter_base.specs.Limits.{fits}
 use Rattle.liquid_grammar.specs.declared.expression.Parameter.{Parameter}
 use Rattle.liquid_grammar.specs.declared.tag.Include.{Include as IncludeTag}
 use Rattle.liquid_grammar.specs.Trees.{Tree, Fault, tree}

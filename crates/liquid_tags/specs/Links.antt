@@ -7,7 +7,7 @@ use Rattle.site_base.specs.declared.faults.FaultKind.TheVariants.{LinkMissing}
 use Rattle.site_base.specs.declared.faults.SiteFault.{SiteFault}
 use Rattle.read_record.specs.declared.key.Key.TheVariants.{Link, Post}
 use Rattle.read_record.specs.Queries.{Query, Ask, bind}
-use Rattle.liquid_filters.specs.Answers.{limited}
+use Rattle.filter_base.specs.Answers.{limited}
 use Rattle.jekyll_filters.specs.Addresses.{address_filter}
 use Rattle.jekyll_filters.specs.declared.addresses.AddressFilter.TheVariants.{RelativeUrl}
 use Rattle.liquid_grammar.specs.declared.tag.NamePart.{NamePart}

@@ -1,7 +1,7 @@
 -- Where the elements of a loop stand, and how many of them are gone over.
 use Rattle.std.specs.Prelude.{ℕ, min, pos, ℤ, ◌+ℤ◌, [], Option, Some, None}
 use Rattle.site_base.specs.Plain.{item_list}
-use Rattle.liquid_filters.specs.Elements.{counted}
+use Rattle.filter_base.specs.Elements.{counted}
 use Rattle.liquid_tags.specs.declared.elements.Source.{Source}
 use Rattle.liquid_tags.specs.declared.elements.Source.TheVariants as source
 use Rattle.liquid_tags.specs.Elements.{lone_text, pair_list}

@@ -4,7 +4,7 @@ use Rattle.site_base.specs.Plain.{Plain, Pairs, no_pairs, set}
 use Rattle.site_base.specs.declared.faults.FaultKind.TheVariants.{OutputTooLong}
 use Rattle.site_base.specs.declared.faults.SiteFault.{SiteFault}
 use Rattle.read_record.specs.Queries.{Query, Give, Fail}
-use Rattle.liquid_filters.specs.Limits.{most_text}
+use Rattle.filter_base.specs.Limits.{most_text}
 use Rattle.liquid_values.specs.Places.{Place, site_fault, fault_at}
 use Rattle.liquid_tags.specs.declared.state.State.{State}
 

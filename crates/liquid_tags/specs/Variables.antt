@@ -5,7 +5,7 @@ use Rattle.site_base.specs.Plain.{Plain, int, Pairs, get, set}
 use Rattle.site_base.specs.Values.{value_text}
 use Rattle.site_base.specs.declared.faults.SiteFault.{SiteFault}
 use Rattle.read_record.specs.Queries.{Query, Give, bind}
-use Rattle.liquid_filters.specs.Numerals.{fitting}
+use Rattle.filter_base.specs.Numerals.{fitting}
 use Rattle.liquid_grammar.specs.declared.expression.Expr.{Expr}
 use Rattle.liquid_grammar.specs.declared.tag.Assign.{Assign}
 use Rattle.liquid_grammar.specs.declared.tag.Cycle.{Cycle}

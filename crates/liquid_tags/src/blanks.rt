@@ -1,13 +1,13 @@
 // Blocks that write nothing.
 ghost use Rattle.std.specs.Prelude.{◌≡◌, ◌<◌, false, IfSome};
 ghost use Rattle.std.specs.List.{list_all};
-ghost use Rattle.liquid_filters.specs.White.{is_white};
+ghost use Rattle.filter_base.specs.White.{is_white};
 ghost use Rattle.liquid_tags.specs.Blanks as blanks;
 ghost use Rattle.liquid_tags.specs.Blanks.{counts_of, is_blank_leaf, writes_nothing, left_write_nothing};
 ghost use Rattle.liquid_tags.specs.Nodes.{node_count, is_done};
 
 use crate::nodes::{First, Nodes};
-use liquid_filters::is_white;
+use filter_base::is_white;
 use liquid_grammar::{Block, Leaf};
 
 /// By what a block counts as one that writes nothing.

@@ -5,11 +5,11 @@ ghost use Rattle.read_record.specs.Queries.{run};
 ghost use Rattle.read_record.specs.Answers.{Finds};
 ghost use Rattle.liquid_values.specs.Standing.{place_of};
 ghost use Rattle.liquid_tags.specs.Conditions as conditions;
-ghost use Rattle.liquid_filters.specs.Choosing.{same_value};
+ghost use Rattle.list_filters.specs.Choosing.{same_value};
 ghost use Rattle.liquid_tags.specs.Conditions.{right_of, step_right, literal_right, equals_right, is_empty, is_white_text, is_nil, ordered, is_for, stands_in, is_element, holds, contains, compare, compared_with, decides};
 
 use crate::blanks::is_white_space;
-use liquid_filters::is_blank;
+use filter_base::is_blank;
 use liquid_grammar::{Comparison, Condition, Joint, Literal, Operand, Step, Test};
 use liquid_values::{Excerpts, Place, Stop, operand};
 use read_record::Look;

@@ -13,7 +13,7 @@ ghost use Rattle.liquid_tags.specs.Sources.{passed, kept};
 
 use crate::expressions::expression;
 use crate::tools::Tools;
-use liquid_filters::range_count;
+use filter_base::range_count;
 use liquid_grammar::{Expr, Loop, LoopKey, LoopPart};
 use liquid_values::{Excerpts, Place, Stop};
 use markdown_grammar::Convert;

@@ -4,9 +4,9 @@ ghost use Rattle.std.specs.List.{prefix_len, suffix_len};
 ghost use Rattle.liquid_tags.specs.Highlights as highlights;
 ghost use Rattle.liquid_tags.specs.Highlights.{class_byte, is_line_end, without_end, without_front};
 
-use liquid_filters::{TextChange, changed};
 use site_base::{Memory, Text};
 use std::alloc::{AllocError, Global};
+use text_filters::{TextChange, changed};
 
 /// The code in a figure, with its language in small letters, and without the line ends at both ends.
 pub fn highlighted(alloc: Global, language: &str, code: &str) -> Result<Text, Memory>

@@ -4,7 +4,7 @@ ghost use Rattle.site_base.specs.Plain.{no_pairs};
 ghost use Rattle.site_base.specs.View.{plain};
 ghost use Rattle.read_record.specs.Queries.{run};
 ghost use Rattle.read_record.specs.Answers.{Finds, in_plain};
-ghost use Rattle.liquid_filters.specs.Limits.{fits};
+ghost use Rattle.filter_base.specs.Limits.{fits};
 ghost use Rattle.liquid_values.specs.Answers.{FoundAt};
 ghost use Rattle.liquid_values.specs.Standing.{place_of};
 ghost use Rattle.liquid_tags.specs.Answers.{in_given, in_included};
@@ -14,7 +14,7 @@ ghost use Rattle.liquid_tags.specs.Includes.{if_path, included_file, relative_fi
 use crate::expressions::expression;
 use crate::file_names::name_text;
 use crate::tools::Tools;
-use liquid_filters::finished;
+use filter_base::finished;
 use liquid_grammar::{Include, Parameter};
 use liquid_parse::{ParseError, SharedTemplate};
 use liquid_values::{Excerpts, Place, Stop};
@@ -277,7 +277,9 @@ fn given_value<'a, 'c, X: Excerpts, C: Convert, L: Look>(
     ensures gives { Finds (run (L.view look.old) (L.trace look.old) (includes.given_value (X.excerpts place.now.levels) (place_of place.now) assigned.now params.now)) (in_plain result) (L.trace look.new) }
 {
     let made = parameters(alloc, tools, place, assigned, params, look)?;
-    fitted(alloc, place, Value::Hash(made))
+    // An include that hands on `include` would else copy all that it was given.
+    let shared = made.into_shared()?;
+    fitted(alloc, place, Value::Hash(shared))
 }
 
 // A value that was made, where it nests no deeper than one may.

@@ -6,7 +6,7 @@ ghost use Rattle.liquid_values.specs.Answers.{Settles};
 ghost use Rattle.liquid_values.specs.Standing.{place_of};
 ghost use Rattle.liquid_tags.specs.States.{nothing_yet, assign, written, text_written};
 
-use liquid_filters::{MOST_TEXT, Writer};
+use filter_base::{MOST_TEXT, Writer};
 use liquid_values::{Place, Stop};
 use site_base::{FaultKind, Hash, Memory, SiteFault, Text, Value, value_text};
 use std::alloc::Global;
@@ -95,7 +95,7 @@ impl State {
 
 impl State {
     ghost use Rattle.std.specs.Prelude.{◌≡◌, ◌+◌, ◌++◌, OnOk, nat_lt, length};
-    ghost use Rattle.liquid_filters.specs.Limits.{most_text};
+    ghost use Rattle.filter_base.specs.Limits.{most_text};
     ghost use Rattle.liquid_tags.specs.States.{with_out};
     ghost use Rattle.liquid_tags.specs.Answers.{Pushes};
 

@@ -13,7 +13,7 @@ ghost use Rattle.liquid_tags.specs.Variables.{number_or_zero, group_name, operan
 use crate::expressions::expression;
 use crate::state::State;
 use crate::tools::Tools;
-use liquid_filters::fit;
+use filter_base::fit;
 use liquid_grammar::{Assign, Cycle, Expr, Operand};
 use liquid_values::{Excerpts, Place, Stop, column_of, count_value, operand};
 use markdown_grammar::Convert;

@@ -9,9 +9,9 @@ use Rattle.read_record.specs.Answers.{Finds}
 use Rattle.read_record.specs.Queries.{Query, Give, Fail, Ask, Reply, Known, Missing, on_reply, View, Trace, note, Ran, RanTo, FailedAt, WaitsFor, run}
 use Rattle.read_record.specs.declared.stop.Stop.{Stop}
 use Rattle.read_record.specs.declared.stop.Stop.TheVariants as stop
-use Rattle.liquid_filters.specs.Answers.{Replies}
-use Rattle.liquid_filters.specs.declared.stop.Filtered.{Filtered}
-use Rattle.liquid_filters.specs.declared.stop.Filtered.TheVariants as filtered
+use Rattle.filter_base.specs.Answers.{Replies}
+use Rattle.filter_base.specs.declared.stop.Filtered.{Filtered}
+use Rattle.filter_base.specs.declared.stop.Filtered.TheVariants as filtered
 use Rattle.liquid_values.specs.Answers.{AnsweredAt, in_plain}
 use Rattle.liquid_values.specs.Places.{Place, fault_at, placed}
 

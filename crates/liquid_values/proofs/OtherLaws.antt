@@ -5,7 +5,7 @@ use Rattle.site_base.specs.Plain.{Plain, Items, no_items, item, onto}
 use Rattle.site_base.specs.View.{plain, items_of}
 use Rattle.site_base.specs.declared.item_name.ItemName.{ItemName}
 use Rattle.site_base.specs.declared.value.Value.{Value}
-use Rattle.liquid_filters.proofs.ItemLaws.{onto_item, onto_nothing}
+use Rattle.filter_base.proofs.ItemLaws.{onto_item, onto_nothing}
 use Rattle.liquid_values.specs.Names.{is_item, others, holds_item}
 
 module _ (n : ItemName) (vs : List Value) (i : ℕ) where

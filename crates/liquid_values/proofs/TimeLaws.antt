@@ -1,8 +1,8 @@
 -- The moment of the build, as the filter `date` gives it.
 use Rattle.std.proofs.Common.{◌≡◌, ◌∙◌, ap, codes, [], ◌∷◌}
 use Rattle.site_base.specs.Plain.{Plain, text}
-use Rattle.liquid_filters.specs.Answers.{limited}
-use Rattle.liquid_filters.specs.Dates.{date}
+use Rattle.filter_base.specs.Answers.{limited}
+use Rattle.filter_base.specs.Dates.{date}
 use Rattle.liquid_values.specs.Names.{time_pattern, time_query}
 use Rattle.liquid_values.specs.Places.{Place, placed}
 

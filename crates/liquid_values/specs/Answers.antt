@@ -10,8 +10,8 @@ use Rattle.read_record.specs.Answers.{Stops}
 use Rattle.read_record.specs.Queries.{Query, Give, Fail, Trace, Ran, RanTo}
 use Rattle.read_record.specs.declared.stop.Stop.{Stop}
 use Rattle.read_record.specs.declared.stop.Stop.TheVariants as stop
-use Rattle.liquid_filters.specs.declared.stop.Filtered.{Filtered}
-use Rattle.liquid_filters.specs.declared.stop.Filtered.TheVariants as filtered
+use Rattle.filter_base.specs.declared.stop.Filtered.{Filtered}
+use Rattle.filter_base.specs.declared.stop.Filtered.TheVariants as filtered
 use Rattle.liquid_values.specs.declared.found.Found.{Found}
 use Rattle.liquid_values.specs.declared.found.Found.TheVariants as the
 use Rattle.liquid_values.specs.Names as names

@@ -3,8 +3,8 @@ use Rattle.std.specs.Prelude.{ℕ, pos, negsuc, ℤ, nat_lt, ◌-◌, suc, List,
 use Rattle.std.specs.Option.{unwrap_or}
 use Rattle.std.specs.Str.{bytes_eq, chars}
 use Rattle.site_base.specs.Plain.{Plain, nil, int, text, list, hash, Items, count, item_list, Pairs, count_pairs, get}
-use Rattle.liquid_filters.specs.Lists.{first_item, last_item}
-use Rattle.liquid_filters.specs.Numerals.{fits_i64}
+use Rattle.filter_base.specs.Lists.{first_item, last_item}
+use Rattle.filter_base.specs.Numerals.{fits_i64}
 
 -- a count as a value; one that no i64 holds is nil
 abbrev pub count_value : ℕ → Plain

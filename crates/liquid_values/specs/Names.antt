@@ -8,8 +8,8 @@ use Rattle.site_base.specs.declared.faults.SiteFault.{SiteFault}
 use Rattle.site_base.specs.declared.item_name.ItemName.{ItemName}
 use Rattle.read_record.specs.declared.key.Key.TheVariants.{Paginator, SiteVar, Data, Var}
 use Rattle.read_record.specs.Queries.{Query, Give, Ask, bind}
-use Rattle.liquid_filters.specs.Answers.{limited}
-use Rattle.liquid_filters.specs.Dates.{date}
+use Rattle.filter_base.specs.Answers.{limited}
+use Rattle.filter_base.specs.Dates.{date}
 use Rattle.liquid_values.specs.Places.{Manner, of_body, of_excerpt, of_layout, Place, placed}
 
 -- what a name or a member stands for: a value, or `site`, which has members alone

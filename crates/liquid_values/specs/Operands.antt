@@ -8,7 +8,7 @@ use Rattle.site_base.specs.declared.faults.SiteFault.{SiteFault}
 use Rattle.site_base.specs.declared.item_name.ItemName.{ItemName}
 use Rattle.read_record.specs.declared.key.Key.TheVariants.{Source, Content, Output, Var}
 use Rattle.read_record.specs.Queries.{Query, Give, Ask, bind}
-use Rattle.liquid_filters.specs.Numerals.{num}
+use Rattle.filter_base.specs.Numerals.{num}
 use Rattle.liquid_grammar.specs.declared.literal.Literal.{Literal}
 use Rattle.liquid_grammar.specs.declared.literal.Literal.TheVariants as literals
 use Rattle.liquid_grammar.specs.Operands as operands

@@ -3,7 +3,7 @@ ghost use Rattle.std.specs.Prelude.{◌≡◌, map};
 ghost use Rattle.site_base.specs.View.{plain};
 ghost use Rattle.read_record.specs.Queries.{run};
 ghost use Rattle.read_record.specs.Answers.{Finds};
-ghost use Rattle.liquid_filters.specs.Answers.{limited};
+ghost use Rattle.filter_base.specs.Answers.{limited};
 ghost use Rattle.liquid_filters.specs.Table as liquid;
 ghost use Rattle.liquid_values.specs.Answers.{in_plain};
 ghost use Rattle.liquid_values.specs.Places.{placed};

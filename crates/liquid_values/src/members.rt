@@ -6,7 +6,7 @@ ghost use Rattle.site_base.specs.View.{plain};
 ghost use Rattle.liquid_values.specs.Members.{hash_member, list_member, text_member, count_value, member_value, place_in, element_of, element_at};
 
 use crate::loop_values::count_value;
-use liquid_filters::{char_count, first_of, last_of};
+use filter_base::{char_count, first_of, last_of};
 use site_base::{Hash, List, Memory, Text, Value, copy};
 use std::alloc::Global;
 

@@ -17,7 +17,7 @@ use crate::names::named;
 use crate::place::Place;
 use crate::stack::Stack;
 use crate::stop::Stop;
-use liquid_filters::num;
+use filter_base::num;
 use liquid_grammar::{Literal, Operand, Step};
 use read_record::Look;
 use site_base::{FaultKind, Hash, Memory, Value};

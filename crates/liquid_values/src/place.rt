@@ -7,7 +7,7 @@ ghost use Rattle.liquid_values.specs.Standing.{place_of};
 use crate::Mode;
 use crate::locals::{ForLoop, Locals};
 use crate::stop::Stop;
-use liquid_filters::Filtered;
+use filter_base::Filtered;
 use site_base::{FaultKind, ItemName, Memory, SiteFault, SitePath, Value};
 use std::alloc::Global;
 

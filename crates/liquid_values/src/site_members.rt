@@ -1,8 +1,8 @@
 // The members of `site`.
 ghost use Rattle.std.specs.Prelude.{◌≡◌, IfOk, map};
 ghost use Rattle.site_base.specs.Plain.{text};
-ghost use Rattle.liquid_filters.specs.Answers.{limited};
-ghost use Rattle.liquid_filters.specs.Dates.{date};
+ghost use Rattle.filter_base.specs.Answers.{limited};
+ghost use Rattle.filter_base.specs.Dates.{date};
 ghost use Rattle.liquid_values.specs.Places.{placed};
 ghost use Rattle.site_base.specs.View.{plain, items_of};
 ghost use Rattle.read_record.specs.Queries.{Ask, Give, run};

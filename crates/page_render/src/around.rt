@@ -1,6 +1,6 @@
 // An item's text, with the layouts that are around it.
 ghost use Rattle.std.specs.Prelude.{◌≡◌, IfOk, None, OnOk, Some, if◌then◌else◌};
-ghost use Rattle.liquid_filters.specs.Answers.{given};
+ghost use Rattle.filter_base.specs.Answers.{given};
 ghost use Rattle.site_base.specs.View.{plain};
 ghost use Rattle.page_render.specs.Layouts.{bare, ended, is_used, once_around, or_nil, over, unused};
 

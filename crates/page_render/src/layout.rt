@@ -2,7 +2,7 @@
 ghost use Rattle.std.specs.Prelude.{◌≡◌, IfOk, codes};
 ghost use Rattle.site_base.specs.View.{plain};
 ghost use Rattle.liquid_eval.specs.Excerpts.{text_or_empty};
-ghost use Rattle.liquid_filters.specs.Answers.{given};
+ghost use Rattle.filter_base.specs.Answers.{given};
 ghost use Rattle.page_render.specs.Layouts.{layout_at, layout_of, member, or_nil, pairs_of};
 
 use site_base::{Hash, Memory, PathError, SitePath, Text, Value};

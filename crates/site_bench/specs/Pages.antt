@@ -2,7 +2,7 @@
 use Rattle.std.specs.Prelude.{◌≡◌, ℕ, pos, List, codes, Option, Some, IsTrue, refl}
 use Rattle.std.proofs.Common.{subst}
 use Rattle.site_base.specs.Plain.{Plain, nil, int, text, hash, Pairs, get}
-use Rattle.liquid_filters.specs.Properties.{or_nil}
+use Rattle.filter_base.specs.Properties.{or_nil}
 use Rattle.read_record.specs.declared.key.Key.{Key}
 use Rattle.read_record.specs.declared.key.Key.TheVariants.{Var, SiteVar, Data, Include, Moment}
 use Rattle.read_record.specs.Forms.{has_form, is_words, IsFormed}

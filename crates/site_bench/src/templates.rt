@@ -2,8 +2,8 @@
 ghost use Rattle.std.specs.Prelude.{◌≡◌};
 ghost use Rattle.read_record.specs.Answers.{IsReply};
 ghost use Rattle.read_record.specs.Queries.{Known};
-ghost use Rattle.liquid_filters.specs.Answers.{given};
-ghost use Rattle.liquid_filters.specs.Properties.{or_nil};
+ghost use Rattle.filter_base.specs.Answers.{given};
+ghost use Rattle.filter_base.specs.Properties.{or_nil};
 ghost use Rattle.site_bench.specs.Pages.{include_text, page_view, text_or_nil};
 
 use cm_print::CommonMark;

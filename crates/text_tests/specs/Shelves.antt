@@ -3,7 +3,7 @@ use Rattle.std.specs.Prelude.{◌≡◌, ℕ, pos, Bool, true, false, List, code
 use Rattle.std.proofs.Common.{subst}
 use Rattle.std.specs.Str.{bytes_eq}
 use Rattle.site_base.specs.Plain.{Plain, Pairs, nil, int, text, hash, get}
-use Rattle.liquid_filters.specs.Properties.{or_nil}
+use Rattle.filter_base.specs.Properties.{or_nil}
 use Rattle.read_record.specs.declared.key.Key.{Key}
 use Rattle.read_record.specs.declared.key.Key.TheVariants.{Source, Content, Output, Var, Paginator, SiteVar, Data, Layout, Include, File, Link, Post, Moment}
 use Rattle.read_record.specs.Forms.{has_form, is_words, is_fields, IsFormed}

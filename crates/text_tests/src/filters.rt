@@ -1,5 +1,6 @@
 // The values of filters that `jsonify` does not tell apart, and a fault; tests/liquid has the rows.
-use liquid_filters::{Filtered, filter};
+use filter_base::Filtered;
+use liquid_filters::filter;
 use read_record::{Answer, Key, Look};
 use site_base::{FaultKind, Memory, Text, Value, same_code};
 use std::alloc::Global;

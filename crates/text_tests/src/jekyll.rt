@@ -4,8 +4,8 @@ ghost use Rattle.read_record.specs.Queries.{Known};
 ghost use Rattle.read_record.specs.Answers.{IsReply};
 ghost use Rattle.jekyll_filters.specs.Samples.{site_value, site_view};
 
+use filter_base::Filtered;
 use jekyll_filters::jekyll_filter;
-use liquid_filters::Filtered;
 use markdown_grammar::{Convert, HtmlError};
 use read_record::{Answer, Key, Look};
 use site_base::{FaultKind, Hash, ItemName, List, Memory, SitePath, Text, Value, same_code};

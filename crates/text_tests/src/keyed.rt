@@ -5,7 +5,8 @@ ghost use Rattle.read_record.specs.Queries.{Known};
 ghost use Rattle.liquid_filters.specs.Samples.{item_reply, item_view};
 
 use crate::filters::fault_text;
-use liquid_filters::{Filtered, filter};
+use filter_base::Filtered;
+use liquid_filters::filter;
 use read_record::{Answer, Key, Look};
 use site_base::{ItemName, List, Memory, SitePath, Text, Value, same_code};
 use std::alloc::Global;

@@ -2,7 +2,7 @@
 ghost use Rattle.std.specs.Prelude.{◌≡◌, IfOk, codes};
 ghost use Rattle.std.specs.Option.{option_copied, option_map};
 ghost use Rattle.site_base.specs.View.{plain};
-ghost use Rattle.liquid_filters.specs.Properties.{or_nil};
+ghost use Rattle.filter_base.specs.Properties.{or_nil};
 ghost use Rattle.text_tests.specs.Shelves as definitions;
 
 use crate::site::SITE;

@@ -1,10 +1,10 @@
 use Rattle.std.proofs.Common.{Some}
 use Rattle.site_base.specs.View.{plain}
 use Rattle.read_record.proofs.QueryLaws.{run_gave}
-use Rattle.liquid_filters.specs.Answers.{made}
-use Rattle.liquid_filters.specs.Keyed.{Source, keyed}
-use Rattle.liquid_filters.specs.Taken.{source_of}
-use Rattle.liquid_filters.proofs.AnswerLaws.{makes_gives, gives_after}
+use Rattle.filter_base.specs.Answers.{made}
+use Rattle.filter_base.specs.Keyed.{Source, keyed}
+use Rattle.filter_base.specs.Taken.{source_of}
+use Rattle.filter_base.proofs.AnswerLaws.{makes_gives, gives_after}
 use Rattle.jekyll_filters.specs.Groups.{grouped, grouped_by}
 use Rattle.jekyll_filters.proofs.groups.grouped_by.Goals as goal
 

@@ -1,6 +1,6 @@
 use Rattle.std.proofs.Common.{◌≡◌, drop, map}
 use Rattle.site_base.specs.Plain.{no_pairs}
-use Rattle.liquid_filters.specs.Taken.{entry_of}
+use Rattle.filter_base.specs.Taken.{entry_of}
 use Rattle.jekyll_filters.specs.Groups.{groups}
 use Rattle.jekyll_filters.proofs.groups.groups.Given as goal
 

@@ -3,7 +3,7 @@ use Rattle.std.proofs.lemmas.Result.{err_from_is_err_and}
 use Rattle.site_base.specs.View.{plain}
 use Rattle.serde_json.specs.Data.{put}
 use Rattle.serde_json.specs.View.{view, members_view}
-use Rattle.liquid_filters.proofs.CallLaws.{stops_at}
+use Rattle.filter_base.proofs.CallLaws.{stops_at}
 use Rattle.jekyll_filters.proofs.JsonLaws.{item_lighter, pair_lighter, next_item, item_stops, list_gave, next_pair, pair_stops, hash_gave, none_pushed, none_put}
 use Rattle.jekyll_filters.proofs.json_texts.+tree.Goals as goal
 

@@ -3,7 +3,7 @@ use Rattle.std.proofs.lemmas.Result.{err_from_is_err_and}
 use Rattle.site_base.specs.Values.{value_text}
 use Rattle.site_base.specs.View.{plain, items_of}
 use Rattle.site_base.proofs.ValueLaws.{count_length}
-use Rattle.liquid_filters.proofs.WritingLaws.{refused}
+use Rattle.filter_base.proofs.WritingLaws.{refused}
 use Rattle.jekyll_filters.specs.Lists.{words_before, sentence_from}
 use Rattle.jekyll_filters.proofs.SentenceLaws.{next_element}
 use Rattle.jekyll_filters.proofs.lists.sentence.Goals as goal

@@ -1,8 +1,8 @@
 use Rattle.std.proofs.Common.{rules, tests}
 use Rattle.std.proofs.lemmas.Iterator.Consumers.{count_from_yields_List, YieldsList-at, YieldsList-from_filter}
 use Rattle.std.proofs.lemmas.Iterator.Splits.{YieldsList-from_slice_split}
-use Rattle.liquid_filters.specs.White.{is_white}
-use Rattle.liquid_filters.specs.Words.{is_word}
+use Rattle.filter_base.specs.White.{is_white}
+use Rattle.text_filters.specs.Words.{is_word}
 use Rattle.jekyll_filters.proofs.words.word_count.Goals as goal
 
 pub returns : goal.returns

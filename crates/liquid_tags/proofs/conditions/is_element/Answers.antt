@@ -2,7 +2,7 @@ use Rattle.std.proofs.Common.{◌∙◌, rules, tests}
 use Rattle.std.proofs.lemmas.Iterator.Search.{any_from_yields_List}
 use Rattle.std.proofs.lemmas.Iterator.{YieldsList-from_slice}
 use Rattle.site_base.specs.View.{plain}
-use Rattle.liquid_filters.specs.Choosing.{same_value}
+use Rattle.list_filters.specs.Choosing.{same_value}
 use Rattle.liquid_tags.proofs.ConditionLaws.{any_in_list}
 use Rattle.liquid_tags.proofs.conditions.is_element.Goals as goal
 

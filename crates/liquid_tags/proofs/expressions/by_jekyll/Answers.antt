@@ -4,7 +4,7 @@ use Rattle.site_base.specs.View.{plain}
 use Rattle.site_base.specs.declared.faults.SiteFault.{SiteFault}
 use Rattle.site_base.specs.declared.value.Value.{Value}
 use Rattle.jekyll_filters.specs.Table as jekyll
-use Rattle.liquid_filters.specs.Answers.{limited}
+use Rattle.filter_base.specs.Answers.{limited}
 use Rattle.liquid_filters.specs.Table as liquid
 use Rattle.liquid_grammar.specs.Operands.{Operand}
 use Rattle.liquid_values.specs.Answers.{in_plain}

@@ -2,7 +2,7 @@ use Rattle.std.proofs.Common.{◌≡◌, ◌∙◌, ap, sym, subst, Option, Some
 use Rattle.std.specs.Option.{option_or}
 use Rattle.site_base.specs.View.{plain}
 use Rattle.jekyll_filters.specs.Table as jekyll
-use Rattle.liquid_filters.specs.Answers.{Meaning}
+use Rattle.filter_base.specs.Answers.{Meaning}
 use Rattle.liquid_filters.specs.Table as liquid
 use Rattle.liquid_values.specs.Answers.{in_plain}
 use Rattle.liquid_values.specs.Standing.{place_of}

@@ -1,8 +1,8 @@
 use Rattle.std.proofs.Common.{◌≡◌, ◌∙◌, ◌++◌, ap, map, codes, string_bytes}
 use Rattle.std.proofs.lemmas.Result.{IfOk-weaker}
 use Rattle.std.specs.Char.{to_ascii_lowercase}
-use Rattle.liquid_filters.specs.Changes.{changed}
-use Rattle.liquid_filters.specs.declared.changes.TextChange.TheVariants.{Escape}
+use Rattle.text_filters.specs.Changes.{changed}
+use Rattle.text_filters.specs.declared.changes.TextChange.TheVariants.{Escape}
 use Rattle.liquid_tags.specs.Highlights.{class_byte, without_line_ends}
 use Rattle.liquid_tags.proofs.HighlightLaws.{pieced}
 use Rattle.liquid_tags.proofs.highlights.highlighted.Goals as goal

@@ -4,7 +4,7 @@ use Rattle.site_base.specs.Values.{value_text}
 use Rattle.site_base.specs.View.{plain}
 use Rattle.jekyll_filters.specs.Addresses.{address_filter}
 use Rattle.jekyll_filters.specs.declared.addresses.AddressFilter.TheVariants.{RelativeUrl}
-use Rattle.liquid_filters.specs.Answers.{limited}
+use Rattle.filter_base.specs.Answers.{limited}
 use Rattle.liquid_values.proofs.PlaceLaws.{settles_then}
 use Rattle.liquid_values.specs.Places.{placed}
 use Rattle.liquid_values.specs.Standing.{place_of}

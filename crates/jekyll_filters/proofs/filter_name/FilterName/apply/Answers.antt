@@ -1,7 +1,7 @@
 use Rattle.std.proofs.Common.{map}
 use Rattle.site_base.specs.View.{plain}
 use Rattle.jekyll_filters.specs.Table.{meaning_of}
-use Rattle.liquid_filters.proofs.AnswerLaws.{replies_finished}
+use Rattle.filter_base.proofs.AnswerLaws.{replies_finished}
 use Rattle.jekyll_filters.proofs.filter_name.FilterName.apply.Goals as goal
 
 pub returns-clause-gives : goal.returns-clause-gives

@@ -9,7 +9,7 @@ use Rattle.std.proofs.lemmas.Iterator.{YieldsList-from_slice}
 use Rattle.std.proofs.lemmas.Iterator.Search.{find_from_yields_List}
 use Rattle.jekyll_filters.specs.Table.{rows, meaning_of}
 use Rattle.jekyll_filters.specs.declared.filter_name.FilterName.{FilterName}
-use Rattle.liquid_filters.proofs.TableLaws.{Row, entry, found_meaning}
+use Rattle.filter_base.proofs.TableLaws.{Row, entry, found_meaning}
 use Rattle.jekyll_filters.proofs.filter_name.FilterName.named.Goals as goal
 
 pub returns-in-Some : goal.returns-in-Some

@@ -1,6 +1,6 @@
 use Rattle.std.proofs.Common.{map}
 use Rattle.site_base.specs.View.{plain}
-use Rattle.liquid_filters.proofs.AnswerLaws.{makes_gives}
+use Rattle.filter_base.proofs.AnswerLaws.{makes_gives}
 use Rattle.jekyll_filters.specs.Lists.{list_filter}
 use Rattle.jekyll_filters.proofs.filter_name.FilterName.value.Goals as goal
 

@@ -7,9 +7,9 @@ use Rattle.std.specs.Option.{option_map}
 use Rattle.std.specs.Str.{bytes_eq}
 use Rattle.std.proofs.lemmas.Iterator.{YieldsList-from_slice}
 use Rattle.std.proofs.lemmas.Iterator.Search.{find_from_yields_List}
+use Rattle.filter_base.proofs.TableLaws.{Row, entry, found_meaning}
 use Rattle.liquid_filters.specs.Table.{rows, meaning_of}
 use Rattle.liquid_filters.specs.declared.filter_name.FilterName.{FilterName}
-use Rattle.liquid_filters.proofs.TableLaws.{Row, entry, found_meaning}
 use Rattle.liquid_filters.proofs.filter_name.FilterName.named.Goals as goal
 
 pub returns-in-Some : goal.returns-in-Some

@@ -1,9 +1,9 @@
 use Rattle.std.proofs.Common.{map}
 use Rattle.site_base.specs.View.{plain}
-use Rattle.liquid_filters.specs.Replacements.{replacement_filter}
-use Rattle.liquid_filters.specs.Spans.{span_filter}
-use Rattle.liquid_filters.specs.Words.{words_filter}
-use Rattle.liquid_filters.proofs.AnswerLaws.{makes_gives}
+use Rattle.filter_base.proofs.AnswerLaws.{makes_gives}
+use Rattle.text_filters.specs.Replacements.{replacement_filter}
+use Rattle.text_filters.specs.Spans.{span_filter}
+use Rattle.text_filters.specs.Words.{words_filter}
 use Rattle.liquid_filters.proofs.filter_name.FilterName.value.Goals as goal
 
 pub returns-in-Replacement-clause-gives : goal.returns-in-Replacement-clause-gives

@@ -1,7 +1,7 @@
 use Rattle.std.proofs.Common.{◌≡◌, ◌∙◌, ◌<◌, ◌≤◌, ◌^◌, ℕ, ℤ, pos, ◌+ℤ◌, ◌≤ℤ◌, List, Some, length, slice_get, sym, ap, subst, arith, w64, to_z, of_z, rules, FitsSigned}
 use Rattle.std.proofs.lemmas.Int.{ints}
 use Rattle.site_base.specs.Plain.{Plain, int, item_list, count_pairs}
-use Rattle.liquid_filters.specs.Elements.{counted}
+use Rattle.filter_base.specs.Elements.{counted}
 use Rattle.liquid_tags.specs.Elements.{pair_list}
 use Rattle.liquid_tags.specs.Sources.{all_of, next_number}
 use Rattle.liquid_tags.proofs.ElementLaws.{count_items, count_pair_list, counted_len, number_at}

@@ -1,0 +1,9 @@
+pub mod AnswerLaws
+pub mod CallLaws
+pub mod EachLaws
+pub mod ItemLaws
+pub mod NestingLaws
+pub mod NumeralLaws
+pub mod TableLaws
+pub mod WhiteLaws
+pub mod WritingLaws

@@ -1,0 +1,13 @@
+pub mod Answers
+pub mod Arguments
+pub mod Dates
+pub mod Elements
+pub mod Keyed
+pub mod Limits
+pub mod Lists
+pub mod Numerals
+pub mod Properties
+pub mod Stops
+pub mod Taken
+pub mod White
+pub mod Writing

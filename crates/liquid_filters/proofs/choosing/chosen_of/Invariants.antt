@@ -1,8 +1,0 @@
-use Rattle.std.proofs.Common.{◌≡◌, drop, map}
-use Rattle.site_base.specs.Plain.{onto}
-use Rattle.liquid_filters.specs.Choosing.{chosen}
-use Rattle.liquid_filters.specs.Taken.{entry_of, passes}
-use Rattle.liquid_filters.proofs.choosing.chosen_of.Given as goal
-
-abbrev pub invariant-loop-entry : goal.invariant-loop-entry
-invariant-loop-entry l = onto l.list (chosen (passes l.test) (map entry_of (drop l.entry-index l.entries))) ≡ chosen (passes l.test) (map entry_of l.entries)

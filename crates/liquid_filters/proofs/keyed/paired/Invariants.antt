@@ -1,8 +1,0 @@
-use Rattle.std.proofs.Common.{◌≡◌, ◌++◌, drop, map}
-use Rattle.site_base.specs.View.{items_of}
-use Rattle.liquid_filters.specs.Keyed.{paired}
-use Rattle.liquid_filters.specs.Taken.{entry_of}
-use Rattle.liquid_filters.proofs.keyed.paired.Given as goal
-
-abbrev pub invariant-loop-place : goal.invariant-loop-place
-invariant-loop-place l = map entry_of l.entries.items ++ paired (items_of (drop l.place l.elements)) (items_of (drop l.place l.keys)) ≡ paired (items_of l.elements) (items_of l.keys)

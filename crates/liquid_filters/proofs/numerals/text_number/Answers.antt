@@ -1,6 +1,0 @@
-use Rattle.std.proofs.Common.{sym, ◌∙◌}
-use Rattle.liquid_filters.proofs.NumeralLaws.{whole_numeral}
-use Rattle.liquid_filters.proofs.numerals.text_number.Goals as goal
-
-pub whole_number-requires : goal.whole_number-requires
-whole_number-requires c = whole_numeral c.args.text.now (sym c.is_whole.ensures ∙ c.if-is_whole.true)

@@ -1,8 +1,0 @@
-use Rattle.std.proofs.Common.{ap, ◌∙◌}
-use Rattle.std.specs.List.{suffix_len}
-use Rattle.liquid_filters.specs.White.{is_white}
-use Rattle.liquid_filters.proofs.WhiteLaws.{white_end_cut}
-use Rattle.liquid_filters.proofs.white.without_end.Goals as goal
-
-pub range-requires-clause-end_boundary : goal.range-requires-clause-end_boundary
-range-requires-clause-end_boundary c = white_end_cut c.args.text.now c.white_end_len.result (c.white_end_len.ensures.value ∙ ap (suffix_len is_white) c.as_bytes.ensures.value)

@@ -1,8 +1,0 @@
-use Rattle.std.proofs.Common.{ap, ◌∙◌}
-use Rattle.std.specs.List.{prefix_len}
-use Rattle.liquid_filters.specs.White.{is_white}
-use Rattle.liquid_filters.proofs.WhiteLaws.{white_cut}
-use Rattle.liquid_filters.proofs.white.without_front.Goals as goal
-
-pub range_from-requires : goal.range_from-requires
-range_from-requires c = λ _. white_cut c.args.text.now c.white_len.result c.utf8.text (c.white_len.ensures.value ∙ ap (prefix_len is_white) c.as_bytes.ensures.value)

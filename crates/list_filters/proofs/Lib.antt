@@ -1,0 +1,3 @@
+pub mod KeyOrderLaws
+pub mod SelectionLaws
+pub mod SortLaws

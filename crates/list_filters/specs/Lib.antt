@@ -1,0 +1,5 @@
+pub mod Choosing
+pub mod KeyOrder
+pub mod Selections
+pub mod Sortings
+pub mod Tests

@@ -1,0 +1,13 @@
+pub mod Changes
+pub mod Characters
+pub mod Marks
+pub mod MissingEnds
+pub mod Parts
+pub mod Replacements
+pub mod Spans
+pub mod Splitting
+pub mod Stretches
+pub mod Texts
+pub mod UrlTexts
+pub mod Urls
+pub mod Words
