@@ -1,13 +1,13 @@
 -- Front matter, one line after another, as a loop finds it.
-use Rattle.std.proofs.Common.{◌≡◌, ℕ, zero, suc, ◌+◌, Bool, true, false, not, List, [], ◌∷◌, length, take, drop, refl, ap, ◌∙◌, arith}
+use Rattle.std.proofs.Common.{◌≡◌, ℕ, zero, suc, ◌+◌, Bool, true, false, not, cond, List, [], ◌∷◌, length, take, drop, refl, ap, ◌∙◌, arith}
 use Rattle.std.specs.Prelude.{take_while}
 use Rattle.std.specs.List.{concat, prefix_len}
 use Rattle.std.proofs.lemmas.List.{length-append}
 use Rattle.front_yaml.specs.declared.front_matter.Front.{Front}
 use Rattle.front_yaml.specs.declared.front_matter.Front.TheVariants.{Page, Plain}
-use Rattle.site_base.specs.Lines.{lines}
+use Rattle.site_base.specs.Lines.{lines, ends_line}
 use Rattle.site_base.proofs.LinesLaws.{first_line, line_len}
-use Rattle.front_yaml.specs.Front.{begins_fence, closes, stays_open, closed, front_at, total, is_blank}
+use Rattle.front_yaml.specs.Front.{is_white, begins_white, begins_fence, closes, stays_open, closed, front_at, total, is_blank}
 use Rattle.front_yaml.proofs.Prefixes.{prefix_more, prefix_none}
 
 -- front matter from `start`, of which the lines from `at` on are to be read
@@ -45,6 +45,20 @@ blank_more line ls blank = while_more is_blank line ls blank
 
 pub blank_none : (line : List ℕ) (ls : List (List ℕ)) → is_blank line ≡ false → total (take_while is_blank (line ∷ ls)) ≡ 0
 blank_none line ls blank = while_none is_blank line ls blank
+
+-- a line at whose front no white space stands is not blank, whatever its length is
+not_blank : (once : Bool) (c : ℕ) (cs : List ℕ) (n : ℕ) → is_white c ≡ false → is_blank (take (cond once 1 (suc n)) (c ∷ cs)) ≡ false
+not_blank true c cs n e = rw e refl
+not_blank false c cs n e = rw e refl
+
+-- a text at whose front no white space stands begins with no blank line
+pub blank_at : (xs : List ℕ) → begins_white xs ≡ false → total (take_while is_blank (lines xs)) ≡ 0
+unfolding lines
+blank_at [] e = refl
+blank_at (c ∷ cs) e =
+    let n = line_len (c ∷ cs) in
+    ap (λ ls. total (take_while is_blank ls)) (first_line c cs)
+    ∙ blank_none (take n (c ∷ cs)) (lines (drop n (c ∷ cs))) (not_blank (ends_line c cs) c cs (line_len cs) e)
 
 -- where no fence stands at the front of a text, none stands at that of its first line
 begins_not : (b : ℕ) (xs : List ℕ) (n : ℕ) → begins_fence b xs ≡ false → begins_fence b (take n xs) ≡ false

@@ -14,6 +14,11 @@ is_white c = (c == 32) || (c == 9) || (c == 10) || (c == 13)
 abbrev pub is_blank : List ℕ → Bool
 is_blank line = list_all is_white line
 
+-- white space stands at the front
+abbrev pub begins_white : List ℕ → Bool
+begins_white [] = false
+begins_white (c ∷ cs) = is_white c
+
 -- three times the byte at the front
 abbrev pub begins_fence : ℕ → List ℕ → Bool
 begins_fence b (x ∷ y ∷ z ∷ rest) = (x == b) && (y == b) && (z == b)

@@ -1,7 +1,7 @@
 // Where the front matter of a file stands.
 ghost use Rattle.std.specs.Prelude.{◌≡◌, ◌+◌, ◌<◌, ◌≤◌, length, drop, take_while, slice_range, MatchOption, IfSome, IsTrue};
 ghost use Rattle.site_base.specs.Lines.{lines};
-ghost use Rattle.front_yaml.specs.Front.{front, front_at, opened, is_blank, begins_fence, is_fence, opens, closes, mark_len, total, HasCuts, IsCut};
+ghost use Rattle.front_yaml.specs.Front.{front, front_at, opened, is_blank, begins_white, begins_fence, is_fence, opens, closes, mark_len, total, HasCuts, IsCut};
 
 use crate::lines::line_end;
 
@@ -98,7 +98,8 @@ fn blank_end(bytes: &[u8], from: usize) -> usize
     ensures cut { IsCut bytes.now result }
 {
     let mut at = from;
-    while at < bytes.len() {
+    // A body mostly begins with a letter, so that the end of its first line, which may be far, is not looked for.
+    while begins_white(&bytes[at..]) {
         let next = line_end(bytes, at);
         if !is_blank(&bytes[at..next]) {
             return at;
@@ -106,6 +107,13 @@ fn blank_end(bytes: &[u8], from: usize) -> usize
         at = next;
     }
     at
+}
+
+fn begins_white(text: &[u8]) -> bool
+    ensures value { result ≡ begins_white text.now }
+    ensures some { IsTrue result → 0 < length text.now }
+{
+    matches!(text.first(), Some(b' ' | b'\t' | b'\n' | b'\r'))
 }
 
 fn opens(line: &[u8]) -> bool

@@ -5,7 +5,6 @@ use Rattle.std.proofs.lemmas.Map.Keys.{IsDistinct-tail, apart_from_distinct}
 use Rattle.std.proofs.lemmas.Option.{get_or_from_slice_get, slice_get_within}
 use Rattle.std.specs.List.{IsDistinct}
 use Rattle.std.specs.Map.{lookup, keys_of}
-use Rattle.indexmap.specs.IndexMap.{insert_entry}
 use Rattle.read_record.specs.declared.key.Key.{Key}
 use Rattle.read_record.specs.declared.outcome.Agreement.{Agreement}
 use Rattle.read_record.specs.declared.outcome.Checked.TheVariants as checked
@@ -13,7 +12,6 @@ use Rattle.read_record.specs.Keys.{same_key}
 use Rattle.read_record.specs.SameKeys.{same_key-equiv}
 use Rattle.read_record.specs.Queries.{View, Reads}
 use Rattle.read_record.specs.Records.{agreement_of, checked_at, first_other_from, first_other}
-use Rattle.read_record.proofs.SeenLaws.{insert-new}
 
 module _ {A : Type 0} where
   drop-suc : (xs : List A) (i : ℕ) (x : A) → slice_get xs i ≡ Some x → drop i xs ≡ x ∷ drop (suc i) xs
@@ -42,7 +40,7 @@ key-at [] i r h = cc
 key-at (s ∷ reads) zero r h = let e : s ≡ r = cc in ap (λ (x : Key × List ℕ). Some x.0) e
 key-at (s ∷ reads) (suc i) r h = key-at reads i r h
 
-once-before : (reads : Reads) (i : ℕ) (r : Key × List ℕ) → IsDistinct same_key (keys_of reads) → slice_get reads i ≡ Some r → lookup (same_key r.0) (take i reads) ≡ None
+pub once-before : (reads : Reads) (i : ℕ) (r : Key × List ℕ) → IsDistinct same_key (keys_of reads) → slice_get reads i ≡ Some r → lookup (same_key r.0) (take i reads) ≡ None
 once-before [] i r distinct h = cc
 once-before (s ∷ reads) zero r distinct h = refl
 once-before (s ∷ reads) (suc i) r distinct h =
@@ -53,8 +51,7 @@ once-before (s ∷ reads) (suc i) r distinct h =
     let other : same_key r.0 s.0 ≡ false = same_key-equiv.symm r.0 s.0 ∙ ap (λ k. same_key s.0 k) (sym at) ∙ apart in
     ap (λ b. cond b (Some s.1) (lookup (same_key r.0) (take i reads))) other ∙ once-before reads i r (IsDistinct-tail same_key s.0 (keys_of reads) distinct) h
 
-pub copied-one : (reads old new : Reads) (i : ℕ) (k k' : Key) (seen seen' : List ℕ) → IsDistinct same_key (keys_of reads) → slice_get reads i ≡ Some (k, seen) → k' ≡ k → seen' ≡ seen
-    → old ≡ take i reads → new ≡ insert_entry same_key old k' seen' → new ≡ take (i + 1) reads
-copied-one reads old new i k k' seen seen' distinct h e f g p =
-    p ∙ ap (λ j. insert_entry same_key old j seen') e ∙ ap (λ b. insert_entry same_key old k b) f ∙ ap (λ es. insert_entry same_key es k seen) g
-    ∙ insert-new (take i reads) k seen (once-before reads i (k, seen) distinct h) ∙ sym (take-next reads i (k, seen) h) ∙ ap (λ n. take n reads) (sym (add-one i))
+pub copied-one : (reads old new : Reads) (i : ℕ) (k : Key) (seen seen' : List ℕ) → slice_get reads i ≡ Some (k, seen) → seen' ≡ seen
+    → old ≡ take i reads → new ≡ old ++ (k, seen') ∷ [] → new ≡ take (i + 1) reads
+copied-one reads old new i k seen seen' h f g p =
+    p ∙ ap (λ b. old ++ (k, b) ∷ []) f ∙ ap (λ es. es ++ (k, seen) ∷ []) g ∙ sym (take-next reads i (k, seen) h) ∙ ap (λ n. take n reads) (sym (add-one i))

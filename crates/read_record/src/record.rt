@@ -45,6 +45,15 @@ impl Record {
         }
     }
 
+    // The record of no reads, with room for so many.
+    fn with_room(alloc: Global, count: usize) -> Result<Record, Memory>
+        ensures { IfOk result (λ made. made ≡ []) }
+    {
+        Ok(Record {
+            reads: IndexMap::with_capacity(alloc, count)?,
+        })
+    }
+
     /// How many keys were read.
     pub fn len(&self) -> u64
         ensures len { result ≡ length self.now }
@@ -101,13 +110,11 @@ impl Record {
     pub(crate) fn copy(&self, alloc: Global) -> Result<Record, Memory>
         ensures { IfOk result (λ copy. copy ≡ self.now) }
     {
-        let mut reads = IndexMap::with_capacity(alloc, self.reads.len())?;
+        let mut copy = Record::with_room(alloc, self.reads.len())?;
         for place in 0..self.len() {
             let (key, seen) = self.pair_at(place);
-            let key = key.copy(alloc)?;
-            let seen = seen.share()?;
-            reads.insert(key, seen)?;
+            copy.add(alloc, key, seen.share()?)?;
         }
-        Ok(Record { reads })
+        Ok(copy)
     }
 }

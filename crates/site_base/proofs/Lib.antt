@@ -8,3 +8,4 @@ pub mod Sorting
 pub mod ValueLaws
 pub mod Weights
 pub mod IndexLaws
+mod Drops

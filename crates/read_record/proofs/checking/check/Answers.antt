@@ -2,7 +2,7 @@ use Rattle.std.proofs.Common.{◌≡◌, sym, arith}
 use Rattle.read_record.specs.declared.outcome.Checked.TheVariants as checked
 use Rattle.read_record.specs.Records.{first_other}
 use Rattle.read_record.proofs.PlaceLaws.{next-place, no-more}
-use Rattle.read_record.proofs.RecordLaws.{carried}
+use Rattle.read_record.proofs.RecordLaws.{carried, carried-missed}
 use Rattle.read_record.proofs.checking.check.Goals as goal
 
 pub returns-in-Other-clause-first : goal.returns-in-Other-clause-first
@@ -25,3 +25,9 @@ returns-clause-carries g c h query met certified =
     let view = g.W.World.sight c.args.world.now c.args.reader (g.F.Finished.outcomes c.args.outs.now) in
     let agrees : first_other c.args.reads.now view ≡ checked.Agrees = no-more c.args.reads.now view c.loop-place.place (omega arith) c.loop-place.invariant in
     carried c.args.reads.now view agrees query met certified
+
+pub returns-clause-carries_miss : goal.returns-clause-carries_miss
+returns-clause-carries_miss g c h query key item misses there =
+    let view = g.W.World.sight c.args.world.now c.args.reader (g.F.Finished.outcomes c.args.outs.now) in
+    let agrees : first_other c.args.reads.now view ≡ checked.Agrees = no-more c.args.reads.now view c.loop-place.place (omega arith) c.loop-place.invariant in
+    carried-missed c.args.reads.now view agrees query key item misses there
