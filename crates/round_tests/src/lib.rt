@@ -5,6 +5,8 @@
 #[cfg(test)]
 mod memo;
 #[cfg(test)]
+mod pool;
+#[cfg(test)]
 mod records;
 #[cfg(test)]
 mod rounds;
