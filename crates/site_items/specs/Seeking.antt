@@ -7,7 +7,7 @@ use Rattle.site_base.specs.Plain.{Pairs, key_list}
 use Rattle.site_files.specs.Names.{file_name, stem}
 use Rattle.site_items.specs.Addresses.{found_url, stands_for, template}
 use Rattle.site_items.specs.Defaults.{variable}
-use Rattle.site_items.specs.Items.{at, categories, item, item_at, kind_variables, matter_timeless, placed, slug_of, unless_later}
+use Rattle.site_items.specs.Items.{at, categories, item, item_at, kind_variables, matter_timeless, placed, slug_of, timeless, unless_later}
 use Rattle.site_items.specs.Outcomes.{Outcome}
 use Rattle.site_items.specs.declared.addresses.Sought.{Sought}
 use Rattle.site_items.specs.declared.item.Item.{Item}
@@ -39,8 +39,14 @@ ruled_item rules k path bytes = item rules.config.now (map (λ s. s.now) rules.s
 abbrev pub ruled_matter : Rules → Kind → List ℕ → Matter → Outcome Timeless
 ruled_matter rules k path m = matter_timeless rules.config.now (map (λ s. s.now) rules.scopes.now) k path m
 
+abbrev pub ruled_timeless : Rules → Kind → List ℕ → List ℕ → Outcome Timeless
+ruled_timeless rules k path bytes = timeless rules.config.now (map (λ s. s.now) rules.scopes.now) k path bytes
+
 abbrev pub ruled_at : Rules → Kind → List ℕ → Timeless → Outcome (Option Item)
 ruled_at rules k path made = at rules.now rules.future rules.config.now k path made
+
+abbrev pub ruled_now : Rules → Kind → List ℕ → Outcome Timeless → Outcome (Option Item)
+ruled_now rules k path found = found >>= ruled_at rules k path
 
 abbrev pub ruled_later : Rules → Option ℤ → Outcome Item → Outcome (Option Item)
 ruled_later rules moment found = unless_later rules.now rules.future moment found

@@ -1,5 +1,5 @@
 // Items of the site.
-ghost use Rattle.std.specs.Prelude.{◌≡◌, IfSome, MatchResult};
+ghost use Rattle.std.specs.Prelude.{◌≡◌, IfOk, IfSome, MatchResult};
 ghost use Rattle.site_dates.specs.Moment.{IsMoment};
 ghost use Rattle.site_dates.specs.Offset.{IsOffset};
 ghost use Rattle.site_items.specs.Items.{named_item};
@@ -9,16 +9,14 @@ ghost use Rattle.site_items.specs.Seeking.{address_of, ruled_item, sought_item, 
 use crate::addresses::{Sought, dest_of, url_of};
 use crate::extensions::output_ext;
 use crate::file_content::FileContent;
-use crate::front_parser::PlainParser;
 use crate::item_error::ItemError;
 use crate::kind::Kind;
 use crate::lookup::variable;
-use crate::matter::Matter;
 use crate::names::{categories, set_names, slug_of};
 use crate::placed_variables::set_variables;
 use crate::templates::template;
 use crate::timeless::Timeless;
-use site_base::{Hash, SitePath, Text};
+use site_base::{Hash, Memory, SitePath, Text};
 use site_config::{Config, Scope};
 use site_files::{extension, file_name, stem};
 use std::alloc::Global;
@@ -68,9 +66,36 @@ impl Item {
         ensures { let found = ruled_item rules.entry.now kind path.now content.now in
             MatchResult result (λ made. found ≡ Ok made) (IsFault found) }
     {
-        let mut parser = PlainParser;
-        let matter = Matter::read(alloc, content, &mut parser)?;
-        Timeless::of(alloc, rules, kind, path, matter)?.at(alloc, rules, kind, path)
+        Timeless::read(alloc, rules, kind, path, content)?.at(alloc, rules, kind, path)
+    }
+
+    /// An equal item. What can be shared is not copied.
+    pub(crate) fn share(&self, alloc: Global) -> Result<Item, Memory>
+        ensures { IfOk result (λ shared. shared ≡ self.now) }
+    {
+        Ok(Item {
+            moment: self.moment,
+            url: self.url.share(alloc)?,
+            dest: match &self.dest {
+                Some(path) => Some(path.copy(alloc)?),
+                None => None,
+            },
+            vars: self.vars.share(alloc)?,
+            body: self.body.share(alloc)?,
+        })
+    }
+
+    /// The item, of which further holders take little more. Nothing is copied.
+    pub(crate) fn into_shared(self) -> Result<Item, Memory>
+        ensures { IfOk result (λ shared. shared ≡ self) }
+    {
+        Ok(Item {
+            moment: self.moment,
+            url: self.url.into_shared()?,
+            dest: self.dest,
+            vars: self.vars.into_shared()?,
+            body: self.body.into_shared()?,
+        })
     }
 }
 

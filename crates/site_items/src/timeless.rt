@@ -5,11 +5,14 @@ ghost use Rattle.site_dates.specs.Moment.{IsMoment};
 ghost use Rattle.site_dates.specs.Offset.{IsOffset};
 ghost use Rattle.site_items.specs.Items.{document_date, has_present, is_left_out, is_published, named_item, of_moment, some_item, timeless_of, timeless_with};
 ghost use Rattle.site_items.specs.Outcomes.{IsFault};
-ghost use Rattle.site_items.specs.Seeking.{ruled_at, ruled_later, ruled_matter};
+ghost use Rattle.site_items.specs.Matter.{outcome_of};
+ghost use Rattle.site_items.specs.Seeking.{ruled_at, ruled_later, ruled_matter, ruled_timeless};
 ghost use Rattle.site_files.specs.Names.{file_name, stem};
 
 use crate::dates::{document_date, given_date};
 use crate::defaults::variables;
+use crate::file_content::FileContent;
+use crate::front_parser::PlainParser;
 use crate::item::{Item, Rules, named_item};
 use crate::item_error::{ItemError, LineFault, config_fault};
 use crate::kind::Kind;
@@ -34,11 +37,47 @@ pub enum Timeless {
 }
 
 impl Timeless {
-    /// What a file of a kind is by its variables and its body. Its variables share its path.
+    /// What a file of a kind is. Its body shares the bytes of the file, and its variables share its path.
     ///
-    /// `Fault` comes exactly where its variable `published` is neither nil nor a bool (`Config`), or else it is published,
-    /// and `date` is neither nil nor a date (`BadDate`).
-    pub fn of(
+    /// `Fault` comes exactly where the file has a fault at every moment, and names the first: it is no UTF-8 (`NotUtf8`),
+    /// its front matter is no mapping (`Yaml`, with its line), its variable `published` is neither nil nor a bool (`Config`),
+    /// or else it is published, and `date` is neither nil nor a date (`BadDate`).
+    pub(crate) fn read(
+        alloc: Global,
+        rules: &Rules,
+        kind: Kind,
+        path: &SitePath,
+        content: &FileContent,
+    ) -> Result<Timeless, ItemError>
+        requires offset { IsOffset rules.now.config.now.timezone }
+        ensures { let found = ruled_timeless rules.entry.now kind path.now content.now in
+            MatchResult result (λ made. found ≡ Ok made) (IsFault found) }
+    {
+        let mut parser = PlainParser;
+        let matter = Matter::read(alloc, content, &mut parser)?;
+        Timeless::of(alloc, rules, kind, path, matter)
+    }
+
+    /// The same as it is kept: further holders of it take little more.
+    pub fn known(
+        alloc: Global,
+        rules: &Rules,
+        kind: Kind,
+        path: &SitePath,
+        content: &FileContent,
+    ) -> Result<Result<Timeless, LineFault>, Memory>
+        requires offset { IsOffset rules.now.config.now.timezone }
+        ensures { IfOk result (λ known. ruled_timeless rules.entry.now kind path.now content.now ≡ outcome_of known) }
+    {
+        match Timeless::read(alloc, rules, kind, path, content) {
+            Ok(made) => Ok(Ok(made.into_shared()?)),
+            Err(ItemError::Fault(fault)) => Ok(Err(fault)),
+            Err(ItemError::Memory) => Err(Memory),
+        }
+    }
+
+    // What a file is by its variables and its body.
+    fn of(
         alloc: Global,
         rules: &Rules,
         kind: Kind,
@@ -75,6 +114,32 @@ impl Timeless {
             Timeless::Undated(vars, body) => present_item(alloc, rules, kind, path, body, vars),
             Timeless::Made(item) => Ok(unless_later(rules, item)),
             Timeless::Faulty(moment, fault) => fault_unless_later(rules, moment, fault),
+        }
+    }
+
+    /// An equal one. What can be shared is not copied.
+    pub fn share(&self, alloc: Global) -> Result<Timeless, Memory>
+        ensures { IfOk result (λ shared. shared ≡ self.now) }
+    {
+        match self {
+            Timeless::Unpublished => Ok(Timeless::Unpublished),
+            Timeless::Undated(vars, body) => {
+                Ok(Timeless::Undated(vars.share(alloc)?, body.share(alloc)?))
+            }
+            Timeless::Made(item) => Ok(Timeless::Made(item.share(alloc)?)),
+            Timeless::Faulty(moment, fault) => Ok(Timeless::Faulty(*moment, *fault)),
+        }
+    }
+
+    fn into_shared(self) -> Result<Timeless, Memory>
+        ensures { IfOk result (λ shared. shared ≡ self) }
+    {
+        match self {
+            Timeless::Undated(vars, body) => {
+                Ok(Timeless::Undated(vars.into_shared()?, body.into_shared()?))
+            }
+            Timeless::Made(item) => Ok(Timeless::Made(item.into_shared()?)),
+            made => Ok(made),
         }
     }
 }

@@ -40,7 +40,7 @@ pub(crate) fn build_one_by_one<
     ensures { let at = stage S.files S.failures O.contents O.calls O.failures K.taken K.failures in
         OneBuild (start options.settings moment) options.why (at source.old out.old tally.old sink.old) (at source.new out.new tally.new sink.new) result }
 {
-    let mut session = Session::open(alloc, options.settings, moment);
+    let mut session = Session::for_one_build(alloc, options.settings, moment);
     let scanned = match tell_scan(alloc, options.why, &mut session, source, sink) {
         Ok(scanned) => scanned,
         Err(stop) => return stop.status(),
@@ -78,7 +78,7 @@ pub(crate) fn build_by_crew<
     ensures { let at = stage S.files S.failures O.contents O.calls O.failures K.taken K.failures in
         OneBuild (start options.settings moment) options.why (at source.old out.old tally.old sink.old) (at source.new out.new tally.new sink.new) result }
 {
-    let mut session = Session::open(alloc, options.settings, moment);
+    let mut session = Session::for_one_build(alloc, options.settings, moment);
     let scanned = match tell_scan(alloc, options.why, &mut session, source, sink) {
         Ok(scanned) => scanned,
         Err(stop) => return stop.status(),

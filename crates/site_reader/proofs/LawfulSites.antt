@@ -18,7 +18,7 @@ use Rattle.site_reader.specs.Sites as sites
 use Rattle.site_reader.specs.declared.site.Site.{Site}
 use Rattle.site_reader.specs.declared.site_error.SiteError.{SiteError}
 use Rattle.site_reader.specs.declared.site_item.SiteItem.{SiteItem}
-use Rattle.source_tree.specs.Limits.{most_files}
+use Rattle.source_tree.specs.Limits.{CanBeHeld, most_files}
 use Rattle.site_reader.proofs.ConfigurationLaws.{IsFormed, config_formed, sized}
 use Rattle.site_reader.proofs.Differing.{differ, distinct, distinct_differ, each_named, file_held, file_once, named}
 use Rattle.site_reader.proofs.IncludeLaws.{includes_differ}
@@ -141,3 +141,7 @@ read_lawfully files now settings config (Err error) config_read moment is = tt
 pub few_under : (files : Files) (read : Result Site SiteError) → len files ≤ most_files → IfOk read (IsLawful files) → IfOk read (λ made. length made.items ≤ 2 * most_files)
 few_under files (Ok made) within is = omega (arith, within, is.few)
 few_under files (Err error) within is = tt
+
+pub few_held : (files : Files) (read : Result Site SiteError) → IfOk read (λ _. CanBeHeld files) → IfOk read (IsLawful files) → IfOk read (λ made. length made.items ≤ 2 * most_files)
+few_held files (Ok made) held is = few_under files (Ok made) held.few is
+few_held files (Err error) held is = tt

@@ -12,6 +12,7 @@ mod NeighbourLaws
 mod PageLaws
 mod PageRows
 mod PagedItems
+mod PlacementLaws
 mod RankOrder
 mod RisingLaws
 mod VariableLaws

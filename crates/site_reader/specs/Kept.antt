@@ -16,7 +16,7 @@ use Rattle.site_files.specs.Places.{place_of}
 use Rattle.site_files.specs.declared.place.Place.{Place}
 use Rattle.site_files.specs.declared.place.Place.TheVariants as place
 use Rattle.site_reader.specs.Found.{Found}
-use Rattle.site_reader.specs.Placing.{File, builds_drafts, has_matter, item_kind}
+use Rattle.site_reader.specs.Placing.{File, builds_drafts, kind_at}
 use Rattle.site_reader.specs.Sites.{config}
 
 -- the files that are kept, and how many of them were read anew in the last reading
@@ -33,7 +33,7 @@ is_layout other = false
 
 -- whether it is a layout or an item, which have variables
 abbrev pub has_variables : Place → Front → Bool
-has_variables at matter = is_layout at || (has_matter matter && is_some (item_kind at))
+has_variables at matter = is_layout at || is_some (kind_at at matter)
 
 -- whether front matter is closed, so that there is YAML to be read
 abbrev pub is_closed : Front → Bool

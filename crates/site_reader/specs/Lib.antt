@@ -6,6 +6,8 @@ pub mod Ruled
 pub mod Neighbours
 pub mod Outputs
 pub mod Paginating
+pub mod Configured
 pub mod Sites
 pub mod Lawful
 pub mod Kept
+pub mod Placements

@@ -10,7 +10,7 @@ use Rattle.site_files.specs.declared.place.Place.{Place}
 use Rattle.site_files.specs.declared.place.Place.TheVariants as place
 use Rattle.site_items.specs.declared.kind.Kind.{Kind}
 use Rattle.site_items.specs.declared.kind.Kind.TheVariants as kind
-use Rattle.site_reader.specs.declared.placing.PlacedFile.{PlacedFile}
+use Rattle.site_reader.specs.declared.placed_file.PlacedFile.{PlacedFile}
 
 -- the file of the configuration
 abbrev pub config_path : List ℕ
@@ -54,9 +54,12 @@ copied_kind (place.Collection n) = Some (kind.Document n)
 copied_kind place.Common = Some kind.Page
 copied_kind other = None
 
+abbrev pub kind_at : Place → Front → Option Kind
+kind_at at matter = if has_matter matter then item_kind at else None
+
 -- the item that a file is, by its kind
 abbrev pub as_item : Placed → Option Kind
-as_item file = if has_matter (front file.1.1) then item_kind file.0 else None
+as_item file = kind_at file.0 (front file.1.1)
 
 -- the file that is copied, by the kind of its place
 abbrev pub as_copy : Placed → Option Kind

@@ -1,32 +1,26 @@
 -- A site as data: what its files make, or its first fault. The configuration comes first, then data files, layouts, includes and
 -- items, each in the order of paths, then the pages of a pagination, and at last paths that cannot stand side by side.
-use Rattle.std.specs.Prelude.{ℕ, ℤ, Bool, List, [], ◌∷◌, ◌++◌, length, map, Option, Some, None, Ok, Err, if◌then◌else◌}
+use Rattle.std.specs.Prelude.{◌≡◌, ℕ, ℤ, Bool, List, [], ◌∷◌, ◌++◌, length, map, Option, Some, None, Ok, Err}
 use Rattle.std.specs.BTreeMap.{insert_entry}
 use Rattle.std.specs.FinMap.{entries, get}
 use Rattle.std.specs.Map.{values_of}
-use Rattle.std.specs.Str.{is_utf8}
 use Rattle.site_base.specs.Chains.{◌>>=◌}
 use Rattle.site_base.specs.Faults.{fault_at}
 use Rattle.site_base.specs.Places.{Files, path_cmp}
-use Rattle.site_base.specs.Plain.{Pairs, hash}
 use Rattle.site_base.specs.declared.faults.FaultKind.TheVariants as fault
 use Rattle.site_base.specs.declared.settings.Settings.{Settings}
 use Rattle.site_base.specs.declared.value.Value.TheVariants as value
-use Rattle.site_config.specs.Texts.{mapping}
-use Rattle.site_config.specs.Config as of
-use Rattle.site_config.specs.Table.{wrong_key}
 use Rattle.site_config.specs.declared.config.Config.{Config}
 use Rattle.site_config.specs.declared.scope.Scope.{Scope}
 use Rattle.site_files.specs.declared.place.Place.TheVariants as place
 use Rattle.site_items.specs.Defaults.{by_strength}
 use Rattle.site_items.specs.Files as file
 use Rattle.site_items.specs.Items.{item}
-use Rattle.site_items.specs.Matter as matter
-use Rattle.site_items.specs.Outcomes.{Outcome}
 use Rattle.site_items.specs.declared.include_file.IncludeFile.{IncludeFile}
 use Rattle.site_items.specs.declared.kind.Kind.{Kind}
 use Rattle.site_items.specs.declared.layout_file.LayoutFile.{LayoutFile}
 use Rattle.site_items.specs.declared.static_file.StaticFile.{StaticFile}
+pub use Rattle.site_reader.specs.Configured.{config_in, configured, text_config}
 use Rattle.site_reader.specs.Data.{data_tree}
 use Rattle.site_reader.specs.Found.{Found, each, in_file}
 use Rattle.site_reader.specs.Neighbours.{site_items}
@@ -39,20 +33,11 @@ use Rattle.site_reader.specs.declared.site_item.SiteItem.{SiteItem}
 
 -- ---- the configuration
 
--- a mapping whose values have their forms
-abbrev pub configured : Option (List ℕ) → Pairs → Outcome Config
-configured None ps = Ok (of.config (hash ps))
-configured (Some key) ps = Err (0, fault.Config)
-
-abbrev pub text_config : Option (List ℕ) → Outcome Config
-text_config s = matter.in_file (mapping s) >>= λ ps. configured (wrong_key (hash ps)) ps
-
-abbrev pub config_in : Option (List ℕ) → Outcome Config
-config_in None = text_config None
-config_in (Some bytes) = if is_utf8 bytes then text_config (Some bytes) else Err (0, fault.NotUtf8)
-
 abbrev pub config : Files → Found Config
 config files = in_file config_path (config_in (get files config_path))
+
+abbrev pub IsConfig : Files → Config → Type 0
+IsConfig files c = config files ≡ Ok c
 
 -- ---- layouts, includes, and files that are copied
 

@@ -5,11 +5,13 @@ ghost use Rattle.std.specs.Option.{option_copied};
 ghost use Rattle.site_dates.specs.Offset.{IsOffset};
 ghost use Rattle.site_reader.specs.Found.{IsFirst, in_file};
 ghost use Rattle.site_reader.specs.Paginating.{HasSize};
+ghost use Rattle.site_reader.specs.Placements.{Tells};
 ghost use Rattle.site_reader.specs.Placing.{config_path};
-ghost use Rattle.site_reader.specs.Sites.{config, config_in, text_config};
+ghost use Rattle.site_reader.specs.Sites.{IsConfig, config, config_in, text_config};
 
 use crate::site_error::{SiteError, fault_at};
 use crate::texts::as_text;
+use crate::told::Told;
 use site_base::{FaultKind, Memory, SitePath};
 use site_config::{Config, ConfigError, read_config};
 use source_tree::Held;
@@ -26,6 +28,24 @@ pub(crate) fn config(alloc: Global, held: &Held) -> Result<Config, SiteError>
         Some(bytes) => config_in(alloc, &path, bytes),
         None => text_config(alloc, &path, None),
     }
+}
+
+/// What tells the configuration that was read of the held files.
+pub(crate) fn told_of<'a>(
+    alloc: Global,
+    held: &'a Held,
+    config: &Config,
+    drafts: bool,
+) -> Result<Told<'a>, Memory>
+    requires { IsConfig held.now config.now }
+    ensures told { IfOk result (λ told. Tells told config.now) }
+    ensures drafts { IfOk result (λ told. told.drafts ≡ drafts) }
+{
+    let path = config_path(alloc)?;
+    Ok(Told {
+        bytes: held.get_shared(&path),
+        drafts,
+    })
 }
 
 /// The path of the configuration.

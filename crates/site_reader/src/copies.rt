@@ -3,7 +3,7 @@ ghost use Rattle.std.specs.Prelude.{◌≡◌, ◌++◌, IfOk, OnOk, map};
 ghost use Rattle.site_reader.specs.Placing.{as_copy, seen};
 ghost use Rattle.site_reader.specs.Sites.{copied, copies};
 
-use crate::placing::PlacedFile;
+use crate::placed_file::PlacedFile;
 use site_base::{Memory, Sequence};
 use site_config::Config;
 use site_items::StaticFile;

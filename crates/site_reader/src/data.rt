@@ -8,7 +8,7 @@ ghost use Rattle.site_reader.specs.Data.{add_data, add_file, data_names, data_tr
 ghost use Rattle.site_reader.specs.Found.{IsFirst, in_file};
 ghost use Rattle.site_reader.specs.Placing.{seen};
 
-use crate::placing::PlacedFile;
+use crate::placed_file::PlacedFile;
 use crate::site_error::{SiteError, fault_at};
 use crate::texts::as_text;
 use data_files::{DataError, is_data, read_data};

@@ -4,7 +4,7 @@ ghost use Rattle.site_reader.specs.Found.{IsFirst, each};
 ghost use Rattle.site_reader.specs.Placing.{seen};
 ghost use Rattle.site_reader.specs.Sites.{add_include, includes, read_include};
 
-use crate::placing::PlacedFile;
+use crate::placed_file::PlacedFile;
 use crate::site_error::{SiteError, error_at};
 use site_base::{Sequence, SharedBytes, SitePath};
 use site_files::Place;

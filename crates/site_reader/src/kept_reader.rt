@@ -8,19 +8,23 @@ ghost use Rattle.site_reader.specs.Found.{IsFirst};
 ghost use Rattle.site_reader.specs.Kept.{parsed, parsed_under};
 ghost use Rattle.site_reader.specs.Lawful.{IsLawful};
 ghost use Rattle.site_reader.specs.Paginating.{HasSize};
+ghost use Rattle.site_reader.specs.Placements.{Tells};
 ghost use Rattle.site_reader.specs.Placing.{builds_drafts};
-ghost use Rattle.site_reader.specs.Sites.{site, site_with};
+ghost use Rattle.site_reader.specs.Sites.{IsConfig, site, site_with};
 ghost use Rattle.source_tree.specs.Limits.{CanBeHeld, most_files};
 
-use crate::configuration::config;
+use crate::configuration::{config, told_of};
+use crate::file_rules::FileRules;
 use crate::placing::{builds_drafts, builds_future, kept_files};
 use crate::reading::placed_site;
-use crate::renewal::renewed_files;
+use crate::renewal::{Renewed, renewed_files};
 use crate::site::Site;
 use crate::site_error::SiteError;
-use site_base::{PathMap, Settings};
+use crate::site_file::SiteFile;
+use crate::told::Told;
+use site_base::{Memory, PathMap, Settings};
 use site_config::Config;
-use site_items::{FrontParser, KeptFile};
+use site_items::{FrontParser, Rules, by_strength};
 use source_tree::Held;
 use std::alloc::Global;
 use std::marker::Model;
@@ -29,7 +33,7 @@ use std::marker::Model;
 /// bytes the next time, its front matter is not read again.
 #[derive(Drop)]
 pub struct KeptReader {
-    files: PathMap<KeptFile>,
+    files: PathMap<SiteFile>,
     read_anew: u32,
 }
 
@@ -105,19 +109,30 @@ impl KeptReader {
     ) -> Result<Site, SiteError>
         requires offset { IsOffset config.timezone }
         requires size { HasSize config }
+        requires is { IsConfig held.now config }
         requires moment { IsMoment moment }
         ensures read { let found = site_with held.now moment settings.now config in
             MatchResult result (λ made. found ≡ Ok made) (IsFirst found) }
-        ensures within { CanBeHeld held.now }
+        ensures within { IfOk result (λ _. CanBeHeld held.now) }
         ensures moment { IfOk result (λ made. made.moment ≡ moment) }
         ensures kept { IfOk result (λ _. self.new.kept ≡ held.now) }
         ensures parsed { IfOk result (λ _. parsed_under config (builds_drafts config settings.now) self.old.kept held.now ≡ self.new.parsed) }
         ensures err { OnErr result (self.new.parsed ≡ self.old.parsed) }
     {
-        let drafts = builds_drafts(&config, settings);
-        let renewed = renewed_files(alloc, &self.files, held, &config, drafts, parser)?;
+        let told = told_of(alloc, held, &config, builds_drafts(&config, settings))?;
+        let future = builds_future(&config, settings);
+        let renewed = renewed_under(
+            alloc,
+            &self.files,
+            held,
+            &told,
+            moment,
+            future,
+            &config,
+            parser,
+        )?;
         self.files = renewed.files;
-        match kept_site(alloc, &self.files, moment, settings, config) {
+        match kept_site(alloc, &self.files, &told, moment, settings, config) {
             Ok(site) => {
                 self.read_anew = renewed.parsed;
                 Ok(site)
@@ -127,23 +142,56 @@ impl KeptReader {
     }
 }
 
+// The held files as they are kept then, under a configuration.
+fn renewed_under<P: FrontParser>(
+    alloc: Global,
+    old: &PathMap<SiteFile>,
+    held: &Held,
+    told: &Told,
+    now: i64,
+    future: bool,
+    config: &Config,
+    parser: &mut P,
+) -> Result<Renewed, Memory>
+    requires offset { IsOffset config.now.timezone }
+    requires told { Tells told.now config.now }
+    ensures files { IfOk result (λ made. as_map made.files ≡ held.now) }
+    ensures parsed { IfOk result (λ made. made.parsed ≡ parsed_under config.now told.entry.now.drafts (as_map old.now) held.now) }
+    ensures within { IfOk result (λ _. CanBeHeld held.now) }
+{
+    let scopes = by_strength(alloc, config.defaults.as_slice())?;
+    let rules = FileRules {
+        rules: Rules {
+            config,
+            scopes: scopes.as_slice(),
+            now,
+            future,
+        },
+        told: *told,
+    };
+    renewed_files(alloc, old, held, &rules, parser)
+}
+
 // The site of files that are kept.
 fn kept_site(
     alloc: Global,
-    files: &PathMap<KeptFile>,
+    files: &PathMap<SiteFile>,
+    told: &Told,
     moment: i64,
     settings: &Settings,
     config: Config,
 ) -> Result<Site, SiteError>
     requires offset { IsOffset config.timezone }
     requires size { HasSize config }
+    requires told { Tells told.now config }
+    requires drafts { told.now.drafts ≡ builds_drafts config settings.now }
     requires moment { IsMoment moment }
     requires few { finite.len (as_map files.now) ≤ most_files }
     ensures read { let found = site_with (as_map files.now) moment settings.now config in
         MatchResult result (λ made. found ≡ Ok made) (IsFirst found) }
     ensures moment { IfOk result (λ made. made.moment ≡ moment) }
 {
-    let files = kept_files(alloc, files, &config, builds_drafts(&config, settings))?;
+    let files = kept_files(alloc, files, &config, told)?;
     let future = builds_future(&config, settings);
-    placed_site(alloc, &files, moment, future, config)
+    placed_site(alloc, &files, told, moment, future, config)
 }

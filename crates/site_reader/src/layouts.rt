@@ -5,7 +5,7 @@ ghost use Rattle.site_reader.specs.Placing.{seen};
 ghost use Rattle.site_reader.specs.Sites.{add_layout, layouts, read_layout, with_layout};
 
 use crate::name::Name;
-use crate::placing::PlacedFile;
+use crate::placed_file::PlacedFile;
 use crate::site_error::{SiteError, error_at};
 use crate::values::values;
 use site_base::{Memory, Sequence, SitePath};

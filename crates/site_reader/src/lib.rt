@@ -5,6 +5,7 @@
 mod configuration;
 mod copies;
 mod data;
+mod file_rules;
 mod includes;
 mod index_page;
 mod items;
@@ -16,14 +17,18 @@ mod outputs;
 mod paginating;
 mod paginator;
 mod paging;
+mod placed_file;
+mod placement;
 mod placing;
 mod rank;
 mod reading;
 mod renewal;
 mod site;
 mod site_error;
+mod site_file;
 mod site_item;
 mod texts;
+mod told;
 mod values;
 
 pub use kept_reader::KeptReader;

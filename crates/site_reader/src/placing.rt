@@ -3,24 +3,20 @@ ghost use Rattle.std.specs.Prelude.{◌≡◌, ◌<◌, IfOk, map, slice_index_o
 ghost use Rattle.std.specs.FinMap as finite;
 ghost use Rattle.site_base.specs.PathMap.{as_map};
 ghost use Rattle.site_dates.specs.Offset.{IsOffset};
-ghost use Rattle.site_reader.specs.Placing.{as_copy, as_item, builds_drafts, builds_future, copied_kind, has_matter, item_kind, placed, seen};
+ghost use Rattle.site_reader.specs.Placements.{Tells};
+ghost use Rattle.site_reader.specs.Placing.{kind_at, as_copy, as_item, builds_drafts, builds_future, copied_kind, has_matter, item_kind, placed, seen};
 ghost use Rattle.source_tree.specs.Limits.{CanBeHeld};
 
+use crate::placed_file::PlacedFile;
+use crate::site_file::SiteFile;
+use crate::told::Told;
 use front_yaml::Front;
-use site_base::{Memory, PathMap, Settings, SitePath};
+use site_base::{Memory, PathMap, Settings};
 use site_config::Config;
 use site_files::Place;
-use site_items::{FileContent, KeptFile, Kind};
+use site_items::{FileContent, Kind};
 use source_tree::Held;
 use std::alloc::Global;
-
-/// A file of the site, with its place and that of its front matter.
-#[derive(Drop)]
-pub(crate) struct PlacedFile<'a> {
-    pub(crate) place: Place,
-    pub(crate) path: &'a SitePath,
-    pub(crate) content: FileContent<'a>,
-}
 
 /// The held files in the order of their paths, each with its place.
 pub(crate) fn placed_files<'a>(
@@ -48,54 +44,52 @@ fn placed_file<'a>(held: &'a Held, number: u32, config: &Config, drafts: bool) -
     ensures place { seen result ≡ placed config.now drafts (seen result).1 }
 {
     let (path, bytes) = held.shared_at(number);
-    placed(config, drafts, path, FileContent::of(bytes))
+    let place = Place::of(config, drafts, path.text());
+    PlacedFile {
+        place,
+        path,
+        content: FileContent::of(bytes),
+        kept: None,
+    }
 }
 
-/// The same of files that are kept, with what is known of them.
+/// The same of files that are kept.
 pub(crate) fn kept_files<'a>(
     alloc: Global,
-    kept: &'a PathMap<KeptFile>,
+    kept: &'a PathMap<SiteFile>,
     config: &Config,
-    drafts: bool,
+    told: &Told,
 ) -> Result<Vec<PlacedFile<'a>>, Memory>
-    requires { IsOffset config.now.timezone }
-    ensures { IfOk result (λ files. map seen files.items ≡ map (placed config.now drafts) (finite.entries (as_map kept.entry.now))) }
+    requires offset { IsOffset config.now.timezone }
+    requires told { Tells told.now config.now }
+    ensures { IfOk result (λ files. map seen files.items ≡ map (placed config.now told.entry.now.drafts) (finite.entries (as_map kept.entry.now))) }
 {
     let mut files = Vec::with_capacity(alloc, kept.len())?;
     for number in 0..kept.len() {
-        files.push(kept_file(kept, number, config, drafts))?;
+        files.push(kept_file(kept, number, config, told))?;
     }
     Ok(files)
 }
 
 fn kept_file<'a>(
-    kept: &'a PathMap<KeptFile>,
+    kept: &'a PathMap<SiteFile>,
     number: usize,
     config: &Config,
-    drafts: bool,
+    told: &Told,
 ) -> PlacedFile<'a>
     requires offset { IsOffset config.now.timezone }
+    requires told { Tells told.now config.now }
     requires number { number < finite.len (as_map kept.now) }
     ensures file { (seen result).1 ≡ slice_index_or (finite.entries (as_map kept.entry.now)) number (seen result).1 }
-    ensures place { seen result ≡ placed config.now drafts (seen result).1 }
+    ensures place { seen result ≡ placed config.now told.entry.now.drafts (seen result).1 }
 {
     let (path, file) = kept.at(number);
-    placed(config, drafts, path, file.content())
-}
-
-fn placed<'a>(
-    config: &Config,
-    drafts: bool,
-    path: &'a SitePath,
-    content: FileContent<'a>,
-) -> PlacedFile<'a>
-    requires { IsOffset config.now.timezone }
-    ensures { seen result ≡ placed config.now drafts (path.entry.now, content.entry) }
-{
+    let place = file.place(config, told, path);
     PlacedFile {
-        place: Place::of(config, drafts, path.text()),
+        place,
         path,
-        content,
+        content: file.content(),
+        kept: Some(file),
     }
 }
 
@@ -104,11 +98,7 @@ impl PlacedFile<'_> {
     pub(crate) fn as_item(&self) -> Option<Kind>
         ensures { result ≡ as_item (seen self.now) }
     {
-        if has_matter(self.content.front()) {
-            item_kind(self.place)
-        } else {
-            None
-        }
+        kind_of(self.place, self.content.front())
     }
 
     /// The kind of the items beside which the file is copied, if it is.
@@ -123,8 +113,8 @@ impl PlacedFile<'_> {
     }
 }
 
-/// Whether there is front matter, closed or not.
-pub(crate) fn has_matter(front: Front) -> bool
+// Whether there is front matter, closed or not.
+fn has_matter(front: Front) -> bool
     ensures { result ≡ has_matter front }
 {
     match front {
@@ -133,8 +123,18 @@ pub(crate) fn has_matter(front: Front) -> bool
     }
 }
 
-/// The kind of item that a file with front matter is at a place.
-pub(crate) fn item_kind(place: Place) -> Option<Kind>
+/// The kind of item that a file is at a place, if it is one.
+pub(crate) fn kind_of(place: Place, front: Front) -> Option<Kind>
+    ensures { result ≡ kind_at place front }
+{
+    if has_matter(front) {
+        item_kind(place)
+    } else {
+        None
+    }
+}
+
+fn item_kind(place: Place) -> Option<Kind>
     ensures { result ≡ item_kind place }
 {
     match place {

@@ -1,16 +1,19 @@
 // Files that are kept, brought up to date.
-ghost use Rattle.std.specs.Prelude.{◌≡◌, ◌&&◌, IfOk, IfSome, is_some, false};
+ghost use Rattle.std.specs.Prelude.{◌≡◌, IfOk, IfSome, is_some};
 ghost use Rattle.std.specs.FinMap as finite;
 ghost use Rattle.front_yaml.specs.Front.{front};
 ghost use Rattle.site_base.specs.PathMap.{as_map};
 ghost use Rattle.site_dates.specs.Offset.{IsOffset};
+ghost use Rattle.site_files.specs.Places.{place_of};
+ghost use Rattle.site_reader.specs.Kept.{has_variables, has_yaml, is_closed, is_parsed, is_same, parsed_under};
+ghost use Rattle.site_reader.specs.Placements.{AreRead};
 ghost use Rattle.source_tree.specs.Limits.{CanBeHeld};
-ghost use Rattle.site_reader.specs.Kept.{has_variables, has_yaml, is_closed, is_new, is_same, parsed_under};
 
-use crate::placing::{has_matter, item_kind};
+use crate::file_rules::FileRules;
+use crate::placing::kind_of;
+use crate::site_file::SiteFile;
 use front_yaml::Front;
 use site_base::{Memory, PathMap, SharedBytes, SitePath};
-use site_config::Config;
 use site_files::Place;
 use site_items::{FrontParser, KeptFile};
 use source_tree::Held;
@@ -19,22 +22,22 @@ use std::alloc::Global;
 /// The files of a reading, and how many of them were read anew.
 #[derive(Drop)]
 pub(crate) struct Renewed {
-    pub(crate) files: PathMap<KeptFile>,
+    pub(crate) files: PathMap<SiteFile>,
     pub(crate) parsed: u32,
 }
 
 /// The held files, of which those are shared that were kept with the same bytes. The variables of layouts and items are known.
 pub(crate) fn renewed_files<P: FrontParser>(
     alloc: Global,
-    old: &PathMap<KeptFile>,
+    old: &PathMap<SiteFile>,
     held: &Held,
-    config: &Config,
-    drafts: bool,
+    rules: &FileRules,
     parser: &mut P,
 ) -> Result<Renewed, Memory>
-    requires { IsOffset config.now.timezone }
+    requires offset { IsOffset rules.now.rules.config.now.timezone }
+    requires rules { AreRead rules.now }
     ensures files { IfOk result (λ made. as_map made.files ≡ held.now) }
-    ensures parsed { IfOk result (λ made. made.parsed ≡ parsed_under config.now drafts (as_map old.now) held.now) }
+    ensures parsed { IfOk result (λ made. made.parsed ≡ parsed_under rules.now.rules.config.now rules.now.told.drafts (as_map old.now) held.now) }
     // What is held passes no limit.
     ensures within { CanBeHeld held.now }
 {
@@ -42,8 +45,7 @@ pub(crate) fn renewed_files<P: FrontParser>(
     let mut parsed = 0;
     for number in 0..held.len() {
         let (path, bytes) = held.shared_at(number);
-        let place = Place::of(config, drafts, path.text());
-        let made = renewed_file(alloc, old, place, path, bytes, parser)?;
+        let made = renewed_file(alloc, old, rules, path, bytes, parser)?;
         files.push((path.copy(alloc)?, made.file))?;
         parsed += u32::from(made.is_parsed);
     }
@@ -56,36 +58,60 @@ pub(crate) fn renewed_files<P: FrontParser>(
 // A file, and whether it was read anew.
 #[derive(Drop)]
 struct RenewedFile {
-    file: KeptFile,
+    file: SiteFile,
     is_parsed: bool,
 }
 
 fn renewed_file<P: FrontParser>(
     alloc: Global,
-    old: &PathMap<KeptFile>,
-    place: Place,
+    old: &PathMap<SiteFile>,
+    rules: &FileRules,
     path: &SitePath,
     bytes: &SharedBytes,
     parser: &mut P,
 ) -> Result<RenewedFile, Memory>
+    requires offset { IsOffset rules.now.rules.config.now.timezone }
+    requires rules { AreRead rules.now }
     ensures file { IfOk result (λ made. made.file ≡ bytes.now) }
-    ensures parsed { IfOk result (λ made. made.is_parsed ≡ (is_new (as_map old.now) (path.now, bytes.now) && has_yaml place (front bytes.now))) }
+    ensures parsed { IfOk result (λ made. made.is_parsed ≡ is_parsed rules.now.rules.config.now rules.now.told.drafts (as_map old.now) (path.now, bytes.now)) }
 {
     match same_file(old, path, bytes) {
         Some(file) => Ok(RenewedFile {
-            file: with_variables(alloc, place, file.share(alloc)?, parser)?,
+            file: same_bytes(alloc, rules, path, file, parser)?,
             is_parsed: false,
         }),
-        None => new_file(alloc, place, bytes, parser),
+        None => new_file(alloc, rules, path, bytes, parser),
+    }
+}
+
+// A file whose bytes are as they were.
+fn same_bytes<P: FrontParser>(
+    alloc: Global,
+    rules: &FileRules,
+    path: &SitePath,
+    file: &SiteFile,
+    parser: &mut P,
+) -> Result<SiteFile, Memory>
+    requires offset { IsOffset rules.now.rules.config.now.timezone }
+    requires rules { AreRead rules.now }
+    ensures { IfOk result (λ made. made ≡ file.now) }
+{
+    match file.share_under(alloc, &rules.told, path)? {
+        Some(file) => Ok(file),
+        None => {
+            let place = Place::of(rules.rules.config, rules.told.drafts, path.text());
+            let file = with_variables(alloc, place, file.share_file(alloc)?, parser)?;
+            SiteFile::placed(alloc, rules, place, path, file)
+        }
     }
 }
 
 // The file that was kept, where it has these bytes.
 fn same_file<'a>(
-    old: &'a PathMap<KeptFile>,
+    old: &'a PathMap<SiteFile>,
     path: &SitePath,
     bytes: &SharedBytes,
-) -> Option<&'a KeptFile>
+) -> Option<&'a SiteFile>
     ensures bytes { IfSome result (λ file. file.now ≡ bytes.now) }
     ensures is { is_some result ≡ is_same (finite.get (as_map old.entry.now) path.now) bytes.now }
 {
@@ -97,17 +123,23 @@ fn same_file<'a>(
 
 fn new_file<P: FrontParser>(
     alloc: Global,
-    place: Place,
+    rules: &FileRules,
+    path: &SitePath,
     bytes: &SharedBytes,
     parser: &mut P,
 ) -> Result<RenewedFile, Memory>
+    requires offset { IsOffset rules.now.rules.config.now.timezone }
+    requires rules { AreRead rules.now }
     ensures file { IfOk result (λ made. made.file ≡ bytes.now) }
-    ensures parsed { IfOk result (λ made. made.is_parsed ≡ has_yaml place (front bytes.now)) }
+    ensures parsed { let place = place_of rules.now.rules.config.now rules.now.told.drafts path.now in
+        IfOk result (λ made. made.is_parsed ≡ has_yaml place (front bytes.now)) }
 {
+    let place = Place::of(rules.rules.config, rules.told.drafts, path.text());
     let file = KeptFile::of(bytes.share()?);
     let is_parsed = has_yaml(place, file.content().front());
+    let file = with_variables(alloc, place, file, parser)?;
     Ok(RenewedFile {
-        file: with_variables(alloc, place, file, parser)?,
+        file: SiteFile::placed(alloc, rules, place, path, file)?,
         is_parsed,
     })
 }
@@ -133,7 +165,7 @@ fn has_variables(place: Place, front: Front) -> bool
 {
     match place {
         Place::Layout => true,
-        _ => has_matter(front) && item_kind(place).is_some(),
+        _ => kind_of(place, front).is_some(),
     }
 }
 

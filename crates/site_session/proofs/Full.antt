@@ -109,11 +109,13 @@ module _ (adds : Adds) (files : Files) (kept : Entries) (site : Site) (new : Ent
 
 -- each way to add names adds them at the end, and none where none are due
 pub record AddsLaws (adds : Adds) : Type 0 where
+  pub none : (names : List ItemName) → adds [] [] names names
   pub grows : (due later before after : List ItemName) → adds due later before after → Grows before after
   pub nothing : (before after : List ItemName) → adds [] [] before after → after ≡ before
 
 pub laws_in_order : AddsLaws in_order
 laws_in_order = record {
+  none = λ names. sym (append-nil names);
   grows = λ due later before after is. (due, is);
   nothing = λ before after is. is ∙ append-nil before;
 }
@@ -128,6 +130,7 @@ none-stands (name ∷ names) h =
 
 pub laws_in_any_order : AddsLaws in_any_order
 laws_in_any_order = record {
+  none = λ names. ([], sym (append-nil names), λ name. (omega arith, omega arith));
   grows = λ due later before after h. (h.0, h.1);
   nothing = λ before after h. h.1 ∙ ap (λ added. before ++ added) (none-stands h.0 h.2) ∙ append-nil before;
 }
@@ -178,13 +181,10 @@ from_unread adds nothing files kept found (error.Fault fault) before first = (
 from_unread adds nothing files kept found error.Memory before first = grows_none before
 
 pub unread_in_order : (files : Files) (kept : Entries) (found : Found Site) (e : SiteError) (before : List ItemName) → IsFirst found e → IsOutput in_order files kept found (Err e) kept before before
-unread_in_order files kept found e before first = from_unread in_order (λ names. sym (append-nil names)) files kept found e before first
-
-none-between : (names : List ItemName) → in_any_order [] [] names names
-none-between names = ([], sym (append-nil names), λ name. (omega arith, omega arith))
+unread_in_order files kept found e before first = from_unread in_order laws_in_order.none files kept found e before first
 
 pub unread_in_any_order : (files : Files) (kept : Entries) (found : Found Site) (e : SiteError) (before : List ItemName) → IsFirst found e → IsOutput in_any_order files kept found (Err e) kept before before
-unread_in_any_order files kept found e before first = from_unread in_any_order none-between files kept found e before first
+unread_in_any_order files kept found e before first = from_unread in_any_order laws_in_any_order.none files kept found e before first
 
 -- ---- first faults
 

@@ -7,3 +7,5 @@ mod MadeLaws
 pub mod RoundLaws
 pub mod Rebuilding
 pub mod Lines
+pub mod Resting
+mod Unchanged

@@ -30,6 +30,7 @@ pub record Makes {D : Type 0} (contents : D → Option Files) (calls : D → Opt
   pub steady : (report : Report) → result ≡ Ok (rebuilt.Built report) → failures after ≡ failures before
   pub idle : (belief : Belief) → was ≡ Some belief → plan belief output.written ≡ [] → after ≡ before
   pub settled : (report : Report) → result ≡ Ok (rebuilt.Built report) → NothingPlanned output.written now
+  pub counts : (report : Report) → result ≡ Ok (rebuilt.Built report) → (report.rendered ≡ output.rendered) × (report.reused ≡ output.reused)
   pub called : (first : Files) → Holds (contents before) was first → Called was first output.written result (calls before) (calls after)
   pub err : OnErr result (contents after ≡ contents before)
   pub short : OnErr result (failures after ≡ failures before)

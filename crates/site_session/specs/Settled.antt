@@ -1,9 +1,13 @@
 -- A session in which a build has nothing to do.
-use Rattle.std.specs.Prelude.{◌≡◌, [], Option, Some, Ok}
+use Rattle.std.specs.Prelude.{◌≡◌, ◌+◌, ℕ, [], Option, Some, None, Result, Ok, Err}
 use Rattle.out_tree.specs.Belief.{Belief}
 use Rattle.site_session.specs.Full.{full}
-use Rattle.site_session.specs.Session.{names_now, plan}
+use Rattle.site_base.specs.declared.errors.Memory.{Memory}
+use Rattle.site_session.specs.Session.{full_now, names_now, plan, rendered_now}
 use Rattle.site_session.specs.Standing.{Standing}
+use Rattle.site_session.specs.declared.build.Rebuilt.{Rebuilt}
+use Rattle.site_session.specs.declared.build.Rebuilt.TheVariants as rebuilt
+use Rattle.site_session.specs.declared.build.Report.{Report}
 use Rattle.site_session.specs.declared.output.Written.{Written}
 
 -- what is believed of an output is that it needs nothing more to be this
@@ -18,3 +22,21 @@ pub record IsSettled (now : Standing) : Type 0 where
   pub stands_for : full now.files now.moment now.settings ≡ Ok written
   pub fresh : names_now now ≡ []
   pub output : NothingPlanned written now.belief
+
+-- what a build tells that had nothing to do, and kept so many items
+abbrev pub idle_report : ℕ → Report
+idle_report reused = record { rendered = 0; reused = reused; written = 0; removed = 0; why = [] }
+
+-- a build has nothing to do, and keeps so many items: what it would find is known, and it would keep what is kept
+pub record Rests (now : Standing) (reused : ℕ) : Type 0 where
+  pub settled : IsSettled now
+  pub found : full_now now ≡ Ok (record { written = settled.written; rendered = 0; reused = reused; why = [] })
+  pub kept : rendered_now now ≡ now
+
+-- how many items a build rendered or kept that did all that it planned
+abbrev pub items_of : Result Rebuilt Memory → Option ℕ
+items_of (Ok (rebuilt.Built report)) = Some (report.rendered + report.reused)
+items_of (Ok (rebuilt.Fault fault)) = None
+items_of (Ok (rebuilt.Marked paths)) = None
+items_of (Ok rebuilt.Unlisted) = None
+items_of (Err error) = None

@@ -7,7 +7,7 @@ ghost use Rattle.site_session.specs.Standing.{Standing, Holds, MakesBut, MarksEx
 ghost use Rattle.site_session.specs.Session.{Given, Reply, event_of, failed_of, build_tree, build_listed, output_failures, plan, TheList};
 ghost use Rattle.out_tree.specs.Tries.{CallsFor};
 ghost use Rattle.site_session.specs.Makes.{Finishes};
-ghost use Rattle.site_session.specs.Settled.{NothingPlanned};
+ghost use Rattle.site_session.specs.Settled.{NothingPlanned, idle_report};
 ghost use Rattle.site_session.specs.Replies.{built_reply, Called, FailedAt};
 ghost use Rattle.site_session.specs.declared.build.Report.{Report};
 
@@ -31,6 +31,21 @@ pub struct Report {
     pub removed: u64,
     /// The items that were rendered, with the reason.
     pub why: Whys,
+}
+
+impl Report {
+    /// What a build did that had nothing to do, and kept so many items. It takes no memory.
+    pub(crate) fn idle(alloc: Global, reused: u32) -> Report
+        ensures { result ≡ idle_report reused }
+    {
+        Report {
+            rendered: 0,
+            reused,
+            written: 0,
+            removed: 0,
+            why: Whys::new(alloc),
+        }
+    }
 }
 
 /// How a rebuild ended.
@@ -82,6 +97,7 @@ fn make<O: OutTree>(
     ensures steady { (report : Report) → result ≡ Ok (Rebuilt.Built report) → O.failures out.new ≡ O.failures out.old }
     ensures idle { (belief : Belief) → keeper.old ≡ Some belief → plan belief output.written ≡ [] → out.new ≡ out.old }
     ensures settled { (report : Report) → result ≡ Ok (Rebuilt.Built report) → NothingPlanned output.written keeper.new }
+    ensures counts { (report : Report) → result ≡ Ok (Rebuilt.Built report) → (report.rendered ≡ output.rendered) × (report.reused ≡ output.reused) }
     ensures called { (first : Files) → Holds (O.contents out.old) keeper.old first →
         Called keeper.old first output.written result (O.calls out.old) (O.calls out.new) }
     ensures err { OnErr result (O.contents out.new ≡ O.contents out.old) }
@@ -117,6 +133,7 @@ fn make_listed<O: OutTree>(
     ensures steady { (report : Report) → result ≡ Ok (Rebuilt.Built report) → O.failures out.new ≡ O.failures out.old }
     ensures idle { plan (believed keeper.old) output.written ≡ [] → out.new ≡ out.old }
     ensures settled { (report : Report) → result ≡ Ok (Rebuilt.Built report) → plan (believed keeper.new) output.written ≡ [] }
+    ensures counts { (report : Report) → result ≡ Ok (Rebuilt.Built report) → (report.rendered ≡ output.rendered) × (report.reused ≡ output.reused) }
     ensures called { OnOk result (CallsFor (plan (believed keeper.old) output.written) (O.calls out.old) (O.calls out.new)) }
     ensures err { OnErr result ((keeper.new ≡ keeper.old) × (out.new ≡ out.old)) }
 {

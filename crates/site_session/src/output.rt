@@ -10,6 +10,7 @@ ghost use Rattle.site_world.specs.Sights.{item_names};
 ghost use Rattle.source_tree.specs.Limits.{most_files};
 
 use crate::made::made_of;
+use crate::reading::Reading;
 use crate::rounds::{Crew, by_crew, one_by_one};
 use crate::tree::tree_of;
 use memo_table::Memo;
@@ -50,6 +51,7 @@ pub struct Output {
 #[tactic(auto, using(crate::proofs::Full::unread_in_order))]
 pub(crate) fn output_one_by_one<R: Renderer<Meaning = PageMeaning>>(
     alloc: Global,
+    reading: &mut Reading,
     held: &Held,
     moment: i64,
     settings: &Settings,
@@ -60,7 +62,7 @@ pub(crate) fn output_one_by_one<R: Renderer<Meaning = PageMeaning>>(
     requires { is_moment moment ≡ true }
     ensures { IsOutput in_order held.now memo.old (sites.site held.now moment settings.now) result memo.new tally.old tally.new }
 {
-    match read_site(alloc, held, moment, settings) {
+    match reading.site(alloc, held, moment, settings) {
         Ok(site) => site_one_by_one(alloc, held, &site, renderer, memo, tally),
         Err(error) => Err(error),
     }
@@ -87,6 +89,7 @@ fn site_one_by_one<R: Renderer<Meaning = PageMeaning>>(
 #[tactic(auto, using(crate::proofs::Full::unread_in_any_order))]
 pub(crate) fn output_by_crew<H: Threads + Wait + Sync, R: Renderer<Meaning = PageMeaning> + Sync>(
     alloc: Global,
+    reading: &mut Reading,
     held: &Held,
     moment: i64,
     settings: &Settings,
@@ -98,7 +101,7 @@ pub(crate) fn output_by_crew<H: Threads + Wait + Sync, R: Renderer<Meaning = Pag
     requires jobs { (1 ≤ crew.now.jobs) × (crew.now.jobs ≤ 64) }
     ensures { IsOutput in_any_order held.now memo.old (sites.site held.now moment settings.now) result memo.new tally.old tally.new }
 {
-    match read_site(alloc, held, moment, settings) {
+    match reading.site(alloc, held, moment, settings) {
         Ok(site) => site_by_crew(alloc, held, &site, crew, memo, tally),
         Err(error) => Err(error),
     }

@@ -18,16 +18,18 @@ ghost use Rattle.site_session.specs.Scenes.{output_seen, scene, source_seen};
 ghost use Rattle.site_session.specs.Rounds.{in_any_order, in_order};
 ghost use Rattle.site_script.specs.declared.line.Line.TheVariants as line;
 
-use crate::build::{Rebuilt, finish};
+use crate::build::{Rebuilt, Report, finish};
 use crate::output::{first_fault, output_by_crew, output_one_by_one};
+use crate::reading::Reading;
 use crate::reply::Reply;
+use crate::rest::{known_still, reused_after};
 use crate::rounds::Crew;
 use memo_table::Memo;
 use out_tree::{OutKeeper, OutTree};
 use page_render::PageMeaning;
 use read_record::{Renderer, Tally};
 use site_base::{FileBytes, Memory, Settings, SiteFault, SitePath};
-use site_reader::SiteError;
+use site_reader::{KeptReader, SiteError};
 use site_script::{Line, ScriptKind};
 use source_tree::{Held, PutError, ScanError, SourceTree};
 use std::alloc::Global;
@@ -41,8 +43,11 @@ pub struct Session {
     held: Held,
     settings: Settings,
     moment: i64,
+    reading: Reading,
     memo: Memo<PageMeaning>,
     keeper: OutKeeper,
+    // Where it is known that a build has nothing to do: how many items it keeps.
+    resting: Option<u32>,
 }
 
 impl Model for Session {
@@ -60,10 +65,12 @@ impl Model for Session {
 
     ghost view = { λ s. record { files = s.held; moment = s.moment; settings = s.settings; kept = s.memo; belief = s.keeper } };
 
-    ghost use Rattle.std.specs.Prelude.{◌≡◌, true};
+    ghost use Rattle.std.specs.Prelude.{◌≡◌, IfSome, true};
     ghost use Rattle.site_script.specs.Line.{is_moment};
+    ghost use Rattle.site_session.specs.Settled.{Rests};
 
-    ghost invariant = { λ s. is_moment s.moment ≡ true };
+    ghost invariant = { λ s. (is_moment s.moment ≡ true)
+        × IfSome s.resting (λ reused. Rests (record { files = s.held; moment = s.moment; settings = s.settings; kept = s.memo; belief = s.keeper }) reused) };
 }
 
 impl Session {
@@ -75,8 +82,30 @@ impl Session {
         Session::holding(alloc, Held::new(alloc), settings, moment)
     }
 
+    /// The same for a session that builds once: it reads faster, and a build that follows reads all files again. It takes no memory.
+    pub fn for_one_build(alloc: Global, settings: Settings, moment: i64) -> Session
+        requires { is_moment moment ≡ true }
+        ensures { result ≡ start settings moment }
+    {
+        Session::reading_by(alloc, Reading::Once, Held::new(alloc), settings, moment)
+    }
+
     /// A session that holds these files, over an output that has not been listed. It takes no memory.
     pub fn holding(alloc: Global, held: Held, settings: Settings, moment: i64) -> Session
+        requires { is_moment moment ≡ true }
+        ensures { result ≡ record (start settings moment) { files = held } }
+    {
+        let reading = Reading::Keeping(KeptReader::new(alloc));
+        Session::reading_by(alloc, reading, held, settings, moment)
+    }
+
+    fn reading_by(
+        alloc: Global,
+        reading: Reading,
+        held: Held,
+        settings: Settings,
+        moment: i64,
+    ) -> Session
         requires { is_moment moment ≡ true }
         ensures { result ≡ record (start settings moment) { files = held } }
     {
@@ -84,8 +113,10 @@ impl Session {
             held,
             settings,
             moment,
+            reading,
             memo: Memo::new(alloc),
             keeper: OutKeeper::open(),
+            resting: None,
         }
     }
 
@@ -95,7 +126,24 @@ impl Session {
             (λ _. (self.new ≡ record self.old { files = map.insert self.old.files path bytes.items }) × (put_refusal self.old.files path bytes.items ≡ None))
             (λ error. (self.new ≡ self.old) × ((error ≡ PutError.Memory) ⊎ (put_refusal self.old.files path bytes.items ≡ Some error))) }
     {
-        self.held.put(path, bytes)
+        let is_same = self.holds(&path, &bytes);
+        match self.held.put(path, bytes) {
+            Ok(()) => {
+                self.resting = known_still(self.resting, is_same);
+                Ok(())
+            }
+            Err(error) => Err(error),
+        }
+    }
+
+    // Whether a file of this path is held that has these bytes.
+    fn holds(&self, path: &SitePath, bytes: &[u8]) -> bool
+        ensures { result ≡ true → map.get self.now.files path.now ≡ Some bytes.now }
+    {
+        match self.held.get(path) {
+            Some(held) => held == bytes,
+            None => false,
+        }
     }
 
     /// Deletes a file, and says whether it was held. It takes no memory.
@@ -103,7 +151,9 @@ impl Session {
         ensures files { self.new ≡ record self.old { files = map.remove self.old.files path.now } }
         ensures was { result ≡ map.contains_key self.old.files path.now }
     {
-        self.held.delete(path)
+        let was_held = self.held.delete(path);
+        self.resting = known_still(self.resting, !was_held);
+        was_held
     }
 
     /// Sets the moment, in seconds from 1970 in UTC. It takes no memory.
@@ -111,6 +161,7 @@ impl Session {
         requires { is_moment moment ≡ true }
         ensures { self.new ≡ record self.old { moment = moment } }
     {
+        self.resting = known_still(self.resting, moment == self.moment);
         self.moment = moment;
     }
 
@@ -123,7 +174,13 @@ impl Session {
         ensures same { S.files source.new ≡ S.files source.old }
         ensures cause { HasCauseOf ScanError.Failed (S.failures source.old) (S.failures source.new) result }
     {
-        self.held.scan(alloc, source)
+        match self.held.rescan(alloc, source) {
+            Ok(found) => {
+                self.resting = known_still(self.resting, found.is_same);
+                Ok(found.number)
+            }
+            Err(error) => Err(error),
+        }
     }
 
     /// The first fault of what the held files stand for: of reading, or else of rendering; `None` where they have none.
@@ -148,8 +205,12 @@ impl Session {
     ) -> Result<Rebuilt, Memory>
         ensures { Rebuilds in_order O.contents O.calls O.failures self.old self.new result out.old out.new tally.old tally.new }
     {
+        if let Some(reused) = self.resting {
+            return Ok(Rebuilt::Built(Report::idle(alloc, reused)));
+        }
         let output = output_one_by_one(
             alloc,
+            &mut self.reading,
             &self.held,
             self.moment,
             &self.settings,
@@ -157,7 +218,9 @@ impl Session {
             &mut self.memo,
             tally,
         );
-        finish(&mut self.keeper, alloc, output, out)
+        let rebuilt = finish(&mut self.keeper, alloc, output, out);
+        self.resting = reused_after(&rebuilt);
+        rebuilt
     }
 
     /// The same by so many threads, 1 to 64: whatever the order in which they come to the items, the answer, the output and what is
@@ -191,8 +254,12 @@ impl Session {
         requires { (1 ≤ crew.now.jobs) × (crew.now.jobs ≤ 64) }
         ensures { Rebuilds in_any_order O.contents O.calls O.failures self.old self.new result out.old out.new tally.old tally.new }
     {
+        if let Some(reused) = self.resting {
+            return Ok(Rebuilt::Built(Report::idle(alloc, reused)));
+        }
         let output = output_by_crew(
             alloc,
+            &mut self.reading,
             &self.held,
             self.moment,
             &self.settings,
@@ -200,7 +267,9 @@ impl Session {
             &mut self.memo,
             tally,
         );
-        finish(&mut self.keeper, alloc, output, out)
+        let rebuilt = finish(&mut self.keeper, alloc, output, out);
+        self.resting = reused_after(&rebuilt);
+        rebuilt
     }
 
     /// Does a line of a script, and says what is replied. A build is done by the crew, which has 1 to 64 threads.

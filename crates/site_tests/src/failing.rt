@@ -247,17 +247,55 @@ const SESSIONS: &[Row] = &[
         replies: "ok\nok\nbuilt rendered=0 reused=0 written=2 removed=0\nok\nout-fault 1\nmarked a\nok\nbuilt rendered=0 reused=0 written=2 removed=0\nbuilt rendered=0 reused=0 written=0 removed=0\n",
         outputs: &[("a", "z"), ("b", "w")],
     },
-    // A write fails, and the next build writes it alone.
+    // Both writes fail, and the next build makes good both.
     Row {
         given: Scenario {
             words: &["session"],
-            script: "put p.html 9\n---\n---\nxput q.html 9\n---\n---\nybuild\nbuild\n",
+            script: "put p.html 10\n---\n---\np\nput q.html 10\n---\n---\nq\nbuild\nbuild\n",
+            output_fails: &[2, 3],
+            ..PLAIN
+        },
+        status: 0,
+        replies: "ok\nok\nout-fault 2\nmarked p.html\nmarked q.html\nbuilt rendered=0 reused=2 written=2 removed=0\n",
+        outputs: &[("p.html", "p\n"), ("q.html", "q\n")],
+    },
+    // A removal fails, and the next build makes it good.
+    Row {
+        given: Scenario {
+            words: &["session"],
+            script: "build\nbuild\n",
+            outputs: &[("old.html", "old")],
             output_fails: &[2],
             ..PLAIN
         },
         status: 0,
-        replies: "ok\nok\nout-fault 1\nmarked p.html\nbuilt rendered=0 reused=2 written=1 removed=0\n",
-        outputs: &[("p.html", "x"), ("q.html", "y")],
+        replies: "out-fault 1\nmarked old.html\nbuilt rendered=0 reused=0 written=0 removed=1\n",
+        outputs: &[],
+    },
+    // The output gives no list: the page that was rendered is kept, and written by the next build.
+    Row {
+        given: Scenario {
+            words: &["session"],
+            script: "put index.html 44\n---\ntitle: Hi\n---\n<h1>{{ page.title }}</h1>\nbuild\nbuild\n",
+            output_fails: &[1],
+            ..PLAIN
+        },
+        status: 0,
+        replies: "ok\nout-fault 0\nbuilt rendered=0 reused=1 written=1 removed=0\n",
+        outputs: &[("index.html", "<h1>Hi</h1>\n")],
+    },
+    // A second scan meets a failing read: the files of the first are held.
+    Row {
+        given: Scenario {
+            words: &["session"],
+            script: "scan\nscan\nbuild\n",
+            sources: &[("a.txt", "x")],
+            source_fails: &[4],
+            ..PLAIN
+        },
+        status: 0,
+        replies: "scanned 1\nscan-fault\nbuilt rendered=0 reused=0 written=1 removed=0\n",
+        outputs: &[("a.txt", "x")],
     },
 ];
 

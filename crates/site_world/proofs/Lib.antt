@@ -6,6 +6,7 @@ mod BelowPosts
 mod PostLaws
 mod CopiedSums
 mod FormLaws
+mod SourceLaws
 mod TextCodes
 mod Loops
 mod FileTexts

@@ -13,7 +13,6 @@ mod posts;
 mod shelf;
 mod shelves;
 mod site_world;
-mod sources;
 mod text_code;
 mod world;
 

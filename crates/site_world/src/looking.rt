@@ -6,7 +6,7 @@ ghost use Rattle.site_base.specs.View.{plain};
 ghost use Rattle.site_config.specs.Forms.{given};
 ghost use Rattle.read_record.specs.Queries.{Known};
 ghost use Rattle.site_world.specs.Finds.{reply_of};
-ghost use Rattle.site_world.specs.Sights.{address, body_of, content_of, copy_at, done_content, done_output, file_text, include_named, layout_named, or_nil, output_of, paginator_of, placed, post_named, site_sight, under, url_of, variable_named, variable_of};
+ghost use Rattle.site_world.specs.Sights.{address, body_of, content_of, copy_at, done_content, done_output, file_text, include_named, layout_named, or_nil, output_of, paginator_of, placed, post_named, site_sight, source_at, under, url_of, variable_named, variable_of};
 
 use crate::SiteWorld;
 use crate::coded::Coded;
@@ -22,7 +22,7 @@ impl<'a> SiteWorld<'a> {
         ensures { reply_of result ≡ site_sight self.now.held.now self.now.site.now reader (F.outcomes outs.now) key.now }
     {
         match key {
-            Key::Source(name) => self.source(name),
+            Key::Source(name) => self.body(name),
             Key::Content(name) => self.content(reader, name, outs),
             Key::Output(name) => self.output(reader, name, outs),
             Key::Var(name, variable) => self.variable(name, variable),
@@ -48,7 +48,7 @@ impl<'a> SiteWorld<'a> {
         }
     }
 
-    fn source(&self, name: &ItemName) -> Found<'_>
+    fn body(&self, name: &ItemName) -> Found<'_>
         ensures { reply_of result ≡ Known (body_of (placed name.now self.now.site.now.items)) }
     {
         match self.placed(name) {
@@ -134,9 +134,19 @@ impl<'a> SiteWorld<'a> {
     fn link(&self, path: &SitePath) -> Found<'_>
         ensures { reply_of result ≡ Known (address (url_of path.now self.now.site.now)) }
     {
-        match self.sources.find(path.text()) {
+        match self.source(path) {
             Some(item) => Found::Words(&item.url),
             None => self.copy_link(path),
+        }
+    }
+
+    // The item that the file at a path is itself.
+    fn source(&self, path: &SitePath) -> Option<&SiteItem>
+        ensures { option_copied result ≡ source_at path.now self.now.site.now.items }
+    {
+        match self.places.find_file(path) {
+            Some(place) => Some(self.site.items.at(u64::from(place))),
+            None => None,
         }
     }
 

@@ -1,27 +1,28 @@
 // Things by their names.
-ghost use Rattle.std.specs.Prelude.{◌≡◌, ℕ, List, Option, OnOk, Some, None, if◌then◌else◌};
+ghost use Rattle.std.specs.Prelude.{◌≡◌, ℕ, List, Option, IfOk, OnOk, Some, None, if◌then◌else◌};
 ghost use Rattle.std.specs.Option.{option_copied, option_or};
 ghost use Rattle.std.specs.Str.{bytes_eq};
 
+use indexmap::IndexMap;
 use site_base::Memory;
 use std::alloc::Global;
-use std::collections::BTreeMap;
 
-/// Things by their names, none of which is copied.
+/// Things by their names, each found by a hash. None is copied.
 #[derive(Drop)]
 pub(crate) struct Named<'a, T> {
-    values: BTreeMap<&'a str, &'a T>,
+    values: IndexMap<&'a str, &'a T>,
 }
 
 impl<'a, T> Named<'a, T> {
     ghost use Rattle.site_world.specs.Named.{named};
 
-    pub(crate) fn new(alloc: Global) -> Named<'a, T>
-        ensures { (x : List ℕ) → named result x ≡ None }
+    /// With room for so many things, of which none is there yet.
+    pub(crate) fn with_room(alloc: Global, count: usize) -> Result<Named<'a, T>, Memory>
+        ensures { IfOk result (λ made. (x : List ℕ) → named made x ≡ None) }
     {
-        Named {
-            values: BTreeMap::new(alloc),
-        }
+        Ok(Named {
+            values: IndexMap::with_capacity(alloc, count)?,
+        })
     }
 
     /// What stands under a name.

@@ -18,7 +18,7 @@ use std::alloc::Global;
 pub(crate) fn posts<'a>(alloc: Global, items: &'a [SiteItem]) -> Result<Named<'a, SiteItem>, Memory>
     ensures { IfOk result (λ made. (x : List ℕ) → named made x ≡ post_named x items.now) }
 {
-    let mut made = Named::new(alloc);
+    let mut made = Named::with_room(alloc, items.len())?;
     for item in items {
         add_post(&mut made, item)?;
     }
@@ -61,18 +61,26 @@ fn add_lower<'a>(
         ≡ (if bytes_eq name.now x then Some (lower (named made.old x) item.now) else named made.old x)) }
 {
     match made.find(name) {
-        Some(first) => made.put(name, lower(first, item)),
+        Some(first) => put_lower(made, name, first, item),
         None => made.put(name, item),
     }
 }
 
-fn lower<'a>(first: &'a SiteItem, item: &'a SiteItem) -> &'a SiteItem
-    ensures { result.now ≡ lower (Some first.entry.now) item.entry.now }
+// Puts an item in place of the first of its name, where its path is lower.
+fn put_lower<'a>(
+    made: &mut Named<'a, SiteItem>,
+    name: &'a str,
+    first: &'a SiteItem,
+    item: &'a SiteItem,
+) -> Result<(), Memory>
+    requires { named made.old name.now ≡ Some first.now }
+    ensures { OnOk result ((x : List ℕ) → named made.new x
+        ≡ (if bytes_eq name.now x then Some (lower (named made.old x) item.now) else named made.old x)) }
 {
     if item.name.path.cmp(&first.name.path).is_lt() {
-        item
+        made.put(name, item)
     } else {
-        first
+        Ok(())
     }
 }
 

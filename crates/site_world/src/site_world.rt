@@ -8,16 +8,15 @@ ghost use Rattle.site_reader.specs.Lawful.{IsLawful};
 ghost use Rattle.site_world.specs.Indices.{place_in};
 ghost use Rattle.site_world.specs.Named.{named};
 ghost use Rattle.site_world.specs.Shelves.{shelved};
-ghost use Rattle.site_world.specs.Sights.{AreFormed, NamesDiffer, copy_at, fixed_bytes, include_named, item_names, layout_named, post_named, source_at, variable_named};
+ghost use Rattle.site_world.specs.Sights.{AreFormed, NamesDiffer, copy_at, fixed_bytes, include_named, item_names, layout_named, post_named, variable_named};
 
 use crate::coded::Coded;
-use crate::copied::copied_bytes;
+use crate::copied::{copied_bytes, copies};
 use crate::item_places::ItemPlaces;
 use crate::named::Named;
 use crate::posts::posts;
 use crate::shelf::Shelf;
 use crate::shelves::{includes, layouts, variables};
-use crate::sources::{copies, sources};
 use site_base::{Memory, copy};
 use site_items::StaticFile;
 use site_reader::{Site, SiteItem};
@@ -30,12 +29,11 @@ use std::alloc::Global;
 pub struct SiteWorld<'a> {
     pub(crate) site: &'a Site,
     pub(crate) held: &'a Held,
-    pub(crate) places: ItemPlaces,
+    pub(crate) places: ItemPlaces<'a>,
     pub(crate) layouts: Shelf,
     pub(crate) includes: Shelf,
     pub(crate) variables: Shelf,
     pub(crate) data_tree: Coded,
-    pub(crate) sources: Named<'a, SiteItem>,
     pub(crate) copies: Named<'a, StaticFile>,
     pub(crate) posts: Named<'a, SiteItem>,
     pub(crate) fixed: u64,
@@ -45,7 +43,6 @@ pub struct SiteWorld<'a> {
     ghost includes_are: { (x : List ℕ) → shelved includes x ≡ include_named x site.now.includes },
     ghost variables_are: { (x : List ℕ) → shelved variables x ≡ variable_named x site.now },
     ghost data_is: { data_tree ≡ plain site.now.data_tree },
-    ghost sources_are: { (path : List ℕ) → named sources path ≡ source_at path site.now.items },
     ghost copies_are: { (path : List ℕ) → named copies path ≡ copy_at path site.now.statics },
     ghost posts_are: { (x : List ℕ) → named posts x ≡ post_named x site.now.items },
     ghost fixed_is: { fixed ≡ fixed_bytes held.now site.now },
@@ -66,7 +63,6 @@ impl<'a> SiteWorld<'a> {
         let includes = includes(alloc, site.includes.as_slice())?;
         let variables = variables(alloc, site)?;
         let data_tree = Coded::new(alloc, copy(alloc, &site.data_tree)?)?;
-        let sources = sources(alloc, site.items.as_slice())?;
         let copies = copies(alloc, site.statics.as_slice())?;
         let posts = posts(alloc, site.items.as_slice())?;
         let fixed = copied_bytes(held, &copies);
@@ -79,7 +75,6 @@ impl<'a> SiteWorld<'a> {
             includes,
             variables,
             data_tree,
-            sources,
             copies,
             posts,
             fixed,

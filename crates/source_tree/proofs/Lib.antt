@@ -7,6 +7,7 @@ pub mod Plain
 pub mod AllFiles
 pub mod Results
 mod Rows
+mod Same
 pub mod ScanFaults
 pub mod Steps
 pub mod Sums

@@ -1,5 +1,5 @@
 // The files that are held.
-ghost use Rattle.std.specs.Prelude.{◌≡◌, ◌⊎◌, ◌<◌, ◌≤◌, ◌↔◌, ◌||◌, ◌+◌, IsTrue, ℕ, List, Option, Some, None, Err, IfOk, OnOk, OnErr, MatchResult, slice_index_or};
+ghost use Rattle.std.specs.Prelude.{◌≡◌, ◌⊎◌, ◌<◌, ◌≤◌, ◌↔◌, ◌||◌, ◌+◌, IsTrue, ℕ, List, Option, Some, None, Err, IfOk, OnOk, OnErr, MatchResult, slice_get, slice_index_or};
 ghost use Rattle.std.specs.FinMap as map;
 ghost use Rattle.std.specs.Option.{option_copied};
 ghost use Rattle.site_base.specs.Clash.{has_below, has_folder};
@@ -14,7 +14,8 @@ ghost use Rattle.source_tree.specs.Scan.{scan_fault};
 use crate::fitting::held_of;
 use crate::limits::passed_limit;
 use crate::reading::read_all_files;
-use crate::{PutError, ScanError, SourceTree};
+use crate::sharing::holder_of;
+use crate::{PutError, Rescanned, ScanError, SourceTree};
 use site_base::{Memory, PathMap, SharedBytes, SitePath};
 use std::alloc::Global;
 use std::marker::Model;
@@ -128,7 +129,7 @@ impl Held {
         }
         let total = self.total_besides(&path) + bytes.len() as u64;
         let alloc = *bytes.allocator();
-        let shared = SharedBytes::from_vec(alloc, bytes)?;
+        let shared = holder_of(alloc, &self.files, &path, bytes)?;
         self.files.put(path, shared)?;
         self.total = total;
         Ok(())
@@ -230,10 +231,65 @@ impl Held {
         ensures same { S.files source.new ≡ S.files source.old }
         ensures cause { HasCauseOf ScanError.Failed (S.failures source.old) (S.failures source.new) result }
     {
-        match read_all_files(alloc, source) {
-            Ok(held) => *self = held,
-            Err(error) => return Err(error),
+        match self.rescan(alloc, source) {
+            Ok(found) => Ok(found.number),
+            Err(error) => Err(error),
         }
-        Ok(self.len())
+    }
+
+    /// The same, and says besides whether the files are those that were held before. A file whose bytes are found again is held
+    /// once, whoever else holds it.
+    pub fn rescan<S: SourceTree>(
+        &mut self,
+        alloc: Global,
+        source: &mut S,
+    ) -> Result<Rescanned, ScanError>
+        ensures held { (files : Files) → S.files source.old ≡ Some files →
+            OnOk result ((self.new ≡ files) × (scan_fault (map.entries files) ≡ None)) }
+        ensures limit { (files : Files) (fault : SiteFault) → S.files source.old ≡ Some files →
+            result ≡ Err (ScanError.Limit fault) → scan_fault (map.entries files) ≡ Some fault }
+
+        ensures number { IfOk result (λ found. found.number ≡ map.len self.new) }
+        ensures is_same { IfOk result (λ found. IsTrue found.is_same ↔ (self.new ≡ self.old)) }
+        ensures err { OnErr result (self.new ≡ self.old) }
+        ensures same { S.files source.new ≡ S.files source.old }
+        ensures cause { HasCauseOf ScanError.Failed (S.failures source.old) (S.failures source.new) result }
+    {
+        let held = match read_all_files(alloc, source, &self.files) {
+            Ok(held) => held,
+            Err(error) => return Err(error),
+        };
+        let found = Rescanned {
+            number: held.len(),
+            is_same: held.has_files_of(self),
+        };
+        *self = held;
+        Ok(found)
+    }
+
+    // Whether it holds the same files as another.
+    fn has_files_of(&self, other: &Held) -> bool
+        ensures { IsTrue result ↔ (self.now ≡ other.now) }
+    {
+        if self.len() != other.len() {
+            return false;
+        }
+        for place in 0..self.len() {
+            if !self.has_file_of(other, place) {
+                return false;
+            }
+        }
+        true
+    }
+
+    // Whether the file at a place is the same as another's.
+    fn has_file_of(&self, other: &Held, place: u32) -> bool
+        requires mine { place < map.len self.now }
+        requires its { place < map.len other.now }
+        ensures { IsTrue result ↔ (slice_get (map.entries self.now) place ≡ slice_get (map.entries other.now) place) }
+    {
+        let (path, bytes) = self.at(place);
+        let (other_path, other_bytes) = other.at(place);
+        path == other_path && bytes == other_bytes
     }
 }

@@ -9,7 +9,9 @@ mod limits;
 mod memory;
 mod put_error;
 mod reading;
+mod rescanned;
 mod scan_error;
+mod sharing;
 mod source;
 
 pub use disk::DiskSource;
@@ -17,5 +19,6 @@ pub use distinct::{paths_differ, paths_stand_apart};
 pub use held::Held;
 pub use memory::MemorySource;
 pub use put_error::PutError;
+pub use rescanned::Rescanned;
 pub use scan_error::ScanError;
 pub use source::SourceTree;

@@ -16,6 +16,7 @@ ghost use Rattle.source_tree.specs.Scan.{first_long, scan_fault};
 
 use crate::held::Held;
 use crate::limits::{MOST_FILES, MOST_SITE_BYTES};
+use crate::sharing::holder_of;
 use crate::{ScanError, SourceTree};
 use site_base::{FaultKind, ListError, MOST_BYTES, Memory, PathMap, SharedBytes, SitePath};
 use std::alloc::Global;
@@ -34,8 +35,14 @@ pub(crate) struct Reading {
 impl Reading {
     ghost use Rattle.source_tree.specs.Reading.{Adds, Follows, Going};
 
-    // Adds a file. Once the sum is past its limit, nothing is kept.
-    fn add(&mut self, alloc: Global, path: SitePath, bytes: Vec<u8>) -> Result<(), Memory>
+    // Adds a file, by the holder of its bytes where they are held already. Once the sum is past its limit, nothing is kept.
+    fn add(
+        &mut self,
+        alloc: Global,
+        held: &PathMap<SharedBytes>,
+        path: SitePath,
+        bytes: Vec<u8>,
+    ) -> Result<(), Memory>
         requires { length bytes.items ≤ most_bytes }
         ensures { OnOk result (Adds self.old self.new path bytes.items) }
     {
@@ -47,8 +54,8 @@ impl Reading {
             self.pass(path);
             return Ok(());
         }
-        self.files
-            .push((path, SharedBytes::from_vec(alloc, bytes)?))?;
+        let holder = holder_of(alloc, held, &path, bytes)?;
+        self.files.push((path, holder))?;
         self.total = total;
         Ok(())
     }
@@ -61,10 +68,11 @@ impl Reading {
         self.over = Some(path);
     }
 
-    // Reads the files with these paths. A file that is too long ends it.
+    // Reads the files with these paths, beside those that are held. A file that is too long ends it.
     fn read_all<S: SourceTree>(
         alloc: Global,
         source: &mut S,
+        held: &PathMap<SharedBytes>,
         paths: Vec<SitePath>,
     ) -> Result<Reading, ScanError>
         requires listed { (files : Files) → S.files source.old ≡ Some files → paths.items ≡ map.keys files }
@@ -94,16 +102,17 @@ impl Reading {
             if bytes.len() > MOST_BYTES {
                 return Err(ScanError::limit(FaultKind::FileTooLong, path));
             }
-            reading.add(alloc, path, bytes)?;
+            reading.add(alloc, held, path, bytes)?;
         }
         Ok(reading)
     }
 }
 
-// The site of a source, where it may be held.
+// The site of a source, where it may be held. A file whose bytes are held already has the same holder of them.
 pub(crate) fn read_all_files<S: SourceTree>(
     alloc: Global,
     source: &mut S,
+    held: &PathMap<SharedBytes>,
 ) -> Result<Held, ScanError>
     ensures told { (files : Files) → S.files source.old ≡ Some files →
         IfOk result (λ held. (held ≡ files) × (scan_fault (map.entries files) ≡ None)) }
@@ -113,7 +122,7 @@ pub(crate) fn read_all_files<S: SourceTree>(
     ensures cause { HasCauseOf ScanError.Failed (S.failures source.old) (S.failures source.new) result }
 {
     let paths = list_sorted(alloc, source)?;
-    let reading = match Reading::read_all(alloc, source, paths) {
+    let reading = match Reading::read_all(alloc, source, held, paths) {
         Ok(reading) => reading,
         Err(error) => return Err(error),
     };

@@ -9,11 +9,11 @@ use Rattle.site_reader.proofs.items.read_items.Goals as goal
 pub returns-in_err-add_item : goal.returns-in_err-add_item
 returns-in_err-add_item c =
     let e = err_from_is_err_and c.from_residual-in_err-add_item.result c.from_residual-in_err-add_item.ensures.1 in
-    rw (e.1, e.2) (each_first (ruled_item c.args.rules.now) seen c.args.files.now c.loop-file.file-index c.file-item.result (in_order c.loop-file.items.items) _ _ (search rules) c.file-item.is c.in_err-add_item.ensures c.loop-file.invariant)
+    rw (e.1, e.2) (each_first (ruled_item c.args.rules.now.rules) seen c.args.files.now c.loop-file.file-index c.file-item.result (in_order c.loop-file.items.items) _ _ (search rules) c.file-item.is c.in_err-add_item.ensures c.loop-file.invariant)
 
 pub loop-file-preserved : goal.loop-file-preserved
 loop-file-preserved c =
-    sym (each_next (ruled_item c.args.rules.now) seen c.args.files.now c.loop-file.file-index c.file-item.result (in_order c.loop-file.items.items) _ (search rules) c.file-item.is c.in_ok-add_item.ensures) ∙ c.loop-file.invariant
+    sym (each_next (ruled_item c.args.rules.now.rules) seen c.args.files.now c.loop-file.file-index c.file-item.result (in_order c.loop-file.items.items) _ (search rules) c.file-item.is c.in_ok-add_item.ensures) ∙ c.loop-file.invariant
 
 pub returns : goal.returns
-returns c = each_done (ruled_item c.args.rules.now) seen c.args.files.now c.loop-file.file-index (in_order c.loop-file.items.items) _ (omega (arith, c.loop-file-test.false)) c.loop-file.invariant
+returns c = each_done (ruled_item c.args.rules.now.rules) seen c.args.files.now c.loop-file.file-index (in_order c.loop-file.items.items) _ (omega (arith, c.loop-file-test.false)) c.loop-file.invariant

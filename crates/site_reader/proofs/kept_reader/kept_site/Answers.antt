@@ -12,6 +12,6 @@ placed_site-requires-clause-few c =
       c.requires.few,
       ap length c.in_ok-files.ensures,
       length-map c.in_ok-files.files.items seen,
-      length-map (entries (as_map c.args.files.now)) (placed c.args.config c.builds_drafts.result),
+      length-map (entries (as_map c.args.files.now)) (placed c.args.config c.args.told.now.drafts),
       len-entries (as_map c.args.files.now),
     )

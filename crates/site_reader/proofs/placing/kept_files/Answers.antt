@@ -8,9 +8,9 @@ use Rattle.site_reader.proofs.placing.kept_files.Goals as goal
 pub loop-number-preserved : goal.loop-number-preserved
 loop-number-preserved c =
     let lt : c.loop-number.number < finite.len (as_map c.args.kept.now) = omega (arith, c.len-number-end.ensures, c.loop-number-test.true) in
-    one_placed seen (placed c.args.config.now c.args.drafts) (finite.entries (as_map c.args.kept.now)) c.loop-number.files.items _ c.loop-number.number c.kept_file.result (seen c.kept_file.result).1 (omega (arith, finite.len-entries (as_map c.args.kept.now), lt))
+    one_placed seen (placed c.args.config.now c.args.told.now.drafts) (finite.entries (as_map c.args.kept.now)) c.loop-number.files.items _ c.loop-number.number c.kept_file.result (seen c.kept_file.result).1 (omega (arith, finite.len-entries (as_map c.args.kept.now), lt))
     c.kept_file.ensures.file c.kept_file.ensures.place c.in_ok-push.ensures.items c.loop-number.invariant
 
 pub returns : goal.returns
 returns c =
-    all_placed seen (placed c.args.config.now c.args.drafts) (finite.entries (as_map c.args.kept.now)) c.loop-number.files.items c.loop-number.number (omega (arith, finite.len-entries (as_map c.args.kept.now), c.len-number-end.ensures, c.loop-number-test.false)) c.loop-number.invariant
+    all_placed seen (placed c.args.config.now c.args.told.now.drafts) (finite.entries (as_map c.args.kept.now)) c.loop-number.files.items c.loop-number.number (omega (arith, finite.len-entries (as_map c.args.kept.now), c.len-number-end.ensures, c.loop-number-test.false)) c.loop-number.invariant

@@ -5,4 +5,4 @@ use Rattle.site_reader.specs.Placing.{placed, seen}
 use Rattle.site_reader.proofs.placing.kept_files.Given as goal
 
 abbrev pub invariant-loop-number : goal.invariant-loop-number
-invariant-loop-number l = map seen l.files.items ++ map (placed l.config l.drafts) (drop l.number (finite.entries (as_map l.kept))) ≡ map (placed l.config l.drafts) (finite.entries (as_map l.kept))
+invariant-loop-number l = map seen l.files.items ++ map (placed l.config l.told.drafts) (drop l.number (finite.entries (as_map l.kept))) ≡ map (placed l.config l.told.drafts) (finite.entries (as_map l.kept))

@@ -11,6 +11,6 @@ placed_site-requires-clause-few c =
       c.in_ok-files.ensures.within.few,
       ap length c.in_ok-files.ensures.files,
       length-map c.in_ok-files.files.items seen,
-      length-map (entries c.args.held.now) (placed c.args.config c.builds_drafts.result),
+      length-map (entries c.args.held.now) (placed c.args.config c.builds_drafts-drafts.result),
       len-entries c.args.held.now,
     )

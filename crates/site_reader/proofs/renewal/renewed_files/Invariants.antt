@@ -9,5 +9,5 @@ use Rattle.site_reader.proofs.renewal.renewed_files.Given as goal
 abbrev pub invariant-loop-number : goal.invariant-loop-number
 invariant-loop-number g l =
     (l.files.items ++ drop l.number (finite.entries l.held) ≡ finite.entries l.held)
-    × (fold (counting (is_parsed l.config l.drafts (as_map l.old))) l.parsed (drop l.number (finite.entries l.held)) ≡ parsed_under l.config l.drafts (as_map l.old) l.held)
+    × (fold (counting (is_parsed l.rules.rules.config.now l.rules.told.drafts (as_map l.old))) l.parsed (drop l.number (finite.entries l.held)) ≡ parsed_under l.rules.rules.config.now l.rules.told.drafts (as_map l.old) l.held)
     × (l.parsed ≤ l.number)

@@ -19,6 +19,7 @@ returns-in-Ok g c =
       steady = made.steady;
       idle = made.idle;
       settled = made.settled;
+      counts = made.counts;
       called = made.called;
       err = made.err;
       short = made.short;

@@ -5,5 +5,5 @@ use Rattle.site_session.proofs.Moments.{moment}
 use Rattle.site_session.proofs.output.output_one_by_one.Goals as goal
 
 -- an i64 that is handed on is the same number
-pub read_site-requires : goal.read_site-requires
-read_site-requires g c = subst (λ m. IsMoment m) (sym (to_z-of_z c.ranges.moment)) (moment c.args.moment c.requires)
+pub site-requires : goal.site-requires
+site-requires g c = subst (λ m. IsMoment m) (sym (to_z-of_z c.ranges.moment)) (moment c.args.moment c.requires)

@@ -7,4 +7,4 @@ use Rattle.site_reader.proofs.kept_reader.KeptReader.read_under.Goals as goal
 pub returns-in-Ok-clause-parsed : goal.returns-in-Ok-clause-parsed
 returns-in-Ok-clause-parsed g c =
     let kept : as_map c.self.inside.files ≡ c.args.self.now.kept = ap (λ (k : Kept). k.kept) c.self.view_is in
-    sym (c.in_ok-renewed.ensures.parsed ∙ ap₂ (λ drafts (files : Files). parsed_under c.args.config drafts files c.args.held.now) c.builds_drafts-drafts.ensures kept)
+    sym (c.in_ok-renewed.ensures.parsed ∙ ap₂ (λ drafts (files : Files). parsed_under c.args.config drafts files c.args.held.now) (c.in_ok-told.ensures.drafts ∙ c.builds_drafts.ensures) kept)

@@ -4,7 +4,7 @@ use Rattle.std.specs.Str.{bytes_eq}
 use Rattle.site_items.specs.declared.static_file.StaticFile.{StaticFile}
 use Rattle.site_world.proofs.Loops.{find_more}
 use Rattle.site_world.specs.Named.{named}
-use Rattle.site_world.proofs.sources.copies.Goals as goal
+use Rattle.site_world.proofs.copied.copies.Goals as goal
 
 pub loop-file-preserved : goal.loop-file-preserved
 loop-file-preserved c = λ path.
