@@ -72,3 +72,22 @@ in_markdown(
     50000,
 )
 paragraph("many uses of what is not defined", lambda n: "[0] " * n, 100000)
+
+# Each rule on much of what it reads.
+in_markdown("many headings", lambda n: "# a\n" * n, lambda n: "<h1>a</h1>\n" * n, 100_000)
+in_markdown("a heading of many lines", lambda n: "a\n" * n + "===\n", lambda n: "<h1>" + "a\n" * (n - 1) + "a</h1>\n", 100_000)
+in_markdown("many fences", lambda n: "```\n" * 2 * n, lambda n: "<pre><code></code></pre>\n" * n, 50_000)
+in_markdown("many items", lambda n: "- a\n" * n, lambda n: "<ul>\n" + "<li>a</li>\n" * n + "</ul>\n", 50_000)
+in_markdown("many items with lines between them", lambda n: "- a\n\n" * n, lambda n: "<ul>\n" + "<li>\n<p>a</p>\n</li>\n" * n + "</ul>\n", 50_000)
+in_markdown("many numbers", lambda n: "".join(f"{number}. a\n" for number in range(1, n + 1)), lambda n: "<ol>\n" + "<li>a</li>\n" * n + "</ol>\n", 50_000)
+in_markdown("many lines of HTML", lambda n: "<div>\n" * n, lambda n: "<div>\n" * n, 100_000)
+in_markdown("a quote that goes on for many lines", lambda n: "> a\n" + "b\n" * n, lambda n: "<blockquote>\n<p>a" + "\nb" * n + "</p>\n</blockquote>\n", 100_000)
+in_markdown("a title of many lines", lambda n: '[a]: u "' + "t\n" * n + '"\n', lambda n: "", 200_000)
+in_markdown("a break of many marks", lambda n: "* " * n, lambda n: "<hr />\n", 1_000_000)
+paragraph("many character references", lambda n: "&amp;" * n, 100_000)
+paragraph("many marks of a character reference", lambda n: "&" * n, 200_000, lambda n: "&amp;" * n)
+paragraph("many backslashes", lambda n: "\\" * 2 * n, 200_000, lambda n: "\\" * n)
+paragraph("many breaks of lines", lambda n: "a  \n" * n + "a", 50_000, lambda n: "a<br />\n" * n + "a")
+paragraph("many attributes", lambda n: "x<a " + "b " * n + ">", 200_000)
+paragraph("a long address of mail", lambda n: "<a@" + "a." * n + "a>", 200_000, lambda n: '<a href="mailto:a@' + "a." * n + 'a">a@' + "a." * n + "a</a>")
+paragraph("emphasis in the text for an image", lambda n: "![" + "*a* " * n + "a](u)", 50_000, lambda n: '<img src="u" alt="' + "a " * n + 'a" />')

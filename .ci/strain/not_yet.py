@@ -4,7 +4,8 @@ from __future__ import annotations
 from functools import lru_cache
 
 from colliding import SEED, keys, written
-from texts import FRONT, Files, built, grows, site
+from room import Room, case
+from texts import FRONT, GROWTH, Files, built, grows, run_limited, site, write
 
 # The most that these small sites may take, in MiB.
 LITTLE = 60
@@ -49,3 +50,35 @@ site(
     lambda: {f"{number}.html": b"" for number in range(200)},
     mebibytes=LITTLE,
 )
+
+
+def scopes(count: int) -> Files:
+    """Scopes of `defaults`, none of which fits; they are put into their order one by one."""
+    return {"_config.yml": b"defaults:\n" + b"".join(b"- scope: {path: a%d}\n  values: {x: 1}\n" % number for number in range(count)), "a.html": FRONT}
+
+
+def layouts(count: int) -> Files:
+    """Layouts in layouts, each with a variable of its own; each gets all of those within it."""
+    files = {f"_layouts/l{place}.html": b"---\nlayout: l%d\nv%d: 1\n---\n{{ content }}" % (place + 1, place) for place in range(count)}
+    return {"a.html": b"---\nlayout: l0\n---\n", **files}
+
+
+grows("many scopes of defaults", scopes, lambda n: {"a.html": b""}, 5000)
+grows("layouts in layouts with variables", layouts, lambda n: {"a.html": b""}, 500)
+
+
+def seconds_at(room: Room, depth: int) -> float:
+    """What 200 files take in folders of this depth. Before each write every folder above is looked at, by its whole path."""
+    room.site = room.top / str(depth)
+    room.out = room.site / "_site"
+    write(room, {"a/" * depth + f"{number}.txt": b"" for number in range(200)})
+    ran, took = run_limited(room, ["once"])
+    room.same("the last reply", built(0, 200), ran.lines[-1])
+    return took.seconds
+
+
+@case("files in deep folders", 60, in_memory=True)
+def deep_folders(room: Room) -> None:
+    short, long = seconds_at(room, 100), seconds_at(room, 400)
+    if long > GROWTH * short:
+        room.differs("the time of four times as deep folders", f"at most {GROWTH} times {short:.2f} s", f"{long:.2f} s")

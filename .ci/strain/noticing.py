@@ -12,6 +12,11 @@ from room import CASES
 # What is spoiled: a name, a case that is to notice it, and a script of the shell, in which $REAL is the right program.
 SPOILED = (
     ("an output with a byte more", "Markdown: brackets in brackets", '$REAL "$@"; s=$?; for f in _site/*; do printf x >>"$f"; done; exit $s'),
+    ("another text than cmark's", "beside cmark: links without an end", '$REAL "$@"; s=$?; sed -i "s/b/c/" _site/a.html; exit $s'),
+    ("a file that is one too many", "limits: 50,000 files are taken, and the file after them in the order of their paths is told", '$REAL "$@" | sed s/F1/F2/; [ "$1" = check ]'),
+    ("a write before a fault", "limits: 512 MiB of files are taken, and the file with which they are more is told", '[ "$1" = check ] || echo x >_site/more; exec $REAL "$@"'),
+    ("another kind of line", "limits: a session holds 50,000 files, and is told the line of one more", '$REAL "$@" | sed "/^script/s/7/8/"'),
+    ("a clock that is not looked at", "limits: a clock before 1970 or after 9999 is told, and so is no other", 'unset CLOCK; exec $REAL "$@"'),
     ("an output too many", "Liquid: a list of a million: sorted", '$REAL "$@"; s=$?; echo x >_site/more; exit $s'),
     ("an output beside a fault", "Liquid: 16 MiB of '{{'", '$REAL "$@"; s=$?; mkdir -p _site; echo x >_site/more; exit $s'),
     ("another fault", "depth: 101 conditions", '$REAL "$@" | sed s/F18/F19/; exit 1'),

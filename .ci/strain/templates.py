@@ -1,7 +1,7 @@
 """Templates that are long, that make much of little, and lists of a million elements."""
 from __future__ import annotations
 
-from typing import Sequence
+from typing import Callable, Sequence
 
 from texts import FRONT, MOST, built, grows, site
 
@@ -89,3 +89,42 @@ def stripped(mark: str) -> None:
 
 for mark in ("<script", "<!--", "<a", "<style "):
     stripped(mark)
+
+
+def many(name: str, text: Callable[[int], str], html: Callable[[int], str], size: int, **includes: str) -> None:
+    """A template with much of one thing, as it stands with `%d` where it counts."""
+    beside = {f"_includes/{include}.html": content.encode() for include, content in includes.items()}
+    grows(f"Liquid: {name}", lambda count: {"a.html": FRONT + text(count).encode(), **beside}, lambda count: {"a.html": html(count).encode()}, size)
+
+
+def counted(part: str, count: int) -> str:
+    return "".join(part % number for number in range(count))
+
+
+# Each tag and filter on much of what it reads.
+many("a long comment", lambda n: "{% comment %}" + "x" * n + "{% endcomment %}", lambda n: "", 4_000_000)
+many("many cycles", lambda n: counted('{%% cycle "%d": 1, 2 %%}', n), lambda n: "1" * n, 40_000)
+many("many counters", lambda n: counted("{%% increment a%d %%}", n), lambda n: "0" * n, 40_000)
+many("many variables", lambda n: counted("{%% assign a%d = 1 %%}", n) + "{{ a5 }}", lambda n: "1", 40_000)
+many("many captures", lambda n: counted("{%% capture a%d %%}x{%% endcapture %%}", n) + "{{ a5 }}", lambda n: "x", 40_000)
+many("many parameters", lambda n: "{% include n.html" + counted(" a%d=1", n) + " %}", lambda n: "1", 40_000, n="{{ include.a5 }}")
+many("many includes", lambda n: "{% include n.html %}" * n, lambda n: "x" * n, 50_000, n="x")
+many("a loop in a loop for each element", lambda n: "{%% for i in (1..%d) %%}{%% for j in (1..10) %%}{%% endfor %%}{%% endfor %%}" % n, lambda n: "", 50_000)
+for what, text, use, length in (
+    ("escape_once of many marks", "&", "escape_once", 5),
+    ("escape_once of marks that nearly are references", "&#1", "escape_once", 7),
+    ("url_decode", "%41", "url_decode", 1),
+    ("slugify of what is no letter", "- ", "slugify", 0),
+    ("white space at both ends", " ", "strip", 0),
+    ("many parts", "a,", 'split: ","', 1),
+    ("many characters", "a", 'split: ""', 1),
+    ("truncatewords", "a ", "truncatewords: 900000000", 2),
+):
+    many(what, lambda n, text=text, use=use: f'{{{{ "{text * n}" | {use} | size }}}}', lambda n, length=length: str(length * n), 250_000)
+many("many words", lambda n: f'{{{{ "{"a " * n}" | number_of_words }}}}', str, 250_000)
+many(
+    "texts that begin alike, sorted",
+    lambda n: "{% assign l = '" + ",".join("a" * 1000 + str(number * 7919 % n) for number in range(n)) + "' | split: ',' %}{{ l | sort | size }}{{ l | sort_natural | size }}{{ l | uniq | size }}",
+    lambda n: str(n) * 3,
+    2000,
+)

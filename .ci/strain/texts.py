@@ -40,10 +40,10 @@ def write(room: Room, files: Files) -> None:
         place.write_bytes(data)
 
 
-def run_limited(room: Room, words: Sequence[str], stack: int = STACK) -> Tuple[Ran, Took]:
-    """A run with a small stack, and what it took."""
+def run_limited(room: Room, words: Sequence[str], before: Sequence[str] = ()) -> Tuple[Ran, Took]:
+    """A run with a small stack, by the words `before` where there are any, and what it took."""
     place = room.top / "took"
-    ran = room.run(*words, under=(sys.executable, str(LIMITED), str(place), str(stack)))
+    ran = room.run(*words, under=(sys.executable, str(LIMITED), str(place), str(STACK), *before))
     kibibytes, seconds = place.read_text().split()
     return ran, Took(int(kibibytes) / 1024, float(seconds))
 
@@ -67,9 +67,9 @@ def built(count: int, written: Optional[int] = None) -> str:
     return f"built rendered={count} reused=0 written={count if written is None else written} removed=0"
 
 
-def comes_of(room: Room, words: Sequence[str], reply: str, wanted: Files) -> Took:
+def comes_of(room: Room, words: Sequence[str], reply: str, wanted: Files, before: Sequence[str] = ()) -> Took:
     """Builds, and compares the last reply and the outputs; after a fault there are none."""
-    ran, took = run_limited(room, words)
+    ran, took = run_limited(room, words, before)
     room.same(f"the last reply to {' '.join(words)}", reply, ran.lines[-1])
     room.same("the status", 0 if reply.startswith("built ") else 1, ran.status)
     same_outputs(room, wanted)
@@ -81,20 +81,20 @@ def site(
     files: Callable[[], Files],
     reply: str,
     wanted: Callable[[], Files] = dict,
-    jobs: Sequence[int] = (1,),
+    runs: Sequence[Sequence[str]] = (("build",),),
     mebibytes: Optional[float] = None,
     seconds: float = SECONDS,
 ) -> None:
-    """Enters a case: a site is built by each of these numbers of jobs, with this last reply and these outputs, in so much memory at the most."""
+    """Enters a case: a site is built by each of these runs, with this last reply and these outputs, in so much memory at the most."""
 
     def play(room: Room) -> None:
         write(room, files())
-        for count in jobs:
-            took = comes_of(room, ["build", "--jobs", str(count)], reply, wanted())
+        for words in runs:
+            took = comes_of(room, words, reply, wanted())
             if mebibytes is not None and took.mebibytes > mebibytes:
                 room.differs("the memory", f"at most {mebibytes} MiB", f"{took.mebibytes:.0f} MiB")
 
-    case(name, seconds * len(jobs), in_memory=True)(play)
+    case(name, seconds * len(runs), in_memory=True)(play)
 
 
 def grows(name: str, files: Callable[[int], Files], wanted: Callable[[int], Files], size: int) -> None:

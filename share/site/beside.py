@@ -5,14 +5,16 @@ import importlib
 import importlib.util
 from pathlib import Path
 
+from words import shown
+
 STYLES = (".scss", ".sass")
 
 
 def said_by(module: str, function: str, folder: Path, program: str) -> list[str]:
-    """The lines that a function of a module says of a site; none without that module."""
+    """The lines that a function of a module says of a site, as a terminal may have them; none without that module."""
     if importlib.util.find_spec(module) is None:
         return []
-    return getattr(importlib.import_module(module), function)(folder, program)
+    return [shown(line) for line in getattr(importlib.import_module(module), function)(folder, program)]
 
 
 def notes(folder: Path, program: str) -> list[str]:

@@ -5,6 +5,7 @@ import argparse
 import importlib.util
 from dataclasses import dataclass
 from pathlib import Path
+from typing import NoReturn
 
 MOST_JOBS = 64
 FIRST_PORT = 4000
@@ -68,9 +69,16 @@ def shown(text: str) -> str:
     return "".join(sign if sign.isprintable() else "?" for sign in text)
 
 
+class Reader(argparse.ArgumentParser):
+    """A reader of a command line, which shows a wrong word as a terminal may have it."""
+
+    def error(self, message: str) -> NoReturn:
+        super().error(shown(message))
+
+
 def parser(name: str) -> argparse.ArgumentParser:
     """A reader of the command line of a word, without anything in it yet."""
-    return argparse.ArgumentParser(
+    return Reader(
         prog=f"site {name}", usage=f"site {name} {WORDS[name].usage}", description=WORDS[name].does, allow_abbrev=False
     )
 
