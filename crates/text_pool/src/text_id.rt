@@ -27,7 +27,7 @@ impl TextId {
         TextId { number }
     }
 
-    /// The number of the text in its pool: below the most texts that the pool has held at once.
+    /// The number of the text in its pool.
     pub fn number(&self) -> usize
         ensures { result ≡ self.now }
     {
