@@ -27,6 +27,10 @@ pub mapped_one : {A B : Type 0} (f : A → B) (xs : List A) (x : A) → map f (x
 mapped_one f [] x = refl
 mapped_one f (z ∷ xs) x = ap (λ zs. f z ∷ zs) (mapped_one f xs x)
 
+-- what is seen of a list with one more
+pub mapped_more : {A B : Type 0} (f : A → B) (made more : List A) (x : A) (y : B) → more ≡ made ++ x ∷ [] → f x ≡ y → map f more ≡ map f made ++ y ∷ []
+mapped_more f made more x y pushed is = ap (map f) pushed ∙ mapped_one f made x ∙ ap (λ z. map f made ++ z ∷ []) is
+
 pub nothing_behind : {A : Type 0} (xs : List A) → xs ++ [] ≡ xs
 nothing_behind [] = refl
 nothing_behind (x ∷ xs) = ap (λ ys. x ∷ ys) (nothing_behind xs)

@@ -2,7 +2,6 @@ pub mod Found
 pub mod Placing
 pub mod Data
 pub mod Ranks
-pub mod Ruled
 pub mod Neighbours
 pub mod Outputs
 pub mod Paginating
@@ -11,3 +10,4 @@ pub mod Sites
 pub mod Lawful
 pub mod Kept
 pub mod Placements
+pub mod Ruled

@@ -4,10 +4,19 @@ use Rattle.site_base.specs.Chains.{◌>>=◌}
 use Rattle.site_items.specs.declared.item.Rules.{Rules}
 use Rattle.site_items.specs.declared.kind.Kind.{Kind}
 use Rattle.site_reader.specs.Found.{Found, each}
+use Rattle.site_reader.specs.Placements.{AreKnown, IsKnown}
 use Rattle.site_reader.specs.Placing.{File, Placed}
 use Rattle.site_reader.specs.Ranks.{Ranked}
 use Rattle.site_reader.specs.Sites.{add_item, add_kind, items_in_order}
+use Rattle.site_reader.specs.declared.placed_file.PlacedFile.{PlacedFile}
 use Rattle.site_reader.specs.declared.site_item.SiteItem.{SiteItem}
+
+-- what is kept of a file is what it is by these rules
+abbrev pub IsRuled : Rules → PlacedFile → Type 0
+IsRuled rules file = IsKnown rules.config.now (map (λ s. s.now) rules.scopes.now) file
+
+abbrev pub AreRuled : Rules → List PlacedFile → Type 0
+AreRuled rules files = AreKnown rules.config.now (map (λ s. s.now) rules.scopes.now) files
 
 abbrev pub ruled_kind : Rules → Kind → File → Ranked → Found Ranked
 ruled_kind rules kind file ranked = add_kind rules.config.now (map (λ s. s.now) rules.scopes.now) rules.now rules.future file (Some kind) ranked

@@ -1,18 +1,16 @@
 // The items of a site.
-ghost use Rattle.std.specs.Prelude.{◌≡◌, IfOk, IfSome, MatchResult, Ok, OnOk, map};
+ghost use Rattle.std.specs.Prelude.{◌≡◌, IfOk, MatchResult, Ok, OnOk, map};
 ghost use Rattle.site_dates.specs.Moment.{IsMoment};
 ghost use Rattle.site_dates.specs.Offset.{IsOffset};
 ghost use Rattle.site_items.specs.Matter.{outcome_of};
 ghost use Rattle.site_items.specs.Outcomes.{IsFault};
-ghost use Rattle.site_items.specs.Seeking.{ruled_now, ruled_timeless};
+ghost use Rattle.site_items.specs.Seeking.{ruled_now};
 ghost use Rattle.site_items.specs.Seeking as items;
 ghost use Rattle.site_reader.specs.Found.{IsFirst};
-ghost use Rattle.site_reader.specs.Placements.{AreRead};
 ghost use Rattle.site_reader.specs.Placing.{seen};
 ghost use Rattle.site_reader.specs.Ranks.{in_order, with_item};
-ghost use Rattle.site_reader.specs.Ruled.{ruled_item, ruled_items, ruled_kind, ruled_ranks};
+ghost use Rattle.site_reader.specs.Ruled.{AreRuled, IsRuled, ruled_item, ruled_items, ruled_kind, ruled_ranks};
 
-use crate::file_rules::FileRules;
 use crate::neighbours::site_items;
 use crate::placed_file::PlacedFile;
 use crate::rank::Rank;
@@ -27,17 +25,17 @@ use std::collections::BTreeMap;
 /// The items in the order in which they are rendered.
 pub(crate) fn items(
     alloc: Global,
-    rules: &FileRules,
+    rules: &Rules,
     files: &[PlacedFile],
 ) -> Result<Sequence<SiteItem>, SiteError>
-    requires offset { IsOffset rules.now.rules.config.now.timezone }
-    requires rules { AreRead rules.now }
-    requires now { IsMoment rules.now.rules.now }
-    ensures { let found = ruled_items rules.entry.now.rules (map seen files.entry.now) in
+    requires offset { IsOffset rules.now.config.now.timezone }
+    requires known { AreRuled rules.now files.now }
+    requires now { IsMoment rules.now.now }
+    ensures { let found = ruled_items rules.entry.now (map seen files.entry.now) in
         MatchResult result (λ made. found ≡ Ok made) (IsFirst found) }
 {
     match ranked_items(alloc, rules, files) {
-        Ok(ranked) => Ok(site_items(alloc, rules.rules.config, ranked)?),
+        Ok(ranked) => Ok(site_items(alloc, rules.config, ranked)?),
         Err(error) => Err(error),
     }
 }
@@ -45,13 +43,13 @@ pub(crate) fn items(
 // The items by their ranks. They are sorted once, when all are read: a map to which they are added in their order is half empty.
 fn ranked_items(
     alloc: Global,
-    rules: &FileRules,
+    rules: &Rules,
     files: &[PlacedFile],
 ) -> Result<BTreeMap<Rank, Item>, SiteError>
-    requires offset { IsOffset rules.now.rules.config.now.timezone }
-    requires rules { AreRead rules.now }
-    requires now { IsMoment rules.now.rules.now }
-    ensures { let found = ruled_ranks rules.entry.now.rules (map seen files.entry.now) in
+    requires offset { IsOffset rules.now.config.now.timezone }
+    requires known { AreRuled rules.now files.now }
+    requires now { IsMoment rules.now.now }
+    ensures { let found = ruled_ranks rules.entry.now (map seen files.entry.now) in
         MatchResult result (λ made. found ≡ Ok made.entries) (IsFirst found) }
 {
     match read_items(alloc, rules, files) {
@@ -70,13 +68,13 @@ fn sorted(alloc: Global, items: Vec<(Rank, Item)>) -> Result<BTreeMap<Rank, Item
 // The items in the order of their paths.
 fn read_items(
     alloc: Global,
-    rules: &FileRules,
+    rules: &Rules,
     files: &[PlacedFile],
 ) -> Result<Vec<(Rank, Item)>, SiteError>
-    requires offset { IsOffset rules.now.rules.config.now.timezone }
-    requires rules { AreRead rules.now }
-    requires now { IsMoment rules.now.rules.now }
-    ensures { let found = ruled_ranks rules.entry.now.rules (map seen files.entry.now) in
+    requires offset { IsOffset rules.now.config.now.timezone }
+    requires known { AreRuled rules.now files.now }
+    requires now { IsMoment rules.now.now }
+    ensures { let found = ruled_ranks rules.entry.now (map seen files.entry.now) in
         MatchResult result (λ made. found ≡ Ok (in_order made.items)) (IsFirst found) }
 {
     let mut items = Vec::with_capacity(alloc, files.len())?;
@@ -88,14 +86,14 @@ fn read_items(
 
 fn add_item(
     alloc: Global,
-    rules: &FileRules,
+    rules: &Rules,
     file: &PlacedFile,
     items: &mut Vec<(Rank, Item)>,
 ) -> Result<(), SiteError>
-    requires offset { IsOffset rules.now.rules.config.now.timezone }
-    requires rules { AreRead rules.now }
-    requires now { IsMoment rules.now.rules.now }
-    ensures { let found = ruled_item rules.entry.now.rules (seen file.entry.now) (in_order items.old.items) in
+    requires offset { IsOffset rules.now.config.now.timezone }
+    requires known { IsRuled rules.now file.now }
+    requires now { IsMoment rules.now.now }
+    ensures { let found = ruled_item rules.entry.now (seen file.entry.now) (in_order items.old.items) in
         MatchResult result (λ _. found ≡ Ok (in_order items.new.items)) (IsFirst found) }
 {
     match file.as_item() {
@@ -106,19 +104,19 @@ fn add_item(
 
 fn add_kind(
     alloc: Global,
-    rules: &FileRules,
+    rules: &Rules,
     kind: Kind,
     file: &PlacedFile,
     items: &mut Vec<(Rank, Item)>,
 ) -> Result<(), SiteError>
-    requires offset { IsOffset rules.now.rules.config.now.timezone }
-    requires rules { AreRead rules.now }
-    requires now { IsMoment rules.now.rules.now }
-    ensures { let found = ruled_kind rules.entry.now.rules kind (seen file.entry.now).1 (in_order items.old.items) in
+    requires offset { IsOffset rules.now.config.now.timezone }
+    requires known { IsRuled rules.now file.now }
+    requires now { IsMoment rules.now.now }
+    ensures { let found = ruled_kind rules.entry.now kind (seen file.entry.now).1 (in_order items.old.items) in
         MatchResult result (λ _. found ≡ Ok (in_order items.new.items)) (IsFirst found) }
 {
     match read_item(alloc, rules, kind, file) {
-        Ok(made) => Ok(put_item(alloc, rules.rules.config, kind, file.path, made, items)?),
+        Ok(made) => Ok(put_item(alloc, rules.config, kind, file.path, made, items)?),
         Err(error) => Err(error_at(alloc, file.path, error)),
     }
 }
@@ -126,33 +124,19 @@ fn add_kind(
 // The item that a file is, which is made anew only where nothing is kept that tells it.
 fn read_item(
     alloc: Global,
-    rules: &FileRules,
+    rules: &Rules,
     kind: Kind,
     file: &PlacedFile,
 ) -> Result<Option<Item>, ItemError>
-    requires offset { IsOffset rules.now.rules.config.now.timezone }
-    requires rules { AreRead rules.now }
-    requires now { IsMoment rules.now.rules.now }
-    ensures { let found = items.ruled_item rules.entry.now.rules kind file.entry.now.path.now file.entry.now.content in
+    requires offset { IsOffset rules.now.config.now.timezone }
+    requires known { IsRuled rules.now file.now }
+    requires now { IsMoment rules.now.now }
+    ensures { let found = items.ruled_item rules.entry.now kind file.entry.now.path.now file.entry.now.content in
         MatchResult result (λ made. found ≡ Ok made) (IsFault found) }
 {
-    match kept_item(rules, kind, file) {
-        Some(made) => item_at(alloc, &rules.rules, kind, file.path, made),
-        None => Item::read(alloc, &rules.rules, kind, file.path, &file.content),
-    }
-}
-
-fn kept_item<'a>(
-    rules: &FileRules,
-    kind: Kind,
-    file: &PlacedFile<'a>,
-) -> Option<&'a Result<Timeless, LineFault>>
-    requires { AreRead rules.now }
-    ensures { IfSome result (λ made. ruled_timeless rules.entry.now.rules kind file.now.path.now file.now.content ≡ outcome_of made.now) }
-{
-    match file.kept {
-        Some(kept) => kept.kept_item(rules, kind, file.path),
-        None => None,
+    match file.known_as(kind) {
+        Some(made) => item_at(alloc, rules, kind, file.path, made),
+        None => Item::read(alloc, rules, kind, file.path, &file.content),
     }
 }
 

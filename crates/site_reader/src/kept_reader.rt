@@ -1,28 +1,28 @@
 // Reading that keeps what it found.
 ghost use Rattle.std.specs.Prelude.{◌≡◌, ◌*◌, ◌≤◌, IfOk, OnErr, MatchResult, Ok, length};
 ghost use Rattle.std.specs.FinMap as finite;
-ghost use Rattle.site_base.specs.PathMap.{as_map};
 ghost use Rattle.site_dates.specs.Moment.{IsMoment};
 ghost use Rattle.site_dates.specs.Offset.{IsOffset};
+ghost use Rattle.site_reader.specs.Configured.{config_in};
 ghost use Rattle.site_reader.specs.Found.{IsFirst};
 ghost use Rattle.site_reader.specs.Kept.{parsed, parsed_under};
 ghost use Rattle.site_reader.specs.Lawful.{IsLawful};
 ghost use Rattle.site_reader.specs.Paginating.{HasSize};
-ghost use Rattle.site_reader.specs.Placements.{Tells};
+ghost use Rattle.site_reader.specs.Placements.{AreUnder, IsSound, Tells, bytes_in};
 ghost use Rattle.site_reader.specs.Placing.{builds_drafts};
 ghost use Rattle.site_reader.specs.Sites.{IsConfig, site, site_with};
 ghost use Rattle.source_tree.specs.Limits.{CanBeHeld, most_files};
 
 use crate::configuration::{config, told_of};
 use crate::file_rules::FileRules;
-use crate::placing::{builds_drafts, builds_future, kept_files};
+use crate::kept_files::KeptFiles;
+use crate::placing::{builds_drafts, builds_future};
 use crate::reading::placed_site;
 use crate::renewal::{Renewed, renewed_files};
 use crate::site::Site;
 use crate::site_error::SiteError;
-use crate::site_file::SiteFile;
 use crate::told::Told;
-use site_base::{Memory, PathMap, Settings};
+use site_base::{Memory, Settings};
 use site_config::Config;
 use site_items::{FrontParser, Rules, by_strength};
 use source_tree::Held;
@@ -33,19 +33,21 @@ use std::marker::Model;
 /// bytes the next time, its front matter is not read again.
 #[derive(Drop)]
 pub struct KeptReader {
-    files: PathMap<SiteFile>,
+    files: KeptFiles,
     read_anew: u32,
 }
 
 impl Model for KeptReader {
-    ghost use Rattle.site_base.specs.PathMap.{as_map};
     ghost use Rattle.site_reader.specs.Kept.{Kept, kept_coded};
+    ghost use Rattle.site_reader.specs.Placements.{IsSound, bytes_in};
 
     ghost Value = { Kept };
 
     ghost coded = { kept_coded };
 
-    ghost view = { λ reader. record { kept = as_map reader.files; parsed = reader.read_anew } };
+    ghost view = { λ reader. record { kept = bytes_in reader.files.files; parsed = reader.read_anew } };
+
+    ghost invariant = { λ reader. IsSound reader.files };
 }
 
 impl KeptReader {
@@ -54,7 +56,7 @@ impl KeptReader {
         ensures { result ≡ record { kept = finite.empty; parsed = 0 } }
     {
         KeptReader {
-            files: PathMap::new(alloc),
+            files: KeptFiles::new(alloc),
             read_anew: 0,
         }
     }
@@ -131,8 +133,8 @@ impl KeptReader {
             &config,
             parser,
         )?;
-        self.files = renewed.files;
-        match kept_site(alloc, &self.files, &told, moment, settings, config) {
+        self.files = renewed.kept;
+        match kept_site(alloc, &self.files, moment, settings, config) {
             Ok(site) => {
                 self.read_anew = renewed.parsed;
                 Ok(site)
@@ -145,7 +147,7 @@ impl KeptReader {
 // The held files as they are kept then, under a configuration.
 fn renewed_under<P: FrontParser>(
     alloc: Global,
-    old: &PathMap<SiteFile>,
+    old: &KeptFiles,
     held: &Held,
     told: &Told,
     now: i64,
@@ -155,8 +157,11 @@ fn renewed_under<P: FrontParser>(
 ) -> Result<Renewed, Memory>
     requires offset { IsOffset config.now.timezone }
     requires told { Tells told.now config.now }
-    ensures files { IfOk result (λ made. as_map made.files ≡ held.now) }
-    ensures parsed { IfOk result (λ made. made.parsed ≡ parsed_under config.now told.entry.now.drafts (as_map old.now) held.now) }
+    requires sound { IsSound old.now }
+    ensures files { IfOk result (λ made. bytes_in made.kept.files ≡ held.now) }
+    ensures under { IfOk result (λ made. AreUnder told.entry.now made.kept) }
+    ensures sound { IfOk result (λ made. IsSound made.kept) }
+    ensures parsed { IfOk result (λ made. made.parsed ≡ parsed_under config.now told.entry.now.drafts (bytes_in old.now.files) held.now) }
     ensures within { IfOk result (λ _. CanBeHeld held.now) }
 {
     let scopes = by_strength(alloc, config.defaults.as_slice())?;
@@ -175,23 +180,23 @@ fn renewed_under<P: FrontParser>(
 // The site of files that are kept.
 fn kept_site(
     alloc: Global,
-    files: &PathMap<SiteFile>,
-    told: &Told,
+    kept: &KeptFiles,
     moment: i64,
     settings: &Settings,
     config: Config,
 ) -> Result<Site, SiteError>
     requires offset { IsOffset config.timezone }
     requires size { HasSize config }
-    requires told { Tells told.now config }
-    requires drafts { told.now.drafts ≡ builds_drafts config settings.now }
+    requires told { config_in kept.now.told ≡ Ok config }
+    requires drafts { kept.now.drafts ≡ builds_drafts config settings.now }
+    requires sound { IsSound kept.now }
     requires moment { IsMoment moment }
-    requires few { finite.len (as_map files.now) ≤ most_files }
-    ensures read { let found = site_with (as_map files.now) moment settings.now config in
+    requires few { finite.len (bytes_in kept.now.files) ≤ most_files }
+    ensures read { let found = site_with (bytes_in kept.now.files) moment settings.now config in
         MatchResult result (λ made. found ≡ Ok made) (IsFirst found) }
     ensures moment { IfOk result (λ made. made.moment ≡ moment) }
 {
-    let files = kept_files(alloc, files, &config, told)?;
+    let files = kept.placed(alloc)?;
     let future = builds_future(&config, settings);
-    placed_site(alloc, &files, told, moment, future, config)
+    placed_site(alloc, &files, moment, future, config)
 }

@@ -1,17 +1,15 @@
 // Which file is what.
 ghost use Rattle.std.specs.Prelude.{◌≡◌, ◌<◌, IfOk, map, slice_index_or};
 ghost use Rattle.std.specs.FinMap as finite;
-ghost use Rattle.site_base.specs.PathMap.{as_map};
 ghost use Rattle.site_dates.specs.Offset.{IsOffset};
-ghost use Rattle.site_reader.specs.Placements.{Tells};
+ghost use Rattle.site_items.specs.Defaults.{by_strength};
+ghost use Rattle.site_reader.specs.Placements.{AreKnown, IsKnown};
 ghost use Rattle.site_reader.specs.Placing.{kind_at, as_copy, as_item, builds_drafts, builds_future, copied_kind, has_matter, item_kind, placed, seen};
 ghost use Rattle.source_tree.specs.Limits.{CanBeHeld};
 
 use crate::placed_file::PlacedFile;
-use crate::site_file::SiteFile;
-use crate::told::Told;
 use front_yaml::Front;
-use site_base::{Memory, PathMap, Settings};
+use site_base::{Memory, Settings};
 use site_config::Config;
 use site_files::Place;
 use site_items::{FileContent, Kind};
@@ -27,6 +25,7 @@ pub(crate) fn placed_files<'a>(
 ) -> Result<Vec<PlacedFile<'a>>, Memory>
     requires { IsOffset config.now.timezone }
     ensures files { IfOk result (λ files. map seen files.items ≡ map (placed config.now drafts) (finite.entries held.entry.now)) }
+    ensures known { IfOk result (λ files. AreKnown config.now (by_strength config.now.defaults) files.items) }
     // What is held passes no limit.
     ensures within { CanBeHeld held.entry.now }
 {
@@ -42,6 +41,7 @@ fn placed_file<'a>(held: &'a Held, number: u32, config: &Config, drafts: bool) -
     requires number { number < finite.len held.now }
     ensures file { (seen result).1 ≡ slice_index_or (finite.entries held.entry.now) number (seen result).1 }
     ensures place { seen result ≡ placed config.now drafts (seen result).1 }
+    ensures known { IsKnown config.now (by_strength config.now.defaults) result }
 {
     let (path, bytes) = held.shared_at(number);
     let place = Place::of(config, drafts, path.text());
@@ -50,46 +50,6 @@ fn placed_file<'a>(held: &'a Held, number: u32, config: &Config, drafts: bool) -
         path,
         content: FileContent::of(bytes),
         kept: None,
-    }
-}
-
-/// The same of files that are kept.
-pub(crate) fn kept_files<'a>(
-    alloc: Global,
-    kept: &'a PathMap<SiteFile>,
-    config: &Config,
-    told: &Told,
-) -> Result<Vec<PlacedFile<'a>>, Memory>
-    requires offset { IsOffset config.now.timezone }
-    requires told { Tells told.now config.now }
-    ensures { IfOk result (λ files. map seen files.items ≡ map (placed config.now told.entry.now.drafts) (finite.entries (as_map kept.entry.now))) }
-{
-    let mut files = Vec::with_capacity(alloc, kept.len())?;
-    for number in 0..kept.len() {
-        files.push(kept_file(kept, number, config, told))?;
-    }
-    Ok(files)
-}
-
-fn kept_file<'a>(
-    kept: &'a PathMap<SiteFile>,
-    number: usize,
-    config: &Config,
-    told: &Told,
-) -> PlacedFile<'a>
-    requires offset { IsOffset config.now.timezone }
-    requires told { Tells told.now config.now }
-    requires number { number < finite.len (as_map kept.now) }
-    ensures file { (seen result).1 ≡ slice_index_or (finite.entries (as_map kept.entry.now)) number (seen result).1 }
-    ensures place { seen result ≡ placed config.now told.entry.now.drafts (seen result).1 }
-{
-    let (path, file) = kept.at(number);
-    let place = file.place(config, told, path);
-    PlacedFile {
-        place,
-        path,
-        content: file.content(),
-        kept: Some(file),
     }
 }
 

@@ -7,15 +7,14 @@ ghost use Rattle.site_reader.specs.Found.{IsFirst};
 ghost use Rattle.site_reader.specs.Lawful.{IsLawful};
 ghost use Rattle.site_reader.specs.Paginating.{HasSize};
 ghost use Rattle.site_items.specs.Defaults.{by_strength};
-ghost use Rattle.site_reader.specs.Placements.{Tells};
+ghost use Rattle.site_reader.specs.Placements.{AreKnown};
 ghost use Rattle.site_reader.specs.Placing.{seen};
 ghost use Rattle.site_reader.specs.Sites.{IsConfig, clash_free, config, items, items_by, placed_site, site, site_with};
 ghost use Rattle.source_tree.specs.Limits.{CanBeHeld, most_files};
 
-use crate::configuration::{config, told_of};
+use crate::configuration::config;
 use crate::copies::copies;
 use crate::data::data_tree;
-use crate::file_rules::FileRules;
 use crate::includes::includes;
 use crate::items::items;
 use crate::layouts::layouts;
@@ -25,7 +24,6 @@ use crate::placed_file::PlacedFile;
 use crate::placing::{builds_drafts, builds_future, placed_files};
 use crate::site::{Site, SiteItems};
 use crate::site_error::SiteError;
-use crate::told::Told;
 use site_base::{FaultKind, Settings, SiteFault, Value};
 use site_config::{Config, Scope};
 use site_items::{Rules, by_strength};
@@ -77,25 +75,23 @@ fn site_with(
 {
     let drafts = builds_drafts(&config, settings);
     let files = placed_files(alloc, held, &config, drafts)?;
-    let told = told_of(alloc, held, &config, drafts)?;
     let future = builds_future(&config, settings);
-    placed_site(alloc, &files, &told, moment, future, config)
+    placed_site(alloc, &files, moment, future, config)
 }
 
 /// The site of files in their places.
 pub(crate) fn placed_site(
     alloc: Global,
     files: &[PlacedFile],
-    told: &Told,
     now: i64,
     future: bool,
     config: Config,
 ) -> Result<Site, SiteError>
     requires offset { IsOffset config.timezone }
-    requires told { Tells told.now config }
     requires size { HasSize config }
     requires moment { IsMoment now }
     requires few { length files.now ≤ most_files }
+    requires known { AreKnown config (by_strength config.defaults) files.now }
     ensures read { let found = placed_site config now future (map seen files.entry.now) in
         MatchResult result (λ made. found ≡ Ok made) (IsFirst found) }
     ensures moment { IfOk result (λ made. made.moment ≡ now) }
@@ -103,7 +99,7 @@ pub(crate) fn placed_site(
     let tree = data_tree(alloc, files)?;
     let layouts = layouts(alloc, files)?;
     let includes = includes(alloc, files)?;
-    let items = ruled_items(alloc, files, told, now, future, &config)?;
+    let items = ruled_items(alloc, files, now, future, &config)?;
     let items = paginated(alloc, &config, items)?;
     let statics = copies(alloc, &config, files)?;
     clash_free(
@@ -123,19 +119,18 @@ pub(crate) fn placed_site(
 fn ruled_items(
     alloc: Global,
     files: &[PlacedFile],
-    told: &Told,
     now: i64,
     future: bool,
     config: &Config,
 ) -> Result<SiteItems, SiteError>
     requires offset { IsOffset config.now.timezone }
-    requires told { Tells told.now config.now }
     requires moment { IsMoment now }
+    requires known { AreKnown config.now (by_strength config.now.defaults) files.now }
     ensures { let found = items config.now now future (map seen files.entry.now) in
         MatchResult result (λ made. found ≡ Ok made) (IsFirst found) }
 {
     let scopes = by_strength(alloc, config.defaults.as_slice())?;
-    match scoped_items(alloc, files, told, now, future, config, &scopes) {
+    match scoped_items(alloc, files, now, future, config, &scopes) {
         Ok(items) => Ok(items),
         Err(error) => Err(error),
     }
@@ -144,27 +139,22 @@ fn ruled_items(
 fn scoped_items(
     alloc: Global,
     files: &[PlacedFile],
-    told: &Told,
     now: i64,
     future: bool,
     config: &Config,
     scopes: &[&Scope],
 ) -> Result<SiteItems, SiteError>
     requires offset { IsOffset config.now.timezone }
-    requires told { Tells told.now config.now }
-    requires scopes { map (λ s. s.now) scopes.now ≡ by_strength config.now.defaults }
     requires moment { IsMoment now }
+    requires known { AreKnown config.now (map (λ s. s.now) scopes.now) files.now }
     ensures { let found = items_by (map (λ s. s.now) scopes.entry.now) config.now now future (map seen files.entry.now) in
         MatchResult result (λ made. found ≡ Ok made) (IsFirst found) }
 {
-    let rules = FileRules {
-        rules: Rules {
-            config,
-            scopes,
-            now,
-            future,
-        },
-        told: *told,
+    let rules = Rules {
+        config,
+        scopes,
+        now,
+        future,
     };
     match items(alloc, &rules, files) {
         Ok(items) => Ok(items),

@@ -7,4 +7,4 @@ use Rattle.site_reader.proofs.items.add_kind.Goals as goal
 pub returns-in-Err : goal.returns-in-Err
 returns-in-Err c =
     let file = c.args.file.now in
-    first_told (ruled_item c.args.rules.now.rules c.args.kind file.path.now file.content) (λ made. Ok (with_item c.args.rules.now.rules.config.now c.args.kind file.path.now made (in_order c.args.items.now.items))) file.path.now c.in-Err.error c.error_at.result c.in-Err.ensures c.error_at.ensures
+    first_told (ruled_item c.args.rules.now c.args.kind file.path.now file.content) (λ made. Ok (with_item c.args.rules.now.config.now c.args.kind file.path.now made (in_order c.args.items.now.items))) file.path.now c.in-Err.error c.error_at.result c.in-Err.ensures c.error_at.ensures

@@ -6,4 +6,4 @@ use Rattle.site_reader.specs.Placing.{seen}
 use Rattle.site_reader.proofs.items.read_items.Given as goal
 
 abbrev pub invariant-loop-file : goal.invariant-loop-file
-invariant-loop-file l = each (ruled_item l.rules.rules) (map seen (drop l.file-index l.files)) (in_order l.items.items) ≡ each (ruled_item l.rules.rules) (map seen l.files) []
+invariant-loop-file l = each (ruled_item l.rules) (map seen (drop l.file-index l.files)) (in_order l.items.items) ≡ each (ruled_item l.rules) (map seen l.files) []
