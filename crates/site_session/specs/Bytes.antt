@@ -4,6 +4,7 @@ use Rattle.std.specs.Fmt.{decimal}
 use Rattle.site_base.specs.Faults.{fault_number}
 use Rattle.site_base.specs.declared.faults.SiteFault.{SiteFault}
 use Rattle.site_script.specs.Line.{script_number}
+use Rattle.site_sentences.specs.Shown.{shown}
 use Rattle.site_session.specs.declared.build.Report.{Report}
 use Rattle.site_session.specs.KeyTexts.{item_text, key_text}
 use Rattle.read_record.specs.declared.key.Key.{Key}
@@ -24,8 +25,9 @@ abbrev pub reason_text : Option Key → List ℕ
 reason_text None = codes "new"
 reason_text (Some key) = key_text key
 
+-- names come from outside, so control characters in them are shown as question marks
 abbrev pub why_line : Why → List ℕ
-why_line why = codes "why " ++ (item_text why.name ++ (codes " " ++ (reason_text why.key ++ codes "\n")))
+why_line why = codes "why " ++ (shown (item_text why.name ++ (codes " " ++ reason_text why.key)) ++ codes "\n")
 
 -- where reasons are told, they stand before what was built
 abbrev pub why_lines : Bool → Report → List ℕ

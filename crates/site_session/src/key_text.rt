@@ -1,9 +1,8 @@
 // What keys are called where reasons are told.
-ghost use Rattle.std.specs.Prelude.{◌≡◌, ◌++◌, IfOk, OnOk, codes, encode_utf8};
+ghost use Rattle.std.specs.Prelude.{◌≡◌, ◌++◌, IfOk, OnOk, codes};
 ghost use Rattle.std.specs.String.{string_bytes};
-ghost use Rattle.site_base.specs.View.{items_of};
-ghost use Rattle.site_base.specs.View.{plain};
-ghost use Rattle.site_session.specs.KeyTexts.{data_text, dotted, item_text, key_text, key_words, shown};
+ghost use Rattle.site_base.specs.View.{items_of, plain};
+ghost use Rattle.site_session.specs.KeyTexts.{data_text, dotted, item_text, key_text, key_words};
 
 use read_record::Key;
 use site_base::{ItemName, Value};
@@ -36,8 +35,8 @@ pub(crate) fn key_text(alloc: Global, key: &Key) -> Result<String, AllocError>
         Key::Data(keys) => data_text(alloc, keys.as_slice()),
         Key::Layout(name) => of_words(alloc, "layout", name.as_str()),
         Key::Include(name) => of_words(alloc, "include", name.as_str()),
-        Key::File(path) => of_path(alloc, "file", path.text()),
-        Key::Link(path) => of_path(alloc, "link", path.text()),
+        Key::File(path) => of_words(alloc, "file", path.text()),
+        Key::Link(path) => of_words(alloc, "link", path.text()),
         Key::Post(name) => of_words(alloc, "post", name.as_str()),
         Key::Moment => String::from_str(alloc, "moment"),
     }
@@ -50,24 +49,16 @@ fn of_item(alloc: Global, kind: &str, name: &ItemName) -> Result<String, AllocEr
     format!(in alloc; "{kind} {name}")
 }
 
-fn of_path(alloc: Global, kind: &str, path: &str) -> Result<String, AllocError>
-    ensures { IfOk result (λ text. string_bytes text ≡ kind.now ++ (codes " " ++ path.now)) }
-{
-    format!(in alloc; "{kind} {path}")
-}
-
 fn of_words(alloc: Global, kind: &str, words: &str) -> Result<String, AllocError>
-    ensures { IfOk result (λ text. string_bytes text ≡ kind.now ++ (codes " " ++ shown words.now)) }
+    ensures { IfOk result (λ text. string_bytes text ≡ kind.now ++ (codes " " ++ words.now)) }
 {
-    let words = shown(alloc, words)?;
     format!(in alloc; "{kind} {words}")
 }
 
 fn variable_text(alloc: Global, name: &ItemName, variable: &str) -> Result<String, AllocError>
-    ensures { IfOk result (λ text. string_bytes text ≡ codes "var " ++ (item_text name.now ++ (codes " " ++ shown variable.now))) }
+    ensures { IfOk result (λ text. string_bytes text ≡ codes "var " ++ (item_text name.now ++ (codes " " ++ variable.now))) }
 {
     let name = item_text(alloc, name)?;
-    let variable = shown(alloc, variable)?;
     format!(in alloc; "var {name} {variable}")
 }
 
@@ -78,7 +69,7 @@ fn data_text(alloc: Global, keys: &[Value]) -> Result<String, AllocError>
     let mut text = String::from_str(alloc, "data")?;
     if let Some((first, others)) = keys.split_first() {
         text.push(' ')?;
-        push_shown(&mut text, key_words(first))?;
+        text.push_str(key_words(first))?;
         push_dotted(&mut text, others)?;
     }
     Ok(text)
@@ -89,7 +80,7 @@ fn push_dotted(text: &mut String, keys: &[Value]) -> Result<(), AllocError>
 {
     for key in keys {
         text.push('.')?;
-        push_shown(text, key_words(key))?;
+        text.push_str(key_words(key))?;
     }
     Ok(())
 }
@@ -101,33 +92,5 @@ fn key_words(key: &Value) -> &str
     match key {
         Value::Text(text) => text.as_str(),
         _ => "",
-    }
-}
-
-// The words with a question mark in place of each control character.
-fn shown(alloc: Global, words: &str) -> Result<String, AllocError>
-    ensures { IfOk result (λ text. string_bytes text ≡ shown words.now) }
-{
-    let mut text = String::new(alloc);
-    push_shown(&mut text, words)?;
-    Ok(text)
-}
-
-fn push_shown(text: &mut String, words: &str) -> Result<(), AllocError>
-    ensures { OnOk result (string_bytes text.new ≡ string_bytes text.old ++ shown words.now) }
-{
-    for character in words.chars() {
-        text.push(shown_char(character))?;
-    }
-    Ok(())
-}
-
-fn shown_char(character: char) -> char
-    ensures { encode_utf8 result ≡ shown (encode_utf8 character) }
-{
-    if character.is_ascii_control() {
-        '?'
-    } else {
-        character
     }
 }

@@ -63,13 +63,14 @@ pub(crate) fn output_one_by_one<R: Renderer<Meaning = PageMeaning>>(
     ensures { IsOutput in_order held.now memo.old (sites.site held.now moment settings.now) result memo.new tally.old tally.new }
 {
     match reading.site(alloc, held, moment, settings) {
-        Ok(site) => site_one_by_one(alloc, held, &site, renderer, memo, tally),
+        Ok(site) => site_one_by_one(alloc, reading, held, &site, renderer, memo, tally),
         Err(error) => Err(error),
     }
 }
 
 fn site_one_by_one<R: Renderer<Meaning = PageMeaning>>(
     alloc: Global,
+    reading: &mut Reading,
     held: &Held,
     site: &Site,
     renderer: &R,
@@ -81,7 +82,7 @@ fn site_one_by_one<R: Renderer<Meaning = PageMeaning>>(
     requires moment { pos 0 ≤ℤ site.now.moment }
     ensures { IsOutput in_order held.now memo.old (Ok site.now) result memo.new tally.old tally.new }
 {
-    let round = one_by_one(alloc, held, site, renderer, memo, tally);
+    let round = one_by_one(alloc, reading, held, site, renderer, memo, tally);
     output_of(alloc, held, site, round)
 }
 
@@ -102,13 +103,14 @@ pub(crate) fn output_by_crew<H: Threads + Wait + Sync, R: Renderer<Meaning = Pag
     ensures { IsOutput in_any_order held.now memo.old (sites.site held.now moment settings.now) result memo.new tally.old tally.new }
 {
     match reading.site(alloc, held, moment, settings) {
-        Ok(site) => site_by_crew(alloc, held, &site, crew, memo, tally),
+        Ok(site) => site_by_crew(alloc, reading, held, &site, crew, memo, tally),
         Err(error) => Err(error),
     }
 }
 
 fn site_by_crew<H: Threads + Wait + Sync, R: Renderer<Meaning = PageMeaning> + Sync>(
     alloc: Global,
+    reading: &mut Reading,
     held: &Held,
     site: &Site,
     crew: &Crew<'_, H, R>,
@@ -121,7 +123,7 @@ fn site_by_crew<H: Threads + Wait + Sync, R: Renderer<Meaning = PageMeaning> + S
     requires jobs { (1 ≤ crew.now.jobs) × (crew.now.jobs ≤ 64) }
     ensures { IsOutput in_any_order held.now memo.old (Ok site.now) result memo.new tally.old tally.new }
 {
-    let round = by_crew(alloc, held, site, crew, memo, tally);
+    let round = by_crew(alloc, reading, held, site, crew, memo, tally);
     output_of(alloc, held, site, round)
 }
 
@@ -153,9 +155,18 @@ fn first_item_fault<R: Renderer<Meaning = PageMeaning>>(
     requires moment { pos 0 ≤ℤ site.now.moment }
     ensures { IfOk result (λ fault. fault ≡ fault_of (whole held.now site.now)) }
 {
+    let mut reading = Reading::Once;
     let mut memo = Memo::new(alloc);
     let mut tally = Tally::new(alloc);
-    match one_by_one(alloc, held, site, renderer, &mut memo, &mut tally) {
+    match one_by_one(
+        alloc,
+        &mut reading,
+        held,
+        site,
+        renderer,
+        &mut memo,
+        &mut tally,
+    ) {
         Ok(_) => Ok(None),
         Err(RoundError::Fault(fault)) => Ok(Some(fault)),
         Err(RoundError::Memory) => Err(Memory),

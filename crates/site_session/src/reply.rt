@@ -10,6 +10,7 @@ use crate::{Rebuilt, Report, Why};
 use read_record::Key;
 use site_base::{PathList, SiteFault};
 use site_script::ScriptKind;
+use site_sentences::shown;
 use std::alloc::{AllocError, Global};
 
 /// What a session replies to a line.
@@ -124,7 +125,9 @@ fn why_line(alloc: Global, why: &Why) -> Result<String, AllocError>
 {
     let name = item_text(alloc, &why.name)?;
     let reason = reason_text(alloc, &why.key)?;
-    format!(in alloc; "why {name} {reason}\n")
+    let told = format!(in alloc; "{name} {reason}")?;
+    let told = shown(alloc, told.as_str())?;
+    format!(in alloc; "why {told}\n")
 }
 
 fn reason_text(alloc: Global, key: &Option<Key>) -> Result<String, AllocError>

@@ -5,12 +5,12 @@ ghost use Rattle.site_session.specs.Full.{given_of};
 ghost use Rattle.site_session.specs.Rounds.{IsGone, in_any_order, in_order};
 ghost use Rattle.site_world.specs.Sights.{fixed_bytes};
 
+use crate::reading::Reading;
 use memo_table::Memo;
 use page_render::PageMeaning;
 use read_record::{Renderer, Tally};
 use render_workers::{Round, RoundError, regenerate, regenerate_serial};
 use site_reader::Site;
-use site_world::SiteWorld;
 use source_tree::Held;
 use std::alloc::Global;
 use std::sync::Wait;
@@ -30,6 +30,7 @@ pub struct Crew<'a, H, R> {
 /// Keeps or renders the items of a site one after another, and keeps what it rendered.
 pub(crate) fn one_by_one<R: Renderer<Meaning = PageMeaning>>(
     alloc: Global,
+    reading: &mut Reading,
     held: &Held,
     site: &Site,
     renderer: &R,
@@ -40,13 +41,14 @@ pub(crate) fn one_by_one<R: Renderer<Meaning = PageMeaning>>(
     requires moment { pos 0 ≤ℤ site.now.moment }
     ensures { IsGone in_order (given_of held.now site.now memo.old) (fixed_bytes held.now site.now) result memo.new tally.old tally.new }
 {
-    let world = SiteWorld::new(alloc, site, held)?;
+    let world = reading.world(alloc, site, held)?;
     regenerate_serial(alloc, renderer, &world, memo, tally)
 }
 
 /// The same by the threads of a crew, which render any item as soon as they come to it.
 pub(crate) fn by_crew<H: Threads + Wait + Sync, R: Renderer<Meaning = PageMeaning> + Sync>(
     alloc: Global,
+    reading: &mut Reading,
     held: &Held,
     site: &Site,
     crew: &Crew<'_, H, R>,
@@ -58,7 +60,7 @@ pub(crate) fn by_crew<H: Threads + Wait + Sync, R: Renderer<Meaning = PageMeanin
     requires jobs { (1 ≤ crew.now.jobs) × (crew.now.jobs ≤ 64) }
     ensures { IsGone in_any_order (given_of held.now site.now memo.old) (fixed_bytes held.now site.now) result memo.new tally.old tally.new }
 {
-    let world = SiteWorld::new(alloc, site, held)?;
+    let world = reading.world(alloc, site, held)?;
     regenerate(
         crew.rt,
         alloc,

@@ -31,6 +31,7 @@ use read_record::{Renderer, Tally};
 use site_base::{FileBytes, Memory, Settings, SiteFault, SitePath};
 use site_reader::{KeptReader, SiteError};
 use site_script::{Line, ScriptKind};
+use site_world::KeptVariables;
 use source_tree::{Held, PutError, ScanError, SourceTree};
 use std::alloc::Global;
 use std::marker::Model;
@@ -95,7 +96,7 @@ impl Session {
         requires { is_moment moment ≡ true }
         ensures { result ≡ record (start settings moment) { files = held } }
     {
-        let reading = Reading::Keeping(KeptReader::new(alloc));
+        let reading = Reading::Keeping(KeptReader::new(alloc), KeptVariables::new());
         Session::reading_by(alloc, reading, held, settings, moment)
     }
 

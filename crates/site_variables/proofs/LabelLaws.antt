@@ -40,7 +40,7 @@ each_append : (xs : List SiteItem) (x : SiteItem) → each named (xs ++ x ∷ []
 each_append [] x = refl
 each_append (y ∷ ys) x = ap (item (named y)) (each_append ys x)
 
-named_turned : (xs : List SiteItem) → backwards (each named xs) ≡ each named (reverse xs)
+pub named_turned : (xs : List SiteItem) → backwards (each named xs) ≡ each named (reverse xs)
 named_turned [] = refl
 named_turned (x ∷ xs) = ap (λ (is : Items). onto is (item (named x) no_items)) (named_turned xs) ∙ sym (each_append (reverse xs) x) ∙ ap (each named) (sym (reverse-append (x ∷ []) xs))
 

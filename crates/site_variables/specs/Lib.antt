@@ -5,3 +5,4 @@ pub mod Settings
 pub mod Variables
 pub mod Choosing
 pub mod Gathering
+pub mod Resting

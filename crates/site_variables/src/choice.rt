@@ -60,7 +60,8 @@ fn is_html(config: &Config, item: &SiteItem) -> bool
     is_page_ext(output_ext(config.markdown_ext.as_str(), own)) || is_folder(item.url.as_str())
 }
 
-fn is_folder(url: &str) -> bool
+/// Whether a URL stands for a folder.
+pub(crate) fn is_folder(url: &str) -> bool
     ensures { result ≡ ends_with nat_eq url.now (codes "/") }
 {
     url.ends_with("/")

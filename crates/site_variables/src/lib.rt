@@ -1,6 +1,7 @@
 //! The variables of a site, as templates ask for them by `site.NAME`.
 #![tactic(auto)]
 
+mod basis;
 mod by_place;
 mod choice;
 mod hashes;
@@ -10,4 +11,5 @@ mod own;
 mod settings;
 mod variables;
 
+pub use basis::Basis;
 pub use variables::site_variables;

@@ -93,13 +93,19 @@ shelf_field_send = let coded = coded_send in let field = coded_field_send in sea
 shelf_field_sync : IsSync Shelf.the_field.row
 shelf_field_sync = let coded = coded_sync in let field = coded_field_sync in search (maps.crosses, heap.crosses, sendable) depth 60 fits 20000
 
+shelf_send : IsSend Shelf.the_row
+shelf_send = let coded = coded_send in let field = coded_field_send in search (maps.crosses, heap.crosses, sendable) depth 60 fits 20000
+
+shelf_sync : IsSync Shelf.the_row
+shelf_sync = let coded = coded_sync in let field = coded_field_sync in search (maps.crosses, heap.crosses, sendable) depth 60 fits 20000
+
 -- it lends the site and its files, so these are shared
 pub world_send : (a : NamedLft) → IsSend (SiteWorld.the_row a)
 world_send a =
-    let site = site_sync in let coded = coded_field_send in let shelf = shelf_field_send in let item = item_sync in
+    let site = site_sync in let coded = coded_field_send in let shelf = shelf_field_send in let shared = shelf_field_sync in let row = shelf_send in let shared_row = shelf_sync in let item = item_sync in
     search (Held.the_sync, ItemPlaces.the_field_send, Named.the_field_send, StaticFile.the_sync, heap.crosses, sendable) depth 60 fits 20000
 
 pub world_sync : (a : NamedLft) → IsSync (SiteWorld.the_row a)
 world_sync a =
-    let site = site_sync in let coded = coded_field_sync in let shelf = shelf_field_sync in let item = item_sync in
+    let site = site_sync in let coded = coded_field_sync in let shelf = shelf_field_sync in let sent = shelf_field_send in let row = shelf_sync in let sent_row = shelf_send in let item = item_sync in
     search (Held.the_sync, ItemPlaces.the_field_sync, Named.the_field_sync, StaticFile.the_sync, heap.crosses, sendable) depth 60 fits 20000

@@ -10,7 +10,7 @@ use Rattle.memo_table.specs.Names.{same_name}
 use Rattle.read_record.specs.Forms.{is_fields, is_layout, is_moment, is_words, IsFormed}
 use Rattle.read_record.specs.Outcomes.{is_done}
 use Rattle.read_record.specs.Queries.{Reply, Known, Missing}
-use Rattle.read_record.specs.Worlds.{Lawful}
+use Rattle.read_record.specs.Worlds.{Lawful, is_steady}
 use Rattle.read_record.specs.declared.key.Key.{Key}
 use Rattle.read_record.specs.declared.key.Key.TheVariants.{Source, Content, Output, Var, Paginator, SiteVar, Data, Layout, Include, File, Link, Post, Moment}
 use Rattle.read_record.specs.declared.outcome.Outcome.{Outcome}
@@ -96,8 +96,13 @@ sight-misses files site reader known (Content name) j h = content-misses reader 
 sight-misses files site reader known (Output name) j h = output-misses reader known (placed name site.items) j h
 sight-misses files site reader known _ j h = cc
 
+sight-steady : (files : Files) (site : Site) (k : Key) → is_steady k ≡ true → (reader other : ℕ) (known more : ℕ → Option Outcome) → site_sight files site reader known k ≡ site_sight files site other more k
+sight-steady files site (Content name) h reader other known more = cc
+sight-steady files site (Output name) h reader other known more = cc
+sight-steady files site _ h reader other known more = refl
+
 pub sight-lawful : (files : Files) (site : Site) → Lawful (site_sight files site)
-sight-lawful files site = record { grows = sight-grows files site; misses = sight-misses files site }
+sight-lawful files site = record { grows = sight-grows files site; misses = sight-misses files site; steady = sight-steady files site }
 
 -- ---- what it gives has its key's form
 

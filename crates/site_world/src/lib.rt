@@ -6,6 +6,7 @@ mod copied;
 mod crossing;
 mod found;
 mod item_places;
+mod kept_variables;
 mod looking;
 mod members;
 mod named;
@@ -16,4 +17,5 @@ mod site_world;
 mod text_code;
 mod world;
 
+pub use kept_variables::KeptVariables;
 pub use site_world::SiteWorld;

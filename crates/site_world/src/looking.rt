@@ -97,7 +97,7 @@ impl<'a> SiteWorld<'a> {
     fn site_variable(&self, name: &Text) -> Found<'_>
         ensures { reply_of result ≡ Known (or_nil (variable_named name.now self.now.site.now)) }
     {
-        kept(self.variables.find(name.as_str()))
+        kept(self.variables.as_ref().find(name.as_str()))
     }
 
     // The whole data tree is kept with its code; what stands in it is made to none.

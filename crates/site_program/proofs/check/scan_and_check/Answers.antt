@@ -15,7 +15,7 @@ use Rattle.site_program.proofs.check.scan_and_check.Goals as goal
 
 pub returns-in-Ok : goal.returns-in-Ok
 returns-in-Ok g c =
-    let opened : c.open-session.result ≡ start c.args.settings c.args.moment = search rules in
+    let opened : c.open-session.result ≡ start c.args.settings c.args.moment = search (c.open-session.ensures, rules) in
     let first = start c.args.settings c.args.moment in
     let fault = first_fault c.scan.new.self in
     check_done first (source_seen g.S.SourceTree.files g.S.SourceTree.failures c.args.source.now) (source_seen g.S.SourceTree.files g.S.SourceTree.failures c.scan.new.source)

@@ -9,7 +9,7 @@ use Rattle.site_program.proofs.jobs.run_session.Goals as goal
 
 pub returns : goal.returns
 returns g c =
-    let opened : c.open-session.result ≡ start c.args.options.settings c.args.moment = search rules in
+    let opened : c.open-session.result ≡ start c.args.options.settings c.args.moment = search (c.open-session.ensures, rules) in
     let at = stage g.S.SourceTree.files g.S.SourceTree.failures g.O.OutTree.contents g.O.OutTree.calls g.O.OutTree.failures g.K.ByteSink.taken g.K.ByteSink.failures in
     let read = input_seen g.I.ByteSource.left g.I.ByteSource.failures in
     let was = at c.args.source.now c.args.out.now c.args.tally.now c.args.sink.now in

@@ -8,7 +8,7 @@ use Rattle.site_program.proofs.one_build.build_one_by_one.Goals as goal
 
 pub returns-in-Err : goal.returns-in-Err
 returns-in-Err g c =
-    let opened : c.for_one_build-session.result ≡ start c.args.options.settings c.args.moment = search rules in
+    let opened : c.for_one_build-session.result ≡ start c.args.options.settings c.args.moment = search (c.for_one_build-session.ensures, rules) in
     let at = stage g.S.SourceTree.files g.S.SourceTree.failures g.O.OutTree.contents g.O.OutTree.calls g.O.OutTree.failures g.K.ByteSink.taken g.K.ByteSink.failures in
     ends_early (start c.args.options.settings c.args.moment) c.for_one_build-session.result opened refl c.args.options.why (at c.args.source.now c.args.out.now c.args.tally.now c.args.sink.now)
     _ (source_seen g.S.SourceTree.files g.S.SourceTree.failures c.tell_scan.new.source) (sink_seen g.K.ByteSink.taken g.K.ByteSink.failures c.tell_scan.new.sink)
@@ -16,7 +16,7 @@ returns-in-Err g c =
 
 pub returns-in_default : goal.returns-in_default
 returns-in_default g c =
-    let opened : c.for_one_build-session.result ≡ start c.args.options.settings c.args.moment = search rules in
+    let opened : c.for_one_build-session.result ≡ start c.args.options.settings c.args.moment = search (c.for_one_build-session.ensures, rules) in
     let at = stage g.S.SourceTree.files g.S.SourceTree.failures g.O.OutTree.contents g.O.OutTree.calls g.O.OutTree.failures g.K.ByteSink.taken g.K.ByteSink.failures in
     ends_unscanned (start c.args.options.settings c.args.moment) c.for_one_build-session.result opened refl c.args.options.why (at c.args.source.now c.args.out.now c.args.tally.now c.args.sink.now)
     (source_seen g.S.SourceTree.files g.S.SourceTree.failures c.tell_scan.new.source) (sink_seen g.K.ByteSink.taken g.K.ByteSink.failures c.tell_scan.new.sink)
@@ -24,7 +24,7 @@ returns-in_default g c =
 
 pub returns-in-Ok-tell_build : goal.returns-in-Ok-tell_build
 returns-in-Ok-tell_build g c =
-    let opened : c.for_one_build-session.result ≡ start c.args.options.settings c.args.moment = search rules in
+    let opened : c.for_one_build-session.result ≡ start c.args.options.settings c.args.moment = search (c.for_one_build-session.ensures, rules) in
     ends_built (start c.args.options.settings c.args.moment) c.for_one_build-session.result opened refl c.args.options.why g.O.OutTree.contents g.O.OutTree.calls g.O.OutTree.failures
     (source_seen g.S.SourceTree.files g.S.SourceTree.failures c.args.source.now) (source_seen g.S.SourceTree.files g.S.SourceTree.failures c.tell_scan.new.source) c.args.out.now _ c.args.tally.now _
     (sink_seen g.K.ByteSink.taken g.K.ByteSink.failures c.args.sink.now) _ _ c.in-Ok.scanned _ c.in-Scanned.is _ c.in-Ok.ensures.told _ (in_some_order g.O.OutTree.contents g.O.OutTree.calls g.O.OutTree.failures _ _ _ _ _ _ _ c.rebuild_serial-rebuilt.ensures)
@@ -32,7 +32,7 @@ returns-in-Ok-tell_build g c =
 
 pub returns : goal.returns
 returns g c =
-    let opened : c.for_one_build-session.result ≡ start c.args.options.settings c.args.moment = search rules in
+    let opened : c.for_one_build-session.result ≡ start c.args.options.settings c.args.moment = search (c.for_one_build-session.ensures, rules) in
     ends_cut (start c.args.options.settings c.args.moment) c.for_one_build-session.result opened refl c.args.options.why g.O.OutTree.contents g.O.OutTree.calls g.O.OutTree.failures
     (source_seen g.S.SourceTree.files g.S.SourceTree.failures c.args.source.now) (source_seen g.S.SourceTree.files g.S.SourceTree.failures c.tell_scan.new.source) c.args.out.now _ c.args.tally.now _
     (sink_seen g.K.ByteSink.taken g.K.ByteSink.failures c.args.sink.now) _ _ c.in-Ok.scanned _ c.in-Scanned.is _ c.in-Ok.ensures.told _ (in_some_order g.O.OutTree.contents g.O.OutTree.calls g.O.OutTree.failures _ _ _ _ _ _ _ c.rebuild_serial-rebuilt.ensures)

@@ -6,7 +6,7 @@ use Rattle.site_items.specs.declared.layout_file.LayoutFile.{LayoutFile}
 use Rattle.site_reader.specs.declared.site_item.SiteItem.{SiteItem}
 use Rattle.site_world.proofs.FormLaws.{few, differ, forms, fixed}
 use Rattle.site_world.specs.Sights.{copy_at, include_named, layout_named, layout_value}
-use Rattle.site_world.proofs.site_world.SiteWorld.new.Goals as goal
+use Rattle.site_world.proofs.site_world.SiteWorld.with_variables.Goals as goal
 
 pub invariant_of-result-clause-few : goal.invariant_of-result-clause-few
 invariant_of-result-clause-few c = few c.args.held.now c.args.site.now c.requires.lawful c.copied_bytes-fixed.ensures.within
@@ -21,7 +21,7 @@ pub invariant_of-result-clause-includes_are : goal.invariant_of-result-clause-in
 invariant_of-result-clause-includes_are c = λ x. c.in_ok-includes.ensures x ∙ ap (include_named x) c.as_slice-2.ensures
 
 pub invariant_of-result-clause-variables_are : goal.invariant_of-result-clause-variables_are
-invariant_of-result-clause-variables_are c = λ x. c.in_ok-variables.ensures x
+invariant_of-result-clause-variables_are c = λ x. c.requires.variables x
 
 pub invariant_of-result-clause-copies_are : goal.invariant_of-result-clause-copies_are
 invariant_of-result-clause-copies_are c = λ path. c.in_ok-copies.ensures path ∙ ap (copy_at path) c.as_slice-3.ensures
