@@ -6,7 +6,6 @@ pub mod FolderLaws
 pub mod FrontLaws
 pub mod HighlightLaws
 pub mod IncludeLaws
-pub mod NextLaws
 pub mod NodeLaws
 pub mod NumberLaws
 pub mod StateLaws

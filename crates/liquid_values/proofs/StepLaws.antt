@@ -12,7 +12,7 @@ use Rattle.read_record.proofs.BindLaws.{bind-assoc, bind-give}
 use Rattle.liquid_grammar.specs.declared.step.Step.{Step}
 use Rattle.liquid_grammar.specs.declared.step.Step.TheVariants as steps
 use Rattle.liquid_grammar.specs.Operands.{Operand, literal, range, variable, member, index, steps_of}
-use Rattle.liquid_values.specs.Names.{Found, Excerpting, value_of, named}
+use Rattle.liquid_values.specs.Names.{Found, Excerpting, named}
 use Rattle.liquid_values.specs.OperandSteps.{Standing, pushed, on_top, one_step, all_steps, last_found}
 use Rattle.liquid_values.specs.Operands as operands
 use Rattle.liquid_values.specs.Places.{Place}
@@ -39,9 +39,9 @@ module _ (excerpts : Excerpting) (p : Place) (vars : Pairs) where
       ap (λ ss. all ss st) (append_assoc (steps_of e) (steps_of x ++ steps.Index ∷ []) more ∙ ap (λ ss. steps_of e ++ ss) (append_assoc (steps_of x) (steps.Index ∷ []) more))
       ∙ steps-found e (steps_of x ++ (steps.Index ∷ more)) st
       ∙ (λ i. bind (found e) (λ (f : Found). (steps-found x (steps.Index ∷ more) (f ∷ st)
-      ∙ (λ j. bind (found x) (λ (g : Found). then_all (operands.indexed excerpts p f (value_of g)) st more j))
-      ∙ sym (bind-assoc (found x) (λ g. operands.indexed excerpts p f (value_of g)) (λ g. all more (g ∷ st)))) i))
-      ∙ sym (bind-assoc (found e) (λ f. bind (found x) (λ g. operands.indexed excerpts p f (value_of g))) (λ g. all more (g ∷ st)))
+      ∙ (λ j. bind (found x) (λ (g : Found). then_all (operands.index_found excerpts p f g) st more j))
+      ∙ sym (bind-assoc (found x) (λ g. operands.index_found excerpts p f g) (λ g. all more (g ∷ st)))) i))
+      ∙ sym (bind-assoc (found e) (λ f. bind (found x) (λ g. operands.index_found excerpts p f g)) (λ g. all more (g ∷ st)))
   steps-found (range a b) more st =
       ap (λ ss. all ss st) (append_assoc (steps_of a) (steps_of b ++ steps.Range ∷ []) more ∙ ap (λ ss. steps_of a ++ ss) (append_assoc (steps_of b) (steps.Range ∷ []) more))
       ∙ steps-found a (steps_of b ++ (steps.Range ∷ more)) st

@@ -22,6 +22,7 @@ use Rattle.liquid_values.specs.Standing.{loop_value, row_value}
 abbrev pub found_of : Found → names.Found
 found_of (the.Value v) = names.value (plain v)
 found_of the.Site = names.the_site
+found_of (the.Data keys) = names.the_data keys
 found_of (the.ForLoop l) = names.value (loop_value l.now)
 found_of (the.RowLoop r) = names.value (row_value r.now)
 

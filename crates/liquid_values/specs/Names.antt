@@ -3,7 +3,7 @@ use Rattle.std.specs.Prelude.{◌==◌, ℕ, zero, suc, pos, ℤ, Bool, true, fa
 use Rattle.std.specs.Map.{lookup}
 use Rattle.std.specs.Option.{unwrap_or, option_or}
 use Rattle.std.specs.Str.{bytes_eq}
-use Rattle.site_base.specs.Plain.{Plain, nil, int, text, list, hash, site_item, Items, no_items, item, Pairs, no_pairs, pair, get}
+use Rattle.site_base.specs.Plain.{Plain, nil, int, text, list, hash, site_item, Items, no_items, item, onto, Pairs, no_pairs, pair, get}
 use Rattle.site_base.specs.declared.faults.SiteFault.{SiteFault}
 use Rattle.site_base.specs.declared.item_name.ItemName.{ItemName}
 use Rattle.read_record.specs.declared.key.Key.TheVariants.{Paginator, SiteVar, Data, Var}
@@ -12,14 +12,17 @@ use Rattle.filter_base.specs.Answers.{limited}
 use Rattle.filter_base.specs.Dates.{date}
 use Rattle.liquid_values.specs.Places.{Manner, of_body, of_excerpt, of_layout, Place, placed}
 
--- what a name or a member stands for: a value, or `site`, which has members alone
+-- what a name or a member stands for: a value, `site`, which has members alone, or what its data has under these keys
 pub data Found : Type 0 where
   value : Plain → Found
   the_site : Found
+  the_data : Items → Found
 
-abbrev pub value_of : Found → Plain
-value_of (value v) = v
-value_of the_site = nil
+-- its value: data is looked up where no further key follows
+abbrev pub settled : Found → Query SiteFault Plain
+settled (value v) = Give v
+settled the_site = Give nil
+settled (the_data keys) = Ask (Data keys) Give
 
 abbrev pub given : Plain → Query SiteFault Found
 given v = Give (value v)
@@ -92,9 +95,17 @@ items_in v = no_items
 abbrev pub related : ItemName → Plain → Plain
 related n posts = if holds_item n (items_in posts) then list (others n 10 (items_in posts)) else nil
 
+-- a name that lists have too is no key of data: it may stand for a count or an element
+abbrev pub ends_keys : List ℕ → Bool
+ends_keys x = bytes_eq x (codes "size") || (bytes_eq x (codes "first") || bytes_eq x (codes "last"))
+
+-- the keys, and one behind them
+abbrev pub with_key : Items → List ℕ → Items
+with_key keys x = onto keys (item (text x) no_items)
+
 abbrev pub site_member : Place → List ℕ → Query SiteFault Found
 site_member p x =
-    if bytes_eq x (codes "data") then Ask (Data no_items) given
+    if bytes_eq x (codes "data") then Give (the_data no_items)
     else if bytes_eq x (codes "time") then site_time p
     else if bytes_eq x (codes "related_posts") then Ask (SiteVar (codes "posts")) (λ posts. given (related p.page posts))
     else Ask (SiteVar x) given

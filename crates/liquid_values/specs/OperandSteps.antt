@@ -9,8 +9,8 @@ use Rattle.liquid_values.specs.declared.found.Found.{Found}
 use Rattle.liquid_values.specs.declared.stack.Stack.{Stack}
 use Rattle.liquid_values.specs.Answers.{found_of}
 use Rattle.liquid_values.specs.Names as names
-use Rattle.liquid_values.specs.Names.{Excerpting, value, value_of, given, named}
-use Rattle.liquid_values.specs.Operands.{literal_value, member, indexed, range_found}
+use Rattle.liquid_values.specs.Names.{Excerpting, value, named}
+use Rattle.liquid_values.specs.Operands.{literal_value, member, index_found, range_found}
 use Rattle.liquid_values.specs.Places.{Place}
 
 -- what stands on a stack, from its top
@@ -34,7 +34,7 @@ module _ (excerpts : Excerpting) (p : Place) where
   member_step x (f ∷ st) = pushed st (member excerpts p f x)
 
   abbrev pub index_step : Standing → Query SiteFault Standing
-  index_step (x ∷ f ∷ st) = pushed st (indexed excerpts p f (value_of x))
+  index_step (x ∷ f ∷ st) = pushed st (index_found excerpts p f x)
   index_step st = Give st
 
 module _ (excerpts : Excerpting) (p : Place) (vars : Pairs) where

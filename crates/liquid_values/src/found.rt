@@ -1,13 +1,16 @@
 // What names and members stand for.
 ghost use Rattle.std.specs.Prelude.{◌≡◌, IfOk};
-ghost use Rattle.site_base.specs.View.{plain};
-ghost use Rattle.liquid_values.specs.Names.{value, value_of};
-ghost use Rattle.liquid_values.specs.Answers.{found_of};
+ghost use Rattle.read_record.specs.Answers.{Finds};
+ghost use Rattle.read_record.specs.Queries.{run};
+ghost use Rattle.liquid_values.specs.Names.{settled, value};
+ghost use Rattle.liquid_values.specs.Answers.{found_of, in_plain};
 ghost use Rattle.liquid_values.specs.Standing.{bound_value};
 
 use crate::locals::{Bound, ForLoop, RowLoop};
 use crate::loop_values::{for_loop_value, row_loop_value};
-use site_base::{Memory, Value, copy};
+use crate::stop::Stop;
+use read_record::{Key, Look, ask};
+use site_base::{List, Memory, Value, copy};
 use std::alloc::Global;
 
 /// What a name or a member stands for. `forloop` is made a value only where it is used as one.
@@ -16,6 +19,8 @@ pub enum Found<'a> {
     Value(Value),
     /// `site`, which has members alone.
     Site,
+    /// What the data of the site has under these keys. It is looked up only where no further key follows.
+    Data(List),
     ForLoop(&'a ForLoop<'a>),
     RowLoop(&'a RowLoop),
 }
@@ -32,15 +37,17 @@ impl<'a> Found<'a> {
         }
     }
 
-    /// The value; `site` alone is nil.
-    pub fn into_value(self, alloc: Global) -> Result<Value, Memory>
-        ensures { IfOk result (λ value. plain value ≡ value_of (found_of self.entry)) }
+    /// The value; `site` alone is nil. Data is looked up: it stops where an item has to be done first, and has no other fault.
+    pub fn into_value<L: Look>(self, alloc: Global, look: &mut L) -> Result<Value, Stop>
+        ensures same { L.view look.new ≡ L.view look.old }
+        ensures gives { Finds (run (L.view look.old) (L.trace look.old) (settled (found_of self.entry))) (in_plain result) (L.trace look.new) }
     {
         match self {
             Found::Value(value) => Ok(value),
             Found::Site => Ok(Value::Nil),
-            Found::ForLoop(turn) => for_loop_value(alloc, turn),
-            Found::RowLoop(turn) => row_loop_value(alloc, turn),
+            Found::Data(keys) => ask(alloc, &Key::Data(keys), look),
+            Found::ForLoop(turn) => Ok(for_loop_value(alloc, turn)?),
+            Found::RowLoop(turn) => Ok(row_loop_value(alloc, turn)?),
         }
     }
 }

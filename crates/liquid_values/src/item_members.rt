@@ -1,4 +1,4 @@
-// The members of items, of `site`, and of all that names and members stand for.
+// The members of items, of data, and of all that names and members stand for.
 ghost use Rattle.std.specs.Prelude.{◌≡◌};
 ghost use Rattle.site_base.specs.View.{plain};
 ghost use Rattle.read_record.specs.Queries.{Ask, run};
@@ -6,7 +6,7 @@ ghost use Rattle.read_record.specs.declared.key.Key.TheVariants.{Content};
 ghost use Rattle.read_record.specs.Answers.{Finds};
 ghost use Rattle.liquid_values.specs.Answers.{found_of, in_found};
 ghost use Rattle.liquid_values.specs.Names.{given};
-ghost use Rattle.liquid_values.specs.Operands.{content_of, output_of, item_member, value_member, member, indexed};
+ghost use Rattle.liquid_values.specs.Operands.{content_of, output_of, item_member, value_member, data_member, member_of_data, member, numbered, unnamed, indexed, index_found};
 ghost use Rattle.liquid_values.specs.Standing.{manner_of, place_of};
 
 use crate::Mode;
@@ -15,10 +15,10 @@ use crate::found::Found;
 use crate::loop_values::{for_loop_member, row_loop_member};
 use crate::members::{element_at, member_value};
 use crate::place::Place;
-use crate::site_members::site_member;
+use crate::site_members::{ends_keys, site_member, with_key};
 use crate::stop::Stop;
 use read_record::{Key, Look, ask};
-use site_base::{ItemName, Text, Value};
+use site_base::{ItemName, List, Text, Value};
 use std::alloc::Global;
 
 /// The member of this name.
@@ -35,10 +35,46 @@ pub(crate) fn member<'a, X: Excerpts, L: Look>(
 {
     match found {
         Found::Site => site_member(alloc, place, name, look),
+        Found::Data(keys) => data_member(alloc, excerpts, place, keys, name, look),
         Found::Value(value) => value_member(alloc, excerpts, place, &value, name, look),
         Found::ForLoop(turn) => Ok(Found::Value(for_loop_member(alloc, turn, name)?)),
         Found::RowLoop(turn) => Ok(Found::Value(row_loop_member(alloc, turn, name)?)),
     }
+}
+
+// A further key of data, or a member of what it has under the keys so far.
+fn data_member<'a, X: Excerpts, L: Look>(
+    alloc: Global,
+    excerpts: &mut X,
+    place: &Place<'a>,
+    keys: List,
+    name: &str,
+    look: &mut L,
+) -> Result<Found<'a>, Stop>
+    ensures same { L.view look.new ≡ L.view look.old }
+    ensures gives { Finds (run (L.view look.old) (L.trace look.old) (data_member (X.excerpts place.now.levels) (place_of place.now) keys name.now)) (in_found result) (L.trace look.new) }
+{
+    if ends_keys(name) {
+        member_of_data(alloc, excerpts, place, keys, name, look)
+    } else {
+        Ok(Found::Data(with_key(alloc, keys, name)?))
+    }
+}
+
+#[tactic(auto, using(read_record::proofs::CallLaws::binds))]
+fn member_of_data<'a, X: Excerpts, L: Look>(
+    alloc: Global,
+    excerpts: &mut X,
+    place: &Place<'a>,
+    keys: List,
+    name: &str,
+    look: &mut L,
+) -> Result<Found<'a>, Stop>
+    ensures same { L.view look.new ≡ L.view look.old }
+    ensures gives { Finds (run (L.view look.old) (L.trace look.old) (member_of_data (X.excerpts place.now.levels) (place_of place.now) keys name.now)) (in_found result) (L.trace look.new) }
+{
+    let value = ask(alloc, &Key::Data(keys), look)?;
+    value_member(alloc, excerpts, place, &value, name, look)
 }
 
 fn value_member<'a, X: Excerpts, L: Look>(
@@ -135,8 +171,25 @@ fn output_of<'a, L: Look>(
     Ok(Found::Value(ask(alloc, &key, look)?))
 }
 
-/// What stands in brackets names a member, or is a place.
-pub(crate) fn indexed<'a, X: Excerpts, L: Look>(
+/// The member that another value names, which is looked up first.
+#[tactic(auto, using(read_record::proofs::CallLaws::binds))]
+pub(crate) fn index_found<'a, X: Excerpts, L: Look>(
+    alloc: Global,
+    excerpts: &mut X,
+    place: &Place<'a>,
+    found: Found<'a>,
+    index: Found<'a>,
+    look: &mut L,
+) -> Result<Found<'a>, Stop>
+    ensures same { L.view look.new ≡ L.view look.old }
+    ensures gives { Finds (run (L.view look.old) (L.trace look.old) (index_found (X.excerpts place.now.levels) (place_of place.now) (found_of found.entry) (found_of index.entry))) (in_found result) (L.trace look.new) }
+{
+    let index = index.into_value(alloc, look)?;
+    indexed(alloc, excerpts, place, found, &index, look)
+}
+
+// What stands in brackets names a member, or is a place.
+fn indexed<'a, X: Excerpts, L: Look>(
     alloc: Global,
     excerpts: &mut X,
     place: &Place<'a>,
@@ -149,10 +202,31 @@ pub(crate) fn indexed<'a, X: Excerpts, L: Look>(
 {
     match index {
         Value::Text(name) => member(alloc, excerpts, place, found, name.as_str(), look),
-        Value::Int(number) => {
-            let value = found.into_value(alloc)?;
-            Ok(Found::Value(element_at(alloc, &value, *number)?))
-        }
-        _ => Ok(Found::Value(Value::Nil)),
+        Value::Int(number) => numbered(alloc, found, *number, look),
+        _ => unnamed(alloc, found, look),
     }
+}
+
+#[tactic(auto, using(read_record::proofs::CallLaws::binds))]
+fn numbered<'a, L: Look>(
+    alloc: Global,
+    found: Found<'a>,
+    number: i64,
+    look: &mut L,
+) -> Result<Found<'a>, Stop>
+    ensures same { L.view look.new ≡ L.view look.old }
+    ensures gives { Finds (run (L.view look.old) (L.trace look.old) (numbered (found_of found.entry) number)) (in_found result) (L.trace look.new) }
+{
+    let value = found.into_value(alloc, look)?;
+    Ok(Found::Value(element_at(alloc, &value, number)?))
+}
+
+// What neither a text nor a number names is nil. Data is looked up all the same.
+#[tactic(auto, using(read_record::proofs::CallLaws::binds))]
+fn unnamed<'a, L: Look>(alloc: Global, found: Found<'a>, look: &mut L) -> Result<Found<'a>, Stop>
+    ensures same { L.view look.new ≡ L.view look.old }
+    ensures gives { Finds (run (L.view look.old) (L.trace look.old) (unnamed (found_of found.entry))) (in_found result) (L.trace look.new) }
+{
+    let _value = found.into_value(alloc, look)?;
+    Ok(Found::Value(Value::Nil))
 }

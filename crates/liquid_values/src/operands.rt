@@ -4,15 +4,15 @@ ghost use Rattle.site_base.specs.View.{plain};
 ghost use Rattle.site_base.specs.declared.faults.SiteFault.{SiteFault};
 ghost use Rattle.read_record.specs.Queries.{run};
 ghost use Rattle.read_record.specs.Answers.{Finds};
-ghost use Rattle.liquid_values.specs.Answers.{found_of, in_found, in_plain, Advances, Settles};
-ghost use Rattle.liquid_values.specs.Names.{named as variable, value_of};
+ghost use Rattle.liquid_values.specs.Answers.{found_of, in_found, in_plain, Advances, FoundAt};
+ghost use Rattle.liquid_values.specs.Names.{named as variable};
 ghost use Rattle.liquid_values.specs.Operands as operands;
 ghost use Rattle.liquid_values.specs.OperandSteps.{stack_of, pushed, member_step, index_step, range_step, one_step};
 ghost use Rattle.liquid_values.specs.Standing.{place_of};
 
 use crate::excerpts::Excerpts;
 use crate::found::Found;
-use crate::item_members::{indexed, member};
+use crate::item_members::{index_found, member};
 use crate::names::named;
 use crate::place::Place;
 use crate::stack::Stack;
@@ -41,7 +41,7 @@ pub fn operand<'a, X: Excerpts, L: Look>(
     ensures gives { Finds (run (L.view look.old) (L.trace look.old) (operands.operand (X.excerpts place.now.levels) (place_of place.now) assigned.now operand.now)) (in_plain result) (L.trace look.new) }
 {
     let found = found(alloc, excerpts, place, assigned, operand, look)?;
-    Ok(found.into_value(alloc)?)
+    found.into_value(alloc, look)
 }
 
 // What an operand stands for, by its steps.
@@ -84,7 +84,7 @@ fn take_step<'a, X: Excerpts, L: Look>(
         Step::Variable(name) => take_variable(alloc, place, assigned, name.as_str(), stack, look),
         Step::Member(name) => take_member(alloc, excerpts, place, name.as_str(), stack, look),
         Step::Index => take_index(alloc, excerpts, place, stack, look),
-        Step::Range => take_range(alloc, place, stack),
+        Step::Range => take_range(alloc, place, stack, look),
     }
 }
 
@@ -153,14 +153,20 @@ fn take_index<'a, X: Excerpts, L: Look>(
     let Some(found) = stack.pop() else {
         return Ok(stack.push(index)?);
     };
-    let index = index.into_value(alloc)?;
-    let found = indexed(alloc, excerpts, place, found, &index, look)?;
+    let found = index_found(alloc, excerpts, place, found, index, look)?;
     Ok(stack.push(found)?)
 }
 
 // The range of the two on top.
-fn take_range<'a>(alloc: Global, place: &Place<'a>, stack: &mut Stack<'a>) -> Result<(), Stop>
-    ensures { Settles (range_step (place_of place.now) (stack_of stack.old)) result (stack_of stack.new) }
+#[tactic(auto, using(read_record::proofs::CallLaws::binds))]
+fn take_range<'a, L: Look>(
+    alloc: Global,
+    place: &Place<'a>,
+    stack: &mut Stack<'a>,
+    look: &mut L,
+) -> Result<(), Stop>
+    ensures same { L.view look.new ≡ L.view look.old }
+    ensures gives { Advances (run (L.view look.old) (L.trace look.old) (range_step (place_of place.now) (stack_of stack.old))) result (stack_of stack.new) (L.trace look.new) }
 {
     let Some(last) = stack.pop() else {
         return Ok(());
@@ -168,8 +174,46 @@ fn take_range<'a>(alloc: Global, place: &Place<'a>, stack: &mut Stack<'a>) -> Re
     let Some(first) = stack.pop() else {
         return Ok(stack.push(last)?);
     };
-    let range = range_of(&first.into_value(alloc)?, &last.into_value(alloc)?);
-    Ok(stack.push(Found::Value(place.found(alloc, range)?))?)
+    let range = range_found(alloc, place, first, last, look)?;
+    Ok(stack.push(range)?)
+}
+
+#[tactic(auto, using(read_record::proofs::CallLaws::binds))]
+fn range_found<'a, L: Look>(
+    alloc: Global,
+    place: &Place<'a>,
+    first: Found<'a>,
+    last: Found<'a>,
+    look: &mut L,
+) -> Result<Found<'a>, Stop>
+    ensures same { L.view look.new ≡ L.view look.old }
+    ensures gives { Finds (run (L.view look.old) (L.trace look.old) (operands.range_found (place_of place.now) (found_of first.entry) (found_of last.entry))) (in_found result) (L.trace look.new) }
+{
+    let first = first.into_value(alloc, look)?;
+    range_from(alloc, place, &first, last, look)
+}
+
+// The range from a value.
+#[tactic(auto, using(crate::proofs::PlaceLaws::settles))]
+fn range_from<'a, L: Look>(
+    alloc: Global,
+    place: &Place<'a>,
+    first: &Value,
+    last: Found<'a>,
+    look: &mut L,
+) -> Result<Found<'a>, Stop>
+    ensures same { L.view look.new ≡ L.view look.old }
+    ensures gives { Finds (run (L.view look.old) (L.trace look.old) (operands.range_from (place_of place.now) (plain first.now) (found_of last.entry))) (in_found result) (L.trace look.new) }
+{
+    let last = last.into_value(alloc, look)?;
+    let range = ranged(alloc, place, first, &last)?;
+    Ok(Found::Value(range))
+}
+
+fn ranged<'a>(alloc: Global, place: &Place<'a>, first: &Value, last: &Value) -> Result<Value, Stop>
+    ensures { FoundAt (place_of place.now) (operands.range_of (plain first.now) (plain last.now)) (in_plain result) }
+{
+    place.found(alloc, range_of(first, last))
 }
 
 fn range_of(first: &Value, last: &Value) -> Result<Value, FaultKind>

@@ -9,7 +9,7 @@ ghost use Rattle.read_record.specs.Queries.{Ask, Give, run};
 ghost use Rattle.read_record.specs.declared.key.Key.TheVariants.{SiteVar};
 ghost use Rattle.read_record.specs.Answers.{Finds};
 ghost use Rattle.liquid_values.specs.Answers.{in_found, in_plain};
-ghost use Rattle.liquid_values.specs.Names.{is_item, others, holds_item, items_in, related, site_member, time_query};
+ghost use Rattle.liquid_values.specs.Names.{ends_keys, is_item, others, holds_item, items_in, related, site_member, time_query, with_key};
 ghost use Rattle.liquid_values.specs.Standing.{place_of};
 
 use crate::filters::apply_liquid;
@@ -39,10 +39,7 @@ pub(crate) fn site_member<'a, L: Look>(
     ensures gives { Finds (run (L.view look.old) (L.trace look.old) (site_member (place_of place.now) name.now)) (in_found result) (L.trace look.new) }
 {
     match name {
-        "data" => {
-            let key = Key::Data(List::new(alloc));
-            Ok(Found::Value(ask(alloc, &key, look)?))
-        }
+        "data" => Ok(Found::Data(List::new(alloc))),
         "time" => Ok(Found::Value(site_time(alloc, place, look)?)),
         "related_posts" => {
             let posts = site_variable(alloc, "posts", look)?;
@@ -50,6 +47,21 @@ pub(crate) fn site_member<'a, L: Look>(
         }
         _ => Ok(Found::Value(site_variable(alloc, name, look)?)),
     }
+}
+
+/// Whether a name is no key of data, since lists have it too: it may stand for a count or an element.
+pub(crate) fn ends_keys(name: &str) -> bool
+    ensures { result ≡ ends_keys name.now }
+{
+    name == "size" || name == "first" || name == "last"
+}
+
+/// The keys of data, and one behind them.
+pub(crate) fn with_key(alloc: Global, mut keys: List, key: &str) -> Result<List, Memory>
+    ensures { IfOk result (λ made. made ≡ with_key keys key.now) }
+{
+    keys.push(Value::Text(Text::copy(alloc, key)?))?;
+    Ok(keys)
 }
 
 // The moment of the build, as dates are written.

@@ -2,7 +2,7 @@
 use Rattle.std.specs.Prelude.{◌≡◌, ℕ, pos, Bool, true, false, List, codes, Option, Some, None, IsTrue, refl}
 use Rattle.std.proofs.Common.{subst}
 use Rattle.std.specs.Str.{bytes_eq}
-use Rattle.site_base.specs.Plain.{Plain, Pairs, nil, int, text, hash, get}
+use Rattle.site_base.specs.Plain.{Plain, Pairs, nil, int, text, hash, get, Items, no_items, item}
 use Rattle.filter_base.specs.Properties.{or_nil}
 use Rattle.read_record.specs.declared.key.Key.{Key}
 use Rattle.read_record.specs.declared.key.Key.TheVariants.{Source, Content, Output, Var, Paginator, SiteVar, Data, Layout, Include, File, Link, Post, Moment}
@@ -22,6 +22,16 @@ fields o = nil
 abbrev pub member_of : List ℕ → Option Plain → Option Plain
 member_of name (Some (hash ps)) = get name ps
 member_of name o = None
+
+-- what a key of data finds
+abbrev pub keyed : Plain → Option Plain → Option Plain
+keyed (text name) o = member_of name o
+keyed key o = None
+
+-- what stands under keys, one below the other
+abbrev pub under : Items → Option Plain → Option Plain
+under no_items o = o
+under (item key keys) o = under keys (keyed key o)
 
 -- a member of what is held of one sort
 abbrev pub member : List ℕ → List ℕ → Pairs → Option Plain
@@ -50,7 +60,7 @@ answer held (Output n) = words (member (codes "output") n.path held)
 answer held (Var n x) = or_nil (member_of x (member (codes "var") n.path held))
 answer held (Paginator n) = paginator n.path held
 answer held (SiteVar x) = site_variable x held
-answer held (Data keys) = or_nil (get (codes "data") held)
+answer held (Data keys) = or_nil (under keys (get (codes "data") held))
 answer held (Layout x) = nil
 answer held (Include x) = words (member (codes "include") x held)
 answer held (File path) = words (member (codes "file") path held)

@@ -1,7 +1,7 @@
 // A site in memory that answers look-ups.
 ghost use Rattle.std.specs.Prelude.{◌≡◌, IfOk, codes};
 ghost use Rattle.std.specs.Option.{option_copied, option_map};
-ghost use Rattle.site_base.specs.View.{plain};
+ghost use Rattle.site_base.specs.View.{items_of, plain};
 ghost use Rattle.filter_base.specs.Properties.{or_nil};
 ghost use Rattle.text_tests.specs.Shelves as definitions;
 
@@ -120,7 +120,7 @@ fn answer(alloc: Global, held: &Hash, key: &Key) -> Result<Value, Memory>
         Key::Var(item, name) => variable(alloc, held, item.path.text(), name.as_str()),
         Key::Paginator(item) => paginator(alloc, held, item.path.text()),
         Key::SiteVar(name) => site_variable(alloc, held, name.as_str()),
-        Key::Data(_) => copied(alloc, held.get("data")),
+        Key::Data(keys) => copied(alloc, under(keys.as_slice(), held.get("data"))),
         Key::Layout(_) => Ok(Value::Nil),
         Key::Include(name) => words(alloc, held, "include", name.as_str()),
         Key::File(path) => words(alloc, held, "file", path.text()),
@@ -134,8 +134,34 @@ fn answer(alloc: Global, held: &Hash, key: &Key) -> Result<Value, Memory>
 fn member<'a>(held: &'a Hash, sort: &str, name: &str) -> Option<&'a Value>
     ensures { option_map plain (option_copied result) ≡ definitions.member sort.now name.now held.now }
 {
-    match held.get(sort) {
+    member_of(held.get(sort), name)
+}
+
+fn member_of<'a>(value: Option<&'a Value>, name: &str) -> Option<&'a Value>
+    ensures { option_map plain (option_copied result) ≡ definitions.member_of name.now (option_map plain (option_copied value.entry)) }
+{
+    match value {
         Some(Value::Hash(members)) => members.get(name),
+        _ => None,
+    }
+}
+
+// What stands under keys, one below the other.
+fn under<'a>(keys: &[Value], value: Option<&'a Value>) -> Option<&'a Value>
+    ensures { option_map plain (option_copied result) ≡ definitions.under (items_of keys.now) (option_map plain (option_copied value.entry)) }
+{
+    match keys {
+        [] => value,
+        [key, rest @ ..] => under(rest, keyed(key, value)),
+    }
+}
+
+// What a key of data finds.
+fn keyed<'a>(key: &Value, value: Option<&'a Value>) -> Option<&'a Value>
+    ensures { option_map plain (option_copied result) ≡ definitions.keyed (plain key.now) (option_map plain (option_copied value.entry)) }
+{
+    match key {
+        Value::Text(name) => member_of(value, name.as_str()),
         _ => None,
     }
 }
@@ -208,7 +234,7 @@ fn key_text(alloc: Global, key: &Key) -> Result<String, AllocError> {
         }
         Key::Paginator(item) => joined(alloc, "paginator", item.path.text()),
         Key::SiteVar(name) => joined(alloc, "site", name.as_str()),
-        Key::Data(_) => "data".to_string(alloc),
+        Key::Data(keys) => data_text(alloc, keys.as_slice()),
         Key::Layout(name) => joined(alloc, "layout", name.as_str()),
         Key::Include(name) => joined(alloc, "include", name.as_str()),
         Key::File(path) => joined(alloc, "file", path.text()),
@@ -216,6 +242,18 @@ fn key_text(alloc: Global, key: &Key) -> Result<String, AllocError> {
         Key::Post(name) => joined(alloc, "post", name.as_str()),
         Key::Moment => "moment".to_string(alloc),
     }
+}
+
+// The keys of data, with dots between them.
+fn data_text(alloc: Global, keys: &[Value]) -> Result<String, AllocError> {
+    let mut made = "data".to_string(alloc)?;
+    for (place, key) in keys.iter().enumerate() {
+        made.push(if place == 0 { ' ' } else { '.' })?;
+        if let Value::Text(key) = key {
+            made.push_str(key.as_str())?;
+        }
+    }
+    Ok(made)
 }
 
 fn joined(alloc: Global, sort: &str, name: &str) -> Result<String, AllocError> {

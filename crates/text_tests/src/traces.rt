@@ -17,7 +17,23 @@ const BY_NAMES_AND_FILTERS: &[(&str, &str)] = &[
     ),
     (
         "{{ site.title }}{{ site.data.people[0].name }}{{ site.data.conf }}{{ site.nope.a }}",
-        "site title, data, site nope",
+        "site title, data people, data conf, site nope",
+    ),
+    (
+        "{{ site.data.people.size }}{{ site.data.people.first.name }}{{ site[\"data\"][\"conf\"][\"x y\"] }}{{ site.data.conf.size.x }}{{ site.data.a.b.c }}",
+        "data people, data conf.x y, data conf, data a.b.c",
+    ),
+    (
+        "{{ site.data.first }}{{ site.data[\"last\"].a }}{{ site.data[nil] }}{{ site.data }}{{ site.data.conf[true].a }}",
+        "data, data conf",
+    ),
+    (
+        "{{ site.data[page.title].a[site.data.conf.a] }}{{ site.data.people[page.zero] }}",
+        "var p.html title, data conf.a, data Page.a, var p.html zero, data people",
+    ),
+    (
+        "{{ (site.data.conf.a..page.num) }}{% assign d = site.data %}{{ d.people.size }}",
+        "var p.html num, data conf.a, data",
     ),
     ("{{ site.time }}", "moment, site timezone"),
     ("{{ site.related_posts }}{{ site.posts }}", "site posts"),

@@ -4,7 +4,7 @@ use Rattle.site_base.specs.declared.faults.SiteFault.{SiteFault}
 use Rattle.read_record.specs.Answers.{in_plain}
 use Rattle.read_record.specs.Queries.{Query}
 use Rattle.liquid_values.specs.Standing.{place_of}
-use Rattle.liquid_tags.proofs.NextLaws.{finds_next}
+use Rattle.liquid_values.proofs.NextLaws.{finds_next}
 use Rattle.liquid_eval.specs.Excerpts as definitions
 use Rattle.liquid_eval.specs.Nodes.{entering, none_made}
 use Rattle.liquid_eval.proofs.excerpts.excerpt_before.Goals as goal

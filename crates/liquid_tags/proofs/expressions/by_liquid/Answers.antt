@@ -12,7 +12,7 @@ use Rattle.liquid_values.specs.Places.{placed}
 use Rattle.liquid_values.specs.Standing.{place_of}
 use Rattle.read_record.specs.Answers.{Finds}
 use Rattle.read_record.specs.Queries.{Query, bind, run}
-use Rattle.liquid_tags.proofs.NextLaws.{finds_next}
+use Rattle.liquid_values.proofs.NextLaws.{finds_next}
 use Rattle.liquid_tags.specs.Expressions.{values_behind}
 use Rattle.liquid_tags.proofs.expressions.by_liquid.Goals as goal
 

@@ -7,7 +7,7 @@ use Rattle.liquid_values.specs.Operands.{operand}
 use Rattle.liquid_values.specs.Standing.{place_of}
 use Rattle.read_record.specs.Answers.{Finds}
 use Rattle.read_record.specs.Queries.{run}
-use Rattle.liquid_tags.proofs.NextLaws.{finds_next}
+use Rattle.liquid_values.proofs.NextLaws.{finds_next}
 use Rattle.liquid_tags.specs.Expressions.{filtered}
 use Rattle.liquid_tags.proofs.expressions.expression.Goals as goal
 

@@ -5,7 +5,7 @@ use Rattle.liquid_grammar.specs.declared.tag.NamePart.{NamePart}
 use Rattle.liquid_values.specs.Standing.{place_of}
 use Rattle.read_record.specs.Answers.{Finds}
 use Rattle.read_record.specs.Queries.{Query, bind, run}
-use Rattle.liquid_tags.proofs.NextLaws.{finds_next}
+use Rattle.liquid_values.proofs.NextLaws.{finds_next}
 use Rattle.liquid_tags.specs.Answers.{in_included}
 use Rattle.liquid_tags.specs.FileNames.{name_text}
 use Rattle.liquid_tags.specs.Includes as includes

@@ -2,7 +2,7 @@ use Rattle.std.proofs.Common.{subst, List, ℕ}
 use Rattle.liquid_values.specs.Answers.{Advances}
 use Rattle.read_record.specs.Queries.{run}
 use Rattle.liquid_values.specs.Standing.{place_of}
-use Rattle.liquid_tags.proofs.NextLaws.{advances_next}
+use Rattle.liquid_values.proofs.NextLaws.{advances_next}
 use Rattle.liquid_tags.specs.FileNames.{name_text}
 use Rattle.liquid_tags.specs.Links.{linked}
 use Rattle.liquid_tags.proofs.links.link.Goals as goal

@@ -1,6 +1,6 @@
 use Rattle.std.proofs.Common.{List, ℕ}
 use Rattle.liquid_values.specs.Standing.{place_of}
-use Rattle.liquid_tags.proofs.NextLaws.{advances_next}
+use Rattle.liquid_values.proofs.NextLaws.{advances_next}
 use Rattle.liquid_tags.specs.FileNames.{name_text}
 use Rattle.liquid_tags.specs.Links.{post_linked}
 use Rattle.liquid_tags.proofs.links.post_url.Goals as goal

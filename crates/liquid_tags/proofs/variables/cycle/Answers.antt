@@ -3,7 +3,7 @@ use Rattle.liquid_grammar.specs.Operands.{Operand}
 use Rattle.liquid_values.specs.Answers.{Advances}
 use Rattle.liquid_values.specs.Standing.{place_of}
 use Rattle.read_record.specs.Queries.{run}
-use Rattle.liquid_tags.proofs.NextLaws.{advances_next}
+use Rattle.liquid_values.proofs.NextLaws.{advances_next}
 use Rattle.liquid_tags.specs.Variables.{group_name, next_of}
 use Rattle.liquid_tags.proofs.variables.cycle.Goals as goal
 

@@ -1,7 +1,7 @@
 use Rattle.std.proofs.Common.{◌≡◌, ◌∙◌, List, ℕ, Ok, ap, subst, sym}
 use Rattle.std.proofs.lemmas.Result.{err_from_is_err_and}
 use Rattle.site_base.specs.declared.faults.SiteFault.{SiteFault}
-use Rattle.liquid_tags.proofs.NextLaws.{finds_next, stops_next}
+use Rattle.liquid_values.proofs.NextLaws.{finds_next, stops_next}
 use Rattle.page_render.specs.Items.{own_text}
 use Rattle.page_render.specs.Layouts.{laid_out}
 use Rattle.read_record.proofs.CallLaws.{stops_bind}

@@ -2,7 +2,7 @@ use Rattle.std.proofs.Common.{List, ℕ}
 use Rattle.site_base.specs.declared.faults.SiteFault.{SiteFault}
 use Rattle.read_record.specs.Queries.{Query}
 use Rattle.liquid_eval.specs.Texts.{conversion, text_evaluation}
-use Rattle.liquid_tags.proofs.NextLaws.{finds_next}
+use Rattle.liquid_values.proofs.NextLaws.{finds_next}
 use Rattle.liquid_values.specs.Places.{at_start, of_body}
 use Rattle.page_render.proofs.item.text_of.Goals as goal
 

@@ -2,7 +2,7 @@ use Rattle.std.proofs.Common.{◌≡◌, ◌∙◌, subst, sym, List, ℕ, Optio
 use Rattle.site_base.specs.Plain.{Plain}
 use Rattle.site_base.specs.View.{plain}
 use Rattle.site_base.specs.declared.faults.SiteFault.{SiteFault}
-use Rattle.liquid_tags.proofs.NextLaws.{finds_next}
+use Rattle.liquid_values.proofs.NextLaws.{finds_next}
 use Rattle.page_render.specs.Layouts.{in_found, layout_of}
 use Rattle.page_render.specs.declared.around.Around.{Around}
 use Rattle.page_render.specs.declared.layout.Layout.{Layout}
