@@ -1,4 +1,5 @@
 pub mod EntryLaws
 pub mod PlaceLaws
+pub mod StoredLaws
 mod Rows
 pub mod Crosses

@@ -2,3 +2,4 @@ pub mod Names
 pub mod Entries
 pub mod NameKeys
 pub mod SameNames
+pub mod Stored

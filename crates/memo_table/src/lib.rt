@@ -5,5 +5,6 @@ mod by_name;
 mod crossing;
 mod memo;
 mod name_key;
+mod releasing;
 
 pub use memo::Memo;

@@ -7,3 +7,5 @@ pub mod RecordLaws
 pub mod PlaceLaws
 pub mod TraceLaws
 pub mod Crosses
+pub mod StoreLaws
+pub mod KeyTableLaws

@@ -19,7 +19,7 @@ module _ {A : Type 0} where
   drop-suc (y ∷ xs) zero x h = let e : y ≡ x = cc in ap (λ z. z ∷ xs) e
   drop-suc (y ∷ xs) (suc i) x h = drop-suc xs i x h
 
-  take-next : (xs : List A) (i : ℕ) (x : A) → slice_get xs i ≡ Some x → take (suc i) xs ≡ take i xs ++ x ∷ []
+  pub take-next : (xs : List A) (i : ℕ) (x : A) → slice_get xs i ≡ Some x → take (suc i) xs ≡ take i xs ++ x ∷ []
   take-next [] i x h = cc
   take-next (y ∷ xs) zero x h = let e : y ≡ x = cc in ap (λ z. z ∷ []) e
   take-next (y ∷ xs) (suc i) x h = ap (λ zs. y ∷ zs) (take-next xs i x h)

@@ -9,3 +9,8 @@ pub mod Entries
 pub mod Traces
 pub mod Forms
 pub mod Samples
+pub mod Stores
+pub mod Numbered
+pub mod TableKeys
+pub mod KeyLayout
+pub mod KeptPlaces

@@ -6,11 +6,11 @@ use Rattle.site_base.specs.Values.{value_text}
 use Rattle.site_base.specs.declared.faults.SiteFault.{SiteFault}
 use Rattle.site_base.specs.declared.item_name.ItemName.{ItemName}
 use Rattle.read_record.specs.declared.key.Key.{Key}
-use Rattle.read_record.specs.declared.key.Key.TheVariants.{Content, Var, SiteVar, Data, Moment}
+use Rattle.read_record.specs.declared.key.Key.TheVariants.{Content, Output, Var, SiteVar, Data, Moment}
 use Rattle.read_record.specs.declared.outcome.Outcome.{Outcome}
 use Rattle.read_record.specs.Queries.{Query, Give, Ask, Reply, Known, Missing}
 use Rattle.read_record.specs.Outcomes.{Page, is_done}
-use Rattle.read_record.specs.Worlds.{Sight, Lawful}
+use Rattle.read_record.specs.Worlds.{Sight, Lawful, is_steady}
 use Rattle.read_record.specs.Forms.{has_form, IsFormed}
 
 -- the one variable of an item
@@ -56,8 +56,15 @@ view-misses : (first second : Plain) (reader : ℕ) (known : ℕ → Option Outc
 view-misses first second reader known (Content name) j h = content-misses reader known j h
 view-misses first second reader known _ j h = cc
 
+view-steady : (first second : Plain) (k : Key) → is_steady k ≡ true → (reader other : ℕ) (known more : ℕ → Option Outcome) → sample_sight first second reader known k ≡ sample_sight first second other more k
+view-steady first second (Content name) h reader other known more = cc
+view-steady first second (Output name) h reader other known more = cc
+view-steady first second (Var name x) h reader other known more = refl
+view-steady first second Moment h reader other known more = refl
+view-steady first second _ h reader other known more = refl
+
 pub sample-lawful : (first second : Plain) → Lawful (sample_sight first second)
-sample-lawful first second = record { grows = view-grows first second; misses = view-misses first second }
+sample-lawful first second = record { grows = view-grows first second; misses = view-misses first second; steady = view-steady first second }
 
 content-formed : (reader : ℕ) (known : ℕ → Option Outcome) (v : Plain) → content_reply reader known ≡ Known v → nil ≡ v
 content-formed zero known v h = cc

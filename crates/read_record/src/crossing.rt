@@ -1,5 +1,5 @@
 // What threads may pass to each other, and what they may share. Nothing runs here: that it is proved shows it.
-use crate::{Entry, ItemMeaning, Outcome, Tally};
+use crate::{Entry, ItemMeaning, NumberedEntry, Outcome, ReadStore, Tally};
 
 fn is_sent<T: Send>() {}
 
@@ -15,4 +15,12 @@ fn tallies_are_sent() {
 
 fn entries_are_shared<M: ItemMeaning + Send + Sync>() {
     is_shared::<Entry<M>>();
+}
+
+fn numbered_entries_are_shared<M: ItemMeaning + Send + Sync>() {
+    is_shared::<NumberedEntry<M>>();
+}
+
+fn stores_are_shared() {
+    is_shared::<ReadStore>();
 }

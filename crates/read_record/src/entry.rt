@@ -71,6 +71,22 @@ impl<M: ItemMeaning> Entry<M> {
         &self.outcome
     }
 
+    // Its parts, which are certified.
+    pub(crate) fn into_parts(self) -> (ItemName, Record, Outcome)
+        ensures name { result.0 ≡ self.name }
+        ensures reads { result.1 ≡ self.reads }
+        ensures outcome { result.2 ≡ self.outcome }
+        ensures certified { Certifies self.reads (M.item self.name) (met_of self.outcome) }
+    {
+        let Entry {
+            name,
+            reads,
+            outcome,
+            meaning: _meaning,
+        } = self;
+        (name, reads, outcome)
+    }
+
     /// An equal entry.
     pub fn copy(&self, alloc: Global) -> Result<Entry<M>, Memory>
         ensures { IfOk result (λ entry. entry ≡ self.now) }

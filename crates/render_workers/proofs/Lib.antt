@@ -1,6 +1,7 @@
 pub mod FoldLaws
 pub mod WhyLaws
 pub mod KeepLaws
+pub mod OneWorker
 pub mod FreshLaws
 pub mod TryLaws
 pub mod RoundLaws

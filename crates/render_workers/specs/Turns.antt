@@ -43,7 +43,7 @@ IsRendered view name query key settled.Memory before after = Unit {0}
 
 -- an item was kept where that agrees with the view, and else rendered
 abbrev pub IsSettled : {M : Type 0} → Option Kept → View → ItemName → Query SiteFault Page → Settled M → List ItemName → List ItemName → Type 0
-IsSettled kept view name query (settled.Kept e) before after = (kept ≡ Some e.now) × Tells view name query e.now × (after ≡ before)
+IsSettled kept view name query (settled.Kept e) before after = (kept ≡ Some e) × Tells view name query e × (after ≡ before)
 IsSettled kept view name query (settled.New e why) before after = Differs kept view × Tells view name query e × (why ≡ why_for name (reason_of kept view)) × (after ≡ before ++ name ∷ [])
 IsSettled kept view name query (settled.Needs j) before after = (waits_for kept view query ≡ Some j) × (after ≡ before)
 IsSettled kept view name query settled.Memory before after = Unit {0}

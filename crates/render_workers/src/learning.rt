@@ -5,7 +5,7 @@ ghost use Rattle.render_workers.specs.Worked.{StaysRight};
 
 use crate::cells::Cells;
 use memo_table::Memo;
-use read_record::{Checked, Entry, Finished, ItemMeaning, World};
+use read_record::{Checked, Finished, ItemMeaning, KeptEntry, World};
 use round_core::{Hand, Made};
 use std::sync::Wait;
 
@@ -26,16 +26,16 @@ fn entry_of<'a, M: ItemMeaning, W: World>(
     memo: &'a Memo<M>,
     made: &'a Made<M>,
     item: u32,
-) -> Option<&'a Entry<M>>
+) -> Option<KeptEntry<'a, M>>
     requires { item < length (W.names world.now) }
-    ensures { IfSome result (λ entry. slice_get (W.names world.now) item ≡ Some entry.now.name) }
+    ensures { IfSome result (λ entry. slice_get (W.names world.now) item ≡ Some entry.name) }
 {
     let name = world.name(item);
     match made {
         Made::Kept => memo.entry(name),
         Made::New(entry) => {
             if entry.name() == name {
-                Some(entry)
+                Some(KeptEntry::whole(entry))
             } else {
                 None
             }

@@ -18,7 +18,8 @@ use std::alloc::Global;
 /// Keeps or renders the items one after another. The error `Fault` is the first fault of rendering them all anew, and comes
 /// exactly where there is one; the entries of the items before it are kept then, and all other entries stay. Without a fault
 /// each item of the world has its entry, and no other name has one. The names of the items that were rendered join the
-/// tally, each once. After want of memory every entry that is kept is still certified, by its type.
+/// tally, each once. After want of memory every entry that is kept is still certified, by its type. However it ends, what only
+/// replaced entries had read is let go.
 pub fn regenerate_serial<R: Renderer, W: World>(
     alloc: Global,
     renderer: &R,
@@ -31,6 +32,22 @@ pub fn regenerate_serial<R: Renderer, W: World>(
     ensures grows { Grows tally.old tally.new }
 
     // Rendering them one after another never waits for an item.
+    ensures told { IsTold (fold_of (given_by (W.names world.now) (W.sight world.now) R.Meaning.item memo.old) (W.fixed world.now)) }
+{
+    let round = go_over(alloc, renderer, world, memo, tally);
+    memo.forget_replaced();
+    round
+}
+
+fn go_over<R: Renderer, W: World>(
+    alloc: Global,
+    renderer: &R,
+    world: &W,
+    memo: &mut Memo<R::Meaning>,
+    tally: &mut Tally,
+) -> Result<Round, RoundError>
+    ensures round { IsRound (given_by (W.names world.now) (W.sight world.now) R.Meaning.item memo.old) (W.fixed world.now) result memo.new tally.old tally.new }
+    ensures grows { Grows tally.old tally.new }
     ensures told { IsTold (fold_of (given_by (W.names world.now) (W.sight world.now) R.Meaning.item memo.old) (W.fixed world.now)) }
 {
     let mut progress = Progress::new(alloc, world.fixed_bytes());

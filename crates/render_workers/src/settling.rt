@@ -7,7 +7,7 @@ ghost use Rattle.render_workers.specs.Turns.{IsSettled, IsRendered};
 use crate::Why;
 use memo_table::Memo;
 use read_record::{
-    Checked, Entry, Finished, ItemMeaning, Key, Renderer, Tally, Traced, World, check,
+    Checked, Entry, Finished, ItemMeaning, KeptEntry, Key, Renderer, Tally, Traced, World,
     render_traced,
 };
 use std::alloc::Global;
@@ -16,7 +16,7 @@ use std::alloc::Global;
 #[derive(Drop)]
 pub(crate) enum Settled<'a, M: ItemMeaning> {
     /// What is kept of it agrees.
-    Kept(&'a Entry<M>),
+    Kept(KeptEntry<'a, M>),
     /// It was rendered anew.
     New(Entry<M>, Why),
     /// This item has to be done first.
@@ -47,9 +47,9 @@ pub(crate) fn settle<'a, R: Renderer, W: World, F: Finished>(
     };
     // The name tells that the entry is certified.
     let _certified = entry.name();
-    match check(entry.reads(), world, item, outs) {
+    match entry.check(world, item, outs) {
         Checked::Agrees => Settled::Kept(entry),
-        Checked::Differs(place) => match entry.reads().key_at(place).copy(alloc) {
+        Checked::Differs(place) => match entry.key_at(place).copy(alloc) {
             Ok(key) => render(alloc, renderer, world, item, outs, Some(key), tally),
             Err(_) => Settled::Memory,
         },

@@ -33,8 +33,9 @@ where
 {
     let items = world.items();
     let (table, mut first) = ClaimTable::new(alloc, items)?;
-    let cells = Cells::new(alloc, items)?;
-    let seats = seats(alloc, &table, &mut first, jobs.min(items))?;
+    let workers = jobs.min(items);
+    let cells = Cells::new(alloc, items, workers)?;
+    let seats = seats(alloc, &table, &mut first, workers)?;
     let parts = spread(rt, alloc, renderer, world, memo, &table, &cells, seats)?;
     gather(world, memo, &table, Part::new(alloc, first), parts)
 }

@@ -1,4 +1,4 @@
--- A hand, from the references that it holds, and what it knows once an entry was taken.
+-- What a hand knows once an entry was taken.
 use Rattle.std.proofs.Common.{◌≡◌, ◌⊎◌, inl, inr, ℕ, zero, suc, length, map, replicate, set, List, [], ◌∷◌, Option, Some, None, refl, ap, sym, ◌∙◌, subst}
 use Rattle.std.specs.Prelude.{slice_get}
 use Rattle.std.specs.Option.{option_map}
@@ -15,25 +15,6 @@ use Rattle.round_core.specs.Meant.{Given, nameless, name_at, query_at, meant}
 use Rattle.round_core.specs.Facts.{AreMeant}
 use Rattle.round_core.specs.Hands.{Hand, flat, outcome_in, hand_outs, taken}
 use Rattle.round_core.proofs.MeantLaws.{met-meant}
-
-module _ {A B : Type 0} (f : A → B) where
-  pub map-set : (xs : List A) (i : ℕ) (a : A) → map f (set xs i a) ≡ set (map f xs) i (f a)
-  map-set [] i a = refl
-  map-set (x ∷ xs) zero a = refl
-  map-set (x ∷ xs) (suc i) a = ap (λ ys. f x ∷ ys) (map-set xs i a)
-
-  pub map-get : (xs : List A) (i : ℕ) → slice_get (map f xs) i ≡ option_map f (slice_get xs i)
-  map-get [] i = refl
-  map-get (x ∷ xs) zero = refl
-  map-get (x ∷ xs) (suc i) = map-get xs i
-
-  pub map-replicate : (n : ℕ) (a : A) → map f (replicate n a) ≡ replicate n (f a)
-  map-replicate zero a = refl
-  map-replicate (suc n) a = ap (λ ys. f a ∷ ys) (map-replicate n a)
-
-  pub map-length : (xs : List A) → length (map f xs) ≡ length xs
-  map-length [] = refl
-  map-length (x ∷ xs) = ap suc (map-length xs)
 
 -- what stands at a place after a change stood there, or is the new one
 get-set : {A : Type 0} (xs : List A) (i j : ℕ) (a x : A) → slice_get (set xs i a) j ≡ Some x → (slice_get xs j ≡ Some x) ⊎ ((j ≡ i) × (a ≡ x))

@@ -1,6 +1,6 @@
 -- A small site of three items, which only tests use: the parts 0, 1 and 2 of one path. Item 1 shows its variable, and has a fault where there is
 -- none. The items 0 and 2 show the content of item 1. Item 0 stands before it, and sees its source; item 2 stands behind it, and waits for it.
-use Rattle.std.specs.Prelude.{◌≡◌, ℕ, zero, suc, pos, false, codes, [], ◌∷◌, Option, Some, None, IsTrue, if◌then◌else◌, slice_get, ◌<◌, refl}
+use Rattle.std.specs.Prelude.{◌≡◌, ℕ, zero, suc, pos, true, false, codes, [], ◌∷◌, Option, Some, None, IsTrue, if◌then◌else◌, slice_get, ◌<◌, refl}
 use Rattle.std.proofs.Common.{arith, ap, subst, sym, ◌∙◌}
 use Rattle.site_base.specs.Plain.{Plain, nil, int, text}
 use Rattle.site_base.specs.Values.{value_text, is_true}
@@ -8,12 +8,12 @@ use Rattle.site_base.specs.declared.faults.SiteFault.{SiteFault}
 use Rattle.site_base.specs.declared.faults.FaultKind.TheVariants.{Undefined}
 use Rattle.site_base.specs.declared.item_name.ItemName.{ItemName}
 use Rattle.read_record.specs.declared.key.Key.{Key}
-use Rattle.read_record.specs.declared.key.Key.TheVariants.{Content, Var, SiteVar, Data, Moment}
+use Rattle.read_record.specs.declared.key.Key.TheVariants.{Content, Output, Var, SiteVar, Data, Moment}
 use Rattle.read_record.specs.declared.outcome.Outcome.{Outcome}
 use Rattle.read_record.specs.declared.outcome.Outcome.TheVariants.{Done, Fault}
 use Rattle.read_record.specs.Queries.{Query, Give, Fail, Ask, Reply, Known, Missing}
 use Rattle.read_record.specs.Outcomes.{Page, is_done}
-use Rattle.read_record.specs.Worlds.{Sight, Lawful}
+use Rattle.read_record.specs.Worlds.{Sight, Lawful, is_steady}
 use Rattle.read_record.specs.Forms.{is_words, has_form, IsFormed}
 
 -- the content of item 1 once it is done
@@ -64,8 +64,15 @@ view-misses : (source variable : Plain) (reader : ℕ) (known : ℕ → Option O
 view-misses source variable reader known (Content name) j h = content-misses source reader known j h
 view-misses source variable reader known _ j h = cc
 
+view-steady : (source variable : Plain) (k : Key) → is_steady k ≡ true → (reader other : ℕ) (known more : ℕ → Option Outcome) → sample_sight source variable reader known k ≡ sample_sight source variable other more k
+view-steady source variable (Content name) h reader other known more = cc
+view-steady source variable (Output name) h reader other known more = cc
+view-steady source variable (Var name x) h reader other known more = refl
+view-steady source variable Moment h reader other known more = refl
+view-steady source variable _ h reader other known more = refl
+
 pub sample-lawful : (source variable : Plain) → Lawful (sample_sight source variable)
-sample-lawful source variable = record { grows = view-grows source variable; misses = view-misses source variable }
+sample-lawful source variable = record { grows = view-grows source variable; misses = view-misses source variable; steady = view-steady source variable }
 
 formed-at : (k : Key) (v w : Plain) → IsTrue (has_form k v) → v ≡ w → IsTrue (has_form k w)
 formed-at k v w h e = subst (λ x. IsTrue (has_form k x)) e h

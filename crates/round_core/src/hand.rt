@@ -6,7 +6,7 @@ ghost use Rattle.round_core.specs.Meant.{given_by};
 ghost use Rattle.round_core.specs.Facts.{AreMeant};
 ghost use Rattle.round_core.specs.Hands.{hand_outs, taken};
 
-use read_record::{Checked, Entry, Finished, ItemMeaning, Outcome, World, check};
+use read_record::{Checked, Finished, ItemMeaning, KeptEntry, Outcome, World};
 use site_base::Memory;
 use std::alloc::Global;
 use std::marker::Model;
@@ -14,12 +14,10 @@ use std::marker::Model;
 /// The items that one worker knows, with their entries. Clauses see of each item of the world its entry, where it is known.
 #[derive(Drop)]
 pub struct Hand<'a, M: ItemMeaning> {
-    entries: Vec<Option<&'a Entry<M>>>,
+    entries: Vec<Option<KeptEntry<'a, M>>>,
 }
 
 impl<'a, M: ItemMeaning> Model for Hand<'a, M> {
-    ghost use Rattle.std.specs.Prelude.{map};
-    ghost use Rattle.std.specs.Option.{option_copied};
     ghost use Rattle.round_core.specs.Hands.{Hand as Hand'};
     ghost use Rattle.std.specs.Coded.{coded×, coded_list, coded_option, coded_ℕ};
     ghost use Rattle.site_base.specs.contracts.item_name.ItemName as the_name;
@@ -31,7 +29,7 @@ impl<'a, M: ItemMeaning> Model for Hand<'a, M> {
 
     ghost coded = { coded_list (coded_option (kept_code the_name.the_row.coded (coded_list (coded× the_key.the_row.coded (coded_list coded_ℕ))) the_outcome.the_row.coded)) };
 
-    ghost view = { λ h. map option_copied h.entries.items };
+    ghost view = { λ h. h.entries.items };
 }
 
 impl<'a, M: ItemMeaning> Hand<'a, M> {
@@ -40,7 +38,7 @@ impl<'a, M: ItemMeaning> Hand<'a, M> {
         ensures { IfOk result (λ hand. hand ≡ replicate (length (W.names world.now)) None) }
     {
         let items = world.items();
-        let mut entries = Vec::with_capacity(alloc, items as usize)?;
+        let mut entries: Vec<Option<KeptEntry<'a, M>>> = Vec::with_capacity(alloc, items as usize)?;
         for _ in 0..items {
             entries.push(None)?;
         }
@@ -49,21 +47,21 @@ impl<'a, M: ItemMeaning> Hand<'a, M> {
 
     /// Checks an entry of an item, which is not known, over what is known: it is known from here on exactly where its record
     /// agrees. It takes no memory.
-    pub fn take<W: World>(&mut self, world: &W, item: u32, entry: &'a Entry<M>) -> Checked
+    pub fn take<W: World>(&mut self, world: &W, item: u32, kept: KeptEntry<'a, M>) -> Checked
         requires world { length self.old ≡ length (W.names world.now) }
         requires item { item < length (W.names world.now) }
-        requires named { slice_get (W.names world.now) item ≡ Some entry.now.name }
+        requires named { slice_get (W.names world.now) item ≡ Some kept.name }
         requires unknown { slice_get self.old item ≡ Some None }
-        ensures first { result ≡ first_other entry.now.reads (W.sight world.now item (hand_outs self.old)) }
-        ensures taken { self.new ≡ taken result item entry.now self.old }
+        ensures first { result ≡ first_other kept.entry.reads (W.sight world.now item (hand_outs self.old)) }
+        ensures taken { self.new ≡ taken result item kept.entry self.old }
         ensures right { (entries : Entries) → let given = given_by (W.names world.now) (W.sight world.now) M.item entries in
             AreMeant given (hand_outs self.old) → AreMeant given (hand_outs self.new) }
     {
         // The name tells that the entry is certified.
-        let _name = entry.name();
-        let checked = check(entry.reads(), world, item, self);
+        let _name = kept.name();
+        let checked = kept.check(world, item, self);
         match checked {
-            Checked::Agrees => self.entries[item as usize] = Some(entry),
+            Checked::Agrees => self.entries[item as usize] = Some(kept),
             Checked::Differs(_) => {}
             Checked::Needs(_) => {}
         }

@@ -1,21 +1,20 @@
 // What a worker knows of a state.
 ghost use Rattle.std.specs.Prelude.{◌≡◌};
-ghost use Rattle.std.specs.Option.{option_copied};
 ghost use Rattle.round_core.specs.States.{at, shown};
 ghost use Rattle.round_core.specs.Meant.{given_by, kept_in};
 ghost use Rattle.round_core.specs.Facts.{KeptCertified};
 
 use crate::{Core, Made};
 use memo_table::Memo;
-use read_record::{Entry, Finished, ItemMeaning, Outcome, World};
+use read_record::{Finished, ItemMeaning, KeptEntry, Outcome, World};
 
 /// The entry that is kept of an item.
 pub(crate) fn kept<'a, M: ItemMeaning, W: World>(
     world: &W,
     memo: &'a Memo<M>,
     item: u32,
-) -> Option<&'a Entry<M>>
-    ensures kept { option_copied result ≡ kept_in (W.names world.now) memo.now item }
+) -> Option<KeptEntry<'a, M>>
+    ensures kept { result ≡ kept_in (W.names world.now) memo.now item }
     ensures certified { KeptCertified (given_by (W.names world.now) (W.sight world.now) M.item memo.now) item }
 {
     if item >= world.items() {
@@ -33,13 +32,13 @@ pub(crate) fn cell_entry<'a, M: ItemMeaning, W: World>(
     memo: &'a Memo<M>,
     core: &'a Core<M>,
     item: u32,
-) -> Option<&'a Entry<M>>
-    ensures { option_copied result ≡ shown (kept_in (W.names world.now) memo.now item) (at item core.now.cells) }
+) -> Option<KeptEntry<'a, M>>
+    ensures { result ≡ shown (kept_in (W.names world.now) memo.now item) (at item core.now.cells) }
 {
     match core.cell(item) {
         None => None,
         Some(Made::Kept) => kept(world, memo, item),
-        Some(Made::New(entry)) => Some(entry),
+        Some(Made::New(entry)) => Some(KeptEntry::whole(entry)),
     }
 }
 

@@ -10,7 +10,7 @@ ghost use Rattle.round_core.specs.Facts.{KeptCertified};
 use crate::outs::{Outs, cell_entry, kept};
 use crate::{Core, Event, Made};
 use memo_table::Memo;
-use read_record::{Checked, ItemMeaning, Renderer, Tally, Traced, World, check, render_traced};
+use read_record::{Checked, ItemMeaning, Renderer, Tally, Traced, World, render_traced};
 use std::alloc::Global;
 
 /// What an event came to.
@@ -68,7 +68,7 @@ pub(crate) fn take<M: ItemMeaning, W: World>(
         return Stepped::Refused;
     };
     let outs = Outs::new(round.world, round.memo, core, worker);
-    match check(shown.reads(), round.world, item, &outs) {
+    match shown.check(round.world, item, &outs) {
         Checked::Agrees => match core.add_known(alloc, worker, item) {
             Ok(()) => Stepped::Done,
             Err(_) => Stepped::Memory,
@@ -98,7 +98,7 @@ pub(crate) fn keep<M: ItemMeaning, W: World>(
         return Stepped::Refused;
     };
     let outs = Outs::new(round.world, round.memo, core, worker);
-    match check(entry.reads(), round.world, item, &outs) {
+    match entry.check(round.world, item, &outs) {
         Checked::Agrees => match core.add_cell(item, Made::Kept) {
             Ok(()) => Stepped::Done,
             Err(_) => Stepped::Memory,
@@ -158,7 +158,7 @@ pub(crate) fn finish<R: Renderer, W: World>(
         return render(alloc, renderer, round, core, worker, item);
     };
     let outs = Outs::new(round.world, round.memo, core, worker);
-    match check(old.reads(), round.world, item, &outs) {
+    match old.check(round.world, item, &outs) {
         Checked::Agrees => Stepped::Refused,
         Checked::Differs(_) => render(alloc, renderer, round, core, worker, item),
         Checked::Needs(_) => Stepped::Refused,

@@ -1,18 +1,18 @@
 -- A site whose items stand in a row: each shows a value, which it sees once the item that it needs is done.
-use Rattle.std.specs.Prelude.{◌≡◌, ℕ, zero, suc, pos, Bool, true, false, ◌==◌, ◌<◌, codes, List, Option, Some, None, IsTrue, if◌then◌else◌, slice_get, length, refl}
+use Rattle.std.specs.Prelude.{◌≡◌, ℕ, zero, suc, pos, Bool, true, false, ◌==◌, ◌<◌, List, Option, Some, None, IsTrue, if◌then◌else◌, slice_get, length, refl}
 use Rattle.std.proofs.Common.{arith, ap, subst, sym, ◌∙◌, get_or}
 use Rattle.std.proofs.lemmas.Option.{slice_get-get_or}
 use Rattle.site_base.specs.Plain.{Plain, nil, int}
 use Rattle.site_base.specs.declared.faults.SiteFault.{SiteFault}
 use Rattle.site_base.specs.declared.item_name.ItemName.{ItemName}
 use Rattle.read_record.specs.declared.key.Key.{Key}
-use Rattle.read_record.specs.declared.key.Key.TheVariants.{Var, SiteVar, Data, Moment}
+use Rattle.read_record.specs.declared.key.Key.TheVariants.{Content, Output, Var, SiteVar, Data, Moment}
 use Rattle.read_record.specs.declared.outcome.Outcome.{Outcome}
 use Rattle.read_record.specs.declared.outcome.Outcome.TheVariants.{Done, Fault}
 use Rattle.read_record.specs.Queries.{Query, Ask, Reply, Known, Missing}
 use Rattle.read_record.specs.Outcomes.{Page, is_done}
-use Rattle.read_record.specs.Worlds.{Sight, Lawful}
-use Rattle.read_record.specs.Forms.{has_form, IsFormed}
+use Rattle.read_record.specs.Worlds.{Sight, Lawful, is_steady}
+use Rattle.read_record.specs.Forms.{has_form, is_words, IsFormed}
 use Rattle.round_core.specs.Meant.{nameless}
 use Rattle.round_core.specs.Samples.{variable_page}
 use Rattle.round_tests.specs.declared.row.Needs.{Needs}
@@ -43,7 +43,7 @@ abbrev pub reply_of : Option ℕ → Plain → (ℕ → Option Outcome) → Repl
 reply_of o v known = unless_open (open_need o known) v
 
 abbrev pub row_sight : Needs → ℕ → Plain → Sight
-row_sight needs lacking value reader known (Var name x) = reply_of (needed_by needs reader) (value_at lacking value reader) known
+row_sight needs lacking value reader known (Content name) = reply_of (needed_by needs reader) (value_at lacking value reader) known
 row_sight needs lacking value reader known Moment = Known (int (pos 0))
 row_sight needs lacking value reader known k = Known nil
 
@@ -82,25 +82,44 @@ misses-at (Some i) reader below known v j h =
 
 row-grows : (n : Needs) (lacking : ℕ) (value : Plain) (reader : ℕ) (known more : ℕ → Option Outcome) → ((j : ℕ) (q : Outcome) → j < reader → known j ≡ Some q → more j ≡ Some q)
     → (k : Key) (w : Plain) → row_sight n lacking value reader known k ≡ Known w → row_sight n lacking value reader more k ≡ Known w
-row-grows n lacking value reader known more grow (Var name x) w h = grows-at (needed_by n reader) reader (needs-earlier n reader) known more grow (value_at lacking value reader) w h
+row-grows n lacking value reader known more grow (Content name) w h = grows-at (needed_by n reader) reader (needs-earlier n reader) known more grow (value_at lacking value reader) w h
 row-grows n lacking value reader known more grow _ w h = h
 
 row-misses : (n : Needs) (lacking : ℕ) (value : Plain) (reader : ℕ) (known : ℕ → Option Outcome) (k : Key) (j : ℕ) → row_sight n lacking value reader known k ≡ Missing j → (j < reader) × (is_done (known j) ≡ false)
-row-misses n lacking value reader known (Var name x) j h = misses-at (needed_by n reader) reader (needs-earlier n reader) known (value_at lacking value reader) j h
+row-misses n lacking value reader known (Content name) j h = misses-at (needed_by n reader) reader (needs-earlier n reader) known (value_at lacking value reader) j h
 row-misses n lacking value reader known _ j h = cc
 
+row-steady : (n : Needs) (lacking : ℕ) (value : Plain) (k : Key) → is_steady k ≡ true → (reader other : ℕ) (known more : ℕ → Option Outcome) → row_sight n lacking value reader known k ≡ row_sight n lacking value other more k
+row-steady n lacking value (Content name) h reader other known more = cc
+row-steady n lacking value (Output name) h reader other known more = cc
+row-steady n lacking value Moment h reader other known more = refl
+row-steady n lacking value _ h reader other known more = refl
+
 pub row-lawful : (n : Needs) (lacking : ℕ) (value : Plain) → Lawful (row_sight n lacking value)
-row-lawful n lacking value = record { grows = row-grows n lacking value; misses = row-misses n lacking value }
+row-lawful n lacking value = record { grows = row-grows n lacking value; misses = row-misses n lacking value; steady = row-steady n lacking value }
 
 formed-at : (k : Key) (v w : Plain) → IsTrue (has_form k v) → v ≡ w → IsTrue (has_form k w)
 formed-at k v w h e = subst (λ x. IsTrue (has_form k x)) e h
 
-pub row-formed : (n : Needs) (lacking : ℕ) (value : Plain) (reader : ℕ) (known : ℕ → Option Outcome) → IsFormed (row_sight n lacking value reader known)
-row-formed n lacking value reader known (Var name x) v h = refl
-row-formed n lacking value reader known (SiteVar x) v h = refl
-row-formed n lacking value reader known (Data keys) v h = refl
-row-formed n lacking value reader known Moment v h = formed-at Moment (int (pos 0)) v refl (cc)
-row-formed n lacking value reader known k v h = formed-at k nil v refl (cc)
+value-words : (lacking : ℕ) (value : Plain) (i : ℕ) → IsTrue (is_words value) → IsTrue (is_words (value_at lacking value i))
+value-words lacking value i words = by (i == lacking)
+  where
+    by : (b : Bool) → IsTrue (is_words (if b then nil else value))
+    by true = refl
+    by false = words
+
+reply-value : (o : Option ℕ) (v w : Plain) (known : ℕ → Option Outcome) → reply_of o v known ≡ Known w → v ≡ w
+reply-value None v w known h = cc
+reply-value (Some j) v w known h = (was-done (is_done (known j)) v w j h).1
+
+pub row-formed : (n : Needs) (lacking : ℕ) (value : Plain) → IsTrue (is_words value) → (reader : ℕ) (known : ℕ → Option Outcome) → IsFormed (row_sight n lacking value reader known)
+row-formed n lacking value words reader known (Content name) v h =
+    formed-at (Content name) (value_at lacking value reader) v (value-words lacking value reader words) (reply-value (needed_by n reader) (value_at lacking value reader) v known h)
+row-formed n lacking value words reader known (Var name x) v h = refl
+row-formed n lacking value words reader known (SiteVar x) v h = refl
+row-formed n lacking value words reader known (Data keys) v h = refl
+row-formed n lacking value words reader known Moment v h = formed-at Moment (int (pos 0)) v refl (cc)
+row-formed n lacking value words reader known k v h = formed-at k nil v refl (cc)
 
 -- each name has its place as its part
 abbrev pub AreNumbered : List ItemName → Type 0
@@ -111,6 +130,6 @@ numbered-differ names numbered i j within h =
     let at = slice_get-get_or names i nameless within in
     sym (numbered i (get_or names i nameless) at) ∙ numbered j (get_or names i nameless) (sym h ∙ at)
 
--- each item shows its variable
+-- each item shows its content
 abbrev pub row_item : ItemName → Query SiteFault Page
-row_item name = Ask (Var name (codes "v")) (λ v. variable_page name v)
+row_item name = Ask (Content name) (λ v. variable_page name v)

@@ -13,8 +13,8 @@ ghost use Rattle.round_core.specs.Samples.{content_reply, page_of, variable_page
 use crate::text_code::is_text_code;
 use memo_table::Memo;
 use read_record::{
-    Agreement, Answer, Checked, Entry, Finished, ItemMeaning, Key, Look, Outcome, Rendered,
-    Renderer, Tally, Traced, World, render_traced,
+    Agreement, Answer, Checked, Entry, Finished, ItemMeaning, KeptEntry, Key, Look, Outcome,
+    Rendered, Renderer, Tally, Traced, World, render_traced,
 };
 use round_core::{Core, CoreError, Event, Hand, Made, run};
 use site_base::{
@@ -676,7 +676,7 @@ fn takes_in(alloc: Global, world: &Three, entry: &Entry<ThreeItems>) -> Option<(
 {
     match Hand::new(alloc, world) {
         Ok(mut hand) => {
-            let checked = hand.take(world, 1, entry);
+            let checked = hand.take(world, 1, KeptEntry::whole(entry));
             Some((checked, hand.done(1).is_some()))
         }
         Err(_) => None,

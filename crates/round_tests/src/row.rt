@@ -1,9 +1,10 @@
 // A site whose items stand in a row, and what renders them.
-ghost use Rattle.std.specs.Prelude.{◌≡◌, ◌<◌, IfOk, IfSome, codes, length, slice_get};
+ghost use Rattle.std.specs.Prelude.{◌≡◌, ◌<◌, IfOk, IfSome, IsTrue, length, slice_get};
 ghost use Rattle.site_base.specs.View.{plain};
 ghost use Rattle.read_record.specs.Queries.{View, Trace, Gave, Known, run, ran};
 ghost use Rattle.read_record.specs.Records.{agreement_of};
 ghost use Rattle.read_record.specs.Outcomes.{met_of};
+ghost use Rattle.read_record.specs.Forms.{is_words};
 ghost use Rattle.read_record.specs.Answers.{IsReply, Renders};
 ghost use Rattle.round_core.specs.Samples.{page_of, variable_page};
 ghost use Rattle.round_tests.specs.Rows.{needed_by, open_need, value_at, reply_of, row_item, AreNumbered};
@@ -36,6 +37,7 @@ pub(crate) struct Row {
     value: Value,
     ghost numbered: { AreNumbered names.items },
     ghost small: { length names.items < 4294967296 },
+    ghost words: { IsTrue (is_words (plain value)) },
 }
 
 impl World for Row {
@@ -52,7 +54,7 @@ impl World for Row {
 
     ghost lawful = { λ w. row-lawful w.needs w.lacking (plain w.value) };
 
-    ghost formed = { λ w. row-formed w.needs w.lacking (plain w.value) };
+    ghost formed = { λ w. row-formed w.needs w.lacking (plain w.value) w.words };
 
     fn items(&self) -> u32 {
         self.names.len() as u32
@@ -68,7 +70,7 @@ impl World for Row {
 
     fn look<F: Finished>(&self, alloc: Global, reader: u32, key: &Key, outs: &F) -> Answer {
         match key {
-            Key::Var(_, _) => self.look_value(alloc, reader, outs),
+            Key::Content(_) => self.look_value(alloc, reader, outs),
             Key::Moment => Answer::Seen(Value::Int(0)),
             _ => Answer::Seen(Value::Nil),
         }
@@ -86,7 +88,7 @@ impl World for Row {
 
     fn agrees<F: Finished>(&self, reader: u32, key: &Key, outs: &F, seen: &[u8]) -> Agreement {
         match key {
-            Key::Var(_, _) => self.value_agrees(reader, outs, seen),
+            Key::Content(_) => self.value_agrees(reader, outs, seen),
             Key::Moment => same(&Value::Int(0), seen),
             _ => same(&Value::Nil, seen),
         }
@@ -260,9 +262,9 @@ fn variable_page(alloc: Global, name: &ItemName, variable: &Value) -> Result<Out
 }
 
 fn own_key(alloc: Global, name: &ItemName) -> Result<Key, Memory>
-    ensures { IfOk result (λ key. key ≡ Key.Var name.now (codes "v")) }
+    ensures { IfOk result (λ key. key ≡ Key.Content name.now) }
 {
-    Ok(Key::Var(name.copy(alloc)?, Text::copy(alloc, "v")?))
+    Ok(Key::Content(name.copy(alloc)?))
 }
 
 fn page_of(alloc: Global, value: &Value) -> Result<Outcome, Memory>

@@ -7,7 +7,7 @@ use Rattle.render_workers.proofs.serial.next_item.Goals as goal
 pub returns-in_ok-outcome-in-Kept-clause-turn : goal.returns-in_ok-outcome-in-Kept-clause-turn
 returns-in_ok-outcome-in-Kept-clause-turn g c =
     let view = g.W.World.sight c.args.world.now c.args.item (slice_get c.args.progress.now.outs) in
-    kept_turn _ view g.R.Meaning.ItemMeaning.item c.in-Kept.entry.now c.args.progress.now _ _ _ _ c.in_ok-outcome-in-Kept.outcome c.name.result.now _ (c.in_ok-outcome-in-Kept.ensures ∙ c.outcome.ensures) c.name.ensures.name c.in-Kept.ensures.settled c.add.ensures
+    kept_turn _ view g.R.Meaning.ItemMeaning.item c.in-Kept.entry c.args.progress.now _ _ _ _ c.in_ok-outcome-in-Kept.outcome c.name.result.now _ (c.in_ok-outcome-in-Kept.ensures ∙ c.outcome.ensures) c.name.ensures.name c.in-Kept.ensures.settled c.add.ensures
 
 pub returns-in-New-clause-turn : goal.returns-in-New-clause-turn
 returns-in-New-clause-turn g c =

@@ -12,7 +12,7 @@ returns-in-Kept g c =
     let work = c.loop.invariant.work in
     let e = c.in_ok-add-in-Kept.ensures in
     let part = part-kept given (g.met.W.World.lawful w) c.args.table.now at.hand work.1.1 c.args.item c.requires.item at.part.seat c.add.new.self.seat at.part.tally c.settle.new.tally at.part.brought.items c.add.new.self.brought.items
-    work.0 e.seat c.in-Kept.entry.now c.in-Kept.ensures.settled e.brought in
+    work.0 e.seat c.in-Kept.entry c.in-Kept.ensures.settled e.brought in
     (subst (λ t. IsPart given c.args.table.now c.add.new.self.seat t c.add.new.self.brought.items) (sym e.tally) part, work.1)
 
 pub returns-in-New : goal.returns-in-New

@@ -1,6 +1,6 @@
 use Rattle.round_core.specs.Meant.{given_by}
 use Rattle.render_workers.proofs.RoundLaws.{SoFar}
-use Rattle.render_workers.proofs.serial.regenerate_serial.Given as goal
+use Rattle.render_workers.proofs.serial.go_over.Given as goal
 
 abbrev pub invariant-loop-item : goal.invariant-loop-item
 invariant-loop-item g l =

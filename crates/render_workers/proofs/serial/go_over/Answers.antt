@@ -5,7 +5,7 @@ use Rattle.render_workers.proofs.WhyLaws.{whys-few}
 use Rattle.render_workers.specs.Whys.{why_names, whys_below}
 use Rattle.render_workers.proofs.RoundLaws.{SoFar, start, went_on, ended_at, whole}
 use Rattle.render_workers.proofs.TallyLaws.{grows_more}
-use Rattle.render_workers.proofs.serial.regenerate_serial.Goals as goal
+use Rattle.render_workers.proofs.serial.go_over.Goals as goal
 
 pub loop-item-init : goal.loop-item-init
 loop-item-init g c =
