@@ -8,7 +8,7 @@ from room import Room, case
 from texts import FRONT, built, write
 
 CONTROLS = [chr(code) for code in (*range(1, 32), 127)]
-# They are control characters too, but a path may have them, and a reply writes a path as it is.
+# They are control characters too, but a path may have them, and a reply writes a path as it is, but on a line `why`.
 WIDE = [chr(code) for code in range(0x80, 0xA0)]
 ESCAPE = "\x1b[31m"
 FORGED = "\nfault F1 0 forged.html\n"
@@ -100,10 +100,10 @@ def lines_and_words(room: Room) -> None:
 
 @case("no name that tells why an item was rendered makes a line of its own")
 def reasons(room: Room) -> None:
-    name = ESCAPE + FORGED
-    shown = re.sub(r"[\x00-\x1f]", "?", name)
-    page = f'---\n"\\e[31m\\nfault F1 0 forged.html\\n": %d\n---\n{{{{ page["{name}"] }}}}{{{{ site["{name}"] }}}}'
-    setting = b'"\\e[31m\\nfault F1 0 forged.html\\n": 2\n'
+    name = ESCAPE + FORGED + "\x85\x9b"
+    shown = re.sub(r"[\x00-\x1f\x7f-\x9f]", "?", name)
+    page = f'---\n"\\e[31m\\nfault F1 0 forged.html\\n\\x85\\x9b": %d\n---\n{{{{ page["{name}"] }}}}{{{{ site["{name}"] }}}}'
+    setting = b'"\\e[31m\\nfault F1 0 forged.html\\n\\x85\\x9b": 2\n'
     script = b"".join(b"put a.html %d\n%sbuild\n" % (len(text), text) for text in ((page % count).encode() for count in (1, 2)))
     script += b"put _config.yml %d\n%sbuild\n" % (len(setting), setting)
     done = built(1)
