@@ -1,7 +1,7 @@
 -- What calls take their input for, by the code's own types.
 use Rattle.std.specs.Prelude.{◌≡◌, ℕ, List, Vec, Option, Some, None, Result, Ok, Err}
 use Rattle.std.specs.declared.alloc.Global.{Global}
-use Rattle.site_base.specs.Plain.{Plain, Items}
+use Rattle.site_base.specs.Plain.{Items}
 use Rattle.site_base.specs.View.{plain, items_of}
 use Rattle.site_base.specs.declared.faults.FaultKind.{FaultKind}
 use Rattle.site_base.specs.declared.faults.FaultKind.TheVariants.{FilterArgument}

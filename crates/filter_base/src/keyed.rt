@@ -63,6 +63,21 @@ impl<'a> Source<'a> {
         }
     }
 
+    /// The elements of an input, with their keys: their properties of the name that an argument gives, or where it gives none
+    /// the elements themselves.
+    pub fn keyed_by<L: Look>(
+        alloc: Global,
+        input: &'a Value,
+        property: Option<&Value>,
+        look: &mut L,
+    ) -> Result<Source<'a>, Stop>
+        ensures same { L.view look.new ≡ L.view look.old }
+        ensures gives { Finds (run (L.view look.old) (L.trace look.old) (keyed (name_given (given property.entry)) (plain input.now))) (found_source result) (L.trace look.new) }
+    {
+        let name = name_given(alloc, property)?;
+        Source::keyed(alloc, input, name, look)
+    }
+
     fn with_properties<L: Look>(
         alloc: Global,
         elements: Elements<'a>,

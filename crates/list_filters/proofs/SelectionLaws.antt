@@ -13,12 +13,10 @@ use Rattle.filter_base.proofs.ItemLaws.{onto_item, onto_nothing}
 use Rattle.list_filters.specs.Choosing.{chosen, first_of_each, item_if, same_value}
 
 -- what a filter makes of elements and keys
-pub selected : (view : View) (t s : Trace) (name given : Option (List ℕ)) (v : Plain) (makes : Source → Items) (found : Source) (is : Items) → name ≡ given
-    → run view t (keyed name v) ≡ RanTo found s → is ≡ makes found → run view t (bind (keyed given v) (λ x. Give (list (makes x)))) ≡ RanTo (list is) s
-selected view t s name given v makes found is same gave made =
-    ap (λ (n : Option (List ℕ)). run view t (bind (keyed n v) (λ x. Give (list (makes x))))) (sym same)
-    ∙ run_gave view t (keyed name v) (λ x. Give (list (makes x))) found s gave
-    ∙ ap (λ (js : Items). RanTo (list js) s) (sym made)
+pub selected : (view : View) (t s : Trace) (name : Option (List ℕ)) (v : Plain) (makes : Source → Items) (found : Source) (is : Items) → run view t (keyed name v) ≡ RanTo found s
+    → is ≡ makes found → run view t (bind (keyed name v) (λ x. Give (list (makes x)))) ≡ RanTo (list is) s
+selected view t s name v makes found is gave made =
+    run_gave view t (keyed name v) (λ x. Give (list (makes x))) found s gave ∙ ap (λ (js : Items). RanTo (list js) s) (sym made)
 
 onto_if : (is js : Items) (b : Bool) (v : Plain) → onto (onto is (item_if b v no_items)) js ≡ onto is (item_if b v js)
 onto_if is js true v = onto_item is js v

@@ -1,9 +1,10 @@
 -- The order of keys, and sorting by it. After the reference of Liquid 4 (Shopify) and that of Jekyll 4, "Filters" (`sort`).
-use Rattle.std.specs.Prelude.{ℕ, Bool, true, List, [], ◌∷◌, if◌then◌else◌, Option, Some, None, is_some}
+use Rattle.std.specs.Prelude.{ℕ, Bool, true, List, [], ◌∷◌, Option, Some, None, is_some}
 use Rattle.std.specs.List.{filter, list_all}
 use Rattle.std.specs.Ordering.{nat_cmp, ordering_then, is_lt}
 use Rattle.std.specs.declared.cmp.Ordering.{Ordering}
 use Rattle.std.specs.declared.cmp.Ordering.TheVariants.{Equal}
+use Rattle.site_base.specs.StableSort.{stable_sort}
 use Rattle.site_base.specs.Plain.{Plain, nil, int, text, Items, item_list}
 use Rattle.site_base.specs.Values.{order}
 use Rattle.filter_base.specs.Keyed.{Entry, values}
@@ -38,18 +39,6 @@ have_order (k ∷ ks) = list_all (λ l. is_some (order k l)) ks
 -- the keys but nil are numbers alone, or texts alone, or only one
 abbrev pub are_alike : Items → Bool
 are_alike ks = have_order (filter is_filled (item_list ks))
-
--- ---- stable sorting
-
-module _ {X : Type 0} (below : X → X → Bool) where
-  -- before the first that is not below it
-  abbrev pub inserted : X → List X → List X
-  inserted x [] = x ∷ []
-  inserted x (y ∷ ys) = if below y x then y ∷ inserted x ys else x ∷ y ∷ ys
-
-  abbrev pub stable_sort : List X → List X
-  stable_sort [] = []
-  stable_sort (x ∷ xs) = inserted x (stable_sort xs)
 
 abbrev pub key_below : NilPlace → Entry → Entry → Bool
 key_below nils d e = is_lt (key_order nils d.key e.key)

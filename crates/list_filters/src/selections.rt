@@ -8,7 +8,7 @@ ghost use Rattle.filter_base.specs.Answers.{Finds, Gives, given};
 ghost use Rattle.list_filters.specs.Selections.{compact, map_property, mapped, selection_filter, uniq, where_property};
 
 use crate::choosing::{Test, chosen, first_of_each, wanted_of};
-use filter_base::{Elements, Source, Stop, name_given, one, one_or_none, properties, two};
+use filter_base::{Elements, Source, Stop, one, one_or_none, properties, two};
 use read_record::Look;
 use site_base::{List, Value, value_text};
 use std::alloc::Global;
@@ -54,8 +54,7 @@ fn compact<L: Look>(
     ensures same { L.view look.new ≡ L.view look.old }
     ensures gives { Gives (L.view look.old) (L.trace look.old) (compact (plain input.now) (given property.entry)) result (L.trace look.new) }
 {
-    let name = name_given(alloc, property)?;
-    let source = Source::keyed(alloc, input, name, look)?;
+    let source = Source::keyed_by(alloc, input, property, look)?;
     Ok(Value::List(chosen(alloc, &source, &Test::Filled)?))
 }
 
@@ -89,8 +88,7 @@ fn uniq<L: Look>(
     ensures same { L.view look.new ≡ L.view look.old }
     ensures gives { Gives (L.view look.old) (L.trace look.old) (uniq (plain input.now) (given property.entry)) result (L.trace look.new) }
 {
-    let name = name_given(alloc, property)?;
-    let source = Source::keyed(alloc, input, name, look)?;
+    let source = Source::keyed_by(alloc, input, property, look)?;
     Ok(Value::List(first_of_each(alloc, &source)?))
 }
 

@@ -170,8 +170,7 @@ fn sort_natural<L: Look>(
     ensures same { L.view look.new ≡ L.view look.old }
     ensures gives { Gives (L.view look.old) (L.trace look.old) (sort_natural (plain input.now) (given property.entry)) result (L.trace look.new) }
 {
-    let name = name_given(alloc, property)?;
-    let source = Source::keyed(alloc, input, name, look)?;
+    let source = Source::keyed_by(alloc, input, property, look)?;
     Ok(Value::List(naturally_sorted(alloc, &source)?))
 }
 

@@ -34,12 +34,12 @@ pub(crate) fn item<'c, C: Convert, L: Look>(
     ensures same { L.view look.new ≡ L.view look.old }
     ensures gives { Finds (run (L.view look.old) (L.trace look.old) (item name.now)) (in_pages result) (L.trace look.new) }
 {
-    // Both texts have several holders: whoever reads them, and the render that is kept.
+    // Both texts have several holders: whoever reads them, the render that is kept, and of the output what is written of it.
     let content = own_text(alloc, evaluator, name, look)?.into_shared()?;
     let output = laid_out(alloc, evaluator, name, &content, look)?;
     Ok(Made {
         content,
-        output: output.into_shared()?,
+        output: output.into_file()?,
     })
 }
 

@@ -15,6 +15,7 @@ pub mod Places
 pub mod Plain
 pub mod Recursion
 pub mod Sizes
+pub mod StableSort
 pub mod Texts
 pub mod Values
 pub mod View

@@ -1,5 +1,5 @@
 // Texts, of which most are short.
-ghost use Rattle.std.specs.Prelude.{◌≡◌, ◌≤◌, ◌+◌, ◌↔◌, IsTrue, ◌++◌, [], IfOk, OnOk, OnErr, drop, length};
+ghost use Rattle.std.specs.Prelude.{◌≡◌, ◌≤◌, ◌+◌, ◌↔◌, IsTrue, ◌++◌, [], IfOk, IfSome, OnOk, OnErr, drop, length};
 ghost use Rattle.std.specs.Arc.{arc_value};
 ghost use Rattle.std.specs.String.{string_bytes};
 ghost use Rattle.site_base.specs.Texts.{text_at};
@@ -164,6 +164,30 @@ impl Text {
         Ok(Text { place, alloc })
     }
 
+    /// The text as a file of its own, whose bytes `whole_file` lends. Bytes that nobody else holds are not copied, and of a
+    /// text of at most 14 there is no file.
+    pub fn into_file(self) -> Result<Text, Memory>
+        ensures { IfOk result (λ made. made ≡ self) }
+    {
+        if self.as_str().len() <= MOST_LETTERS {
+            return Ok(self);
+        }
+        let alloc = self.alloc;
+        let file = SharedBytes::from_vec(alloc, self.into_bytes()?)?;
+        let place = Place::end(alloc, FileEnd { file, start: 0 })?;
+        Ok(Text { place, alloc })
+    }
+
+    /// The file of which the text is all bytes, where it shares them with one.
+    pub fn whole_file(&self) -> Option<&SharedBytes>
+        ensures { IfSome result (λ file. file.now ≡ self.now) }
+    {
+        match &self.place {
+            Place::End(end) => end.whole_file(),
+            Place::Inside(_) | Place::Outside(_) | Place::Shared(_) => None,
+        }
+    }
+
     /// A further holder of the text. What can be shared is not copied.
     pub fn share(&self, alloc: Global) -> Result<Text, Memory>
         ensures { IfOk result (λ shared. shared ≡ self.now) }
@@ -293,6 +317,16 @@ impl FileEnd {
             file: self.file.share()?,
             start: self.start,
         })
+    }
+
+    fn whole_file(&self) -> Option<&SharedBytes>
+        ensures { IfSome result (λ file. file.now ≡ self.now) }
+    {
+        if self.start == 0 {
+            Some(&self.file)
+        } else {
+            None
+        }
     }
 
     fn as_bytes(&self) -> &[u8]

@@ -2,4 +2,5 @@ mod BelowPosts
 mod Capitals
 mod Cutting
 mod Placing
+mod Taking
 mod Utf8Tests

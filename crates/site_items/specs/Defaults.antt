@@ -1,7 +1,8 @@
 -- The values that a configuration's `defaults` give to an item, and the item's own before them. After Jekyll 4's manual, "Front Matter Defaults".
-use Rattle.std.specs.Prelude.{ℕ, ◌+◌, ◌*◌, ◌==◌, nat_lt, Bool, true, ◌&&◌, ◌||◌, List, [], length, Option, Some, None, codes, is_some, fold, unwrap_or, if◌then◌else◌}
-use Rattle.std.specs.List.{insert, position_or_len}
+use Rattle.std.specs.Prelude.{ℕ, ◌+◌, ◌*◌, ◌==◌, Bool, true, ◌&&◌, ◌||◌, List, length, Option, Some, None, codes, is_some, fold, unwrap_or, if◌then◌else◌}
+use Rattle.std.specs.Ordering.{is_lt, nat_cmp}
 use Rattle.std.specs.Str.{bytes_eq}
+use Rattle.site_base.specs.StableSort.{stable_sort}
 use Rattle.site_base.specs.Plain.{Plain, nil, Pairs, no_pairs, pair, get, set}
 use Rattle.site_config.specs.declared.config.Config.{Config}
 use Rattle.site_config.specs.declared.scope.Scope.{Scope}
@@ -40,16 +41,12 @@ fits config k path s = is_for_path path s && is_for_kind config k s.kind
 abbrev pub strength : Scope → ℕ
 strength s = 2 * length (without_slash s.path) + (if is_some s.kind then 1 else 0)
 
-abbrev pub is_stronger : Scope → Scope → Bool
-is_stronger s other = nat_lt (strength s) (strength other)
-
--- a scope before the first that is stronger
-abbrev pub place : List Scope → Scope → List Scope
-place ordered s = insert ordered (position_or_len (is_stronger s) ordered) s
+abbrev pub is_weaker : Scope → Scope → Bool
+is_weaker s other = is_lt (nat_cmp (strength s) (strength other))
 
 -- the stronger behind the weaker, and of equal ones the later behind the earlier
 abbrev pub by_strength : List Scope → List Scope
-by_strength scopes = fold place [] scopes
+by_strength scopes = stable_sort is_weaker scopes
 
 abbrev pub with_scope : Config → Kind → List ℕ → Pairs → Scope → Pairs
 with_scope config k path under s = if fits config k path s then set_all s.values under else under

@@ -1,7 +1,6 @@
 // Values that a configuration gives to items.
-ghost use Rattle.std.specs.Prelude.{◌≡◌, ◌≤◌, IfOk, OnOk, length, map};
-ghost use Rattle.std.specs.List.{position_or_len};
-ghost use Rattle.site_items.specs.Defaults.{by_strength, fits, is_for_kind, is_for_path, is_stronger, set_all, strength, variables};
+ghost use Rattle.std.specs.Prelude.{◌≡◌, IfOk, OnOk, map};
+ghost use Rattle.site_items.specs.Defaults.{by_strength, fits, is_for_kind, is_for_path, set_all, strength, variables};
 
 use crate::kind::Kind;
 use site_base::{Hash, Memory, copy};
@@ -14,24 +13,12 @@ use std::alloc::Global;
 pub fn by_strength<'a>(alloc: Global, scopes: &'a [Scope]) -> Result<Vec<&'a Scope>, Memory>
     ensures { IfOk result (λ ordered. map (λ s. s.now) ordered.items ≡ by_strength scopes.now) }
 {
-    let mut ordered = Vec::new(alloc);
+    let mut ordered = Vec::with_capacity(alloc, scopes.len())?;
     for scope in scopes {
-        let place = place_of(ordered.as_slice(), scope);
-        ordered.insert(place, scope)?;
+        ordered.push(scope)?;
     }
+    ordered.sort_by(|one, other| strength(one).cmp(&strength(other)))?;
     Ok(ordered)
-}
-
-// The place of the first that is stronger, or behind all.
-fn place_of(ordered: &[&Scope], scope: &Scope) -> usize
-    ensures within { result ≤ length ordered.now }
-    ensures value { result ≡ position_or_len (is_stronger scope.now) (map (λ s. s.now) ordered.now) }
-{
-    let own = strength(scope);
-    match ordered.iter().position(|other| own < strength(other)) {
-        Some(place) => place,
-        None => ordered.len(),
-    }
 }
 
 // Two for each byte of the path, and one for a type.

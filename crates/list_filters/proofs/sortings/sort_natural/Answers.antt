@@ -8,5 +8,5 @@ use Rattle.list_filters.proofs.sortings.sort_natural.Goals as goal
 
 pub returns-clause-gives : goal.returns-clause-gives
 returns-clause-gives g c =
-    selected (g.L.Look.view c.args.look.now) (g.L.Look.trace c.args.look.now) (g.L.Look.trace c.keyed.new.look) c.in_ok-name.name (name_given (given c.args.property)) (plain c.args.input.now)
-    naturally_sorted (source_of c.in_ok-source.source) c.in_ok-naturally_sorted.field-0 c.in_ok-name.ensures c.in_ok-source.ensures.gives c.in_ok-naturally_sorted.ensures
+    selected (g.L.Look.view c.args.look.now) (g.L.Look.trace c.args.look.now) (g.L.Look.trace c.keyed_by.new.look) (name_given (given c.args.property)) (plain c.args.input.now)
+    naturally_sorted (source_of c.in_ok-source.source) c.in_ok-naturally_sorted.field-0 c.in_ok-source.ensures.gives c.in_ok-naturally_sorted.ensures

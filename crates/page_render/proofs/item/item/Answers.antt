@@ -38,4 +38,4 @@ returns-clause-gives g c =
     let made = run_gave other u (laid_out n own) (put own) output s laid in
     finds_next view other t (own_text n) next own u c.in_ok-own_text.ensures.same c.in_ok-own_text.ensures.gives (Ok (page own output)) s made
     ∙ ap (λ (x : List ℕ). RanTo (page x output) s) (sym c.in_ok-content.ensures)
-    ∙ ap (λ (x : List ℕ). RanTo (page c.in_ok-content.content x) s) (sym c.in_ok-into_shared.ensures)
+    ∙ ap (λ (x : List ℕ). RanTo (page c.in_ok-content.content x) s) (sym c.in_ok-into_file.ensures)
