@@ -8,7 +8,7 @@ use Rattle.std.specs.Prelude.{Result, Ok, Err, OnErr}
 use Rattle.std.specs.List.{sum_by}
 use Rattle.std.specs.List.Sorted.{IsPermutation}
 use Rattle.std.specs.Map.{lookup, values_of}
-use Rattle.std.specs.FinMap.{get, insert, empty}
+use Rattle.std.specs.FinMap.{get, insert}
 use Rattle.indexmap.specs.IndexMap.{insert_entry}
 use Rattle.text_pool.specs.Texts.{count_of}
 use Rattle.text_pool.proofs.TextLaws.{count-empty}
@@ -18,13 +18,14 @@ use Rattle.read_record.specs.Entries.{Kept}
 use Rattle.read_record.specs.Outcomes.{Page, met_of}
 use Rattle.read_record.specs.Records.{Certifies}
 use Rattle.read_record.specs.Queries.{Query}
-use Rattle.read_record.specs.Stores.{Store, Numbers, held_keys, held_codes, uses_of, times, key_numbers, code_numbers, resolved, HoldsMore, HasMore, Has}
+use Rattle.read_record.specs.Stores.{Store, Numbers, uses_of, times, resolved, HasMore, Has}
 use Rattle.read_record.specs.Numbered.{KeptNumbers, entry_in, IsCertified}
-use Rattle.read_record.proofs.StoreLaws.{Leaves, times-append, has_what_it_got, more-then, resolved-later}
+use Rattle.read_record.proofs.StoreLaws.{Leaves, times-append, more-then, resolved-later}
 use Rattle.memo_table.specs.declared.name_key.NameKey.{NameKey}
 use Rattle.memo_table.specs.declared.name_key.NameKey.TheVariants.{Kept as Kept'}
-use Rattle.memo_table.specs.Names.{name_cmp, is_among}
-use Rattle.memo_table.specs.Entries.{Entries, of_names, with_entry, AreCertified, AreNamed}
+use Rattle.memo_table.specs.Names.{is_among}
+use Rattle.memo_table.specs.Entries.{of_names, with_entry, AreCertified, AreNamed}
+use Rattle.memo_table.specs.Lending.{IsLent}
 use Rattle.memo_table.specs.NameKeys.{name_of, same_key, as_map, StandsAt}
 use Rattle.memo_table.specs.Stored.{Listed, resolved_all, as_entries, all_reads, no_reads, HoldsJust, IsSound}
 use Rattle.memo_table.proofs.EntryLaws.{same, get-of_names, named-with_entry, named-of_names, certified-with_entry, certified-of_names}
@@ -286,6 +287,9 @@ resolved-same store es fs alike =
     same (as_map (resolved_all store fs)) (as_map (resolved_all store es)) (λ q. get-resolved store fs q ∙ ap (λ m. option_map (entry_in store) (get m q)) alike ∙ sym (get-resolved store es q))
 
 -- ---- what a memo keeps
+
+pub lent_of : (item : ItemName → Query SiteFault Page) (store : Store) (es : Listed) (replaced : List KeptNumbers) → IsSound item store es replaced → IsLent item store es
+lent_of item store es replaced s = record { named = s.named; certified = s.certified; has = has_entry store es replaced s.just }
 
 module _ (item : ItemName → Query SiteFault Page) where
   -- nothing was added in the end

@@ -3,3 +3,4 @@ pub mod Entries
 pub mod NameKeys
 pub mod SameNames
 pub mod Stored
+pub mod Lending

@@ -1,15 +1,22 @@
 // The entries that are kept.
-ghost use Rattle.std.specs.Prelude.{◌≡◌, IfSome, OnOk, OnErr};
+ghost use Rattle.std.specs.Prelude.{◌≡◌, IfOk, IfSome, OnOk, OnErr};
 ghost use Rattle.std.specs.FinMap as map;
+ghost use Rattle.text_pool.specs.Texts.{held_ids};
 ghost use Rattle.memo_table.specs.Entries.{of_names, with_entry};
+ghost use Rattle.memo_table.specs.Stored.{as_entries, read_count, HoldsKept, IsSound};
 
-use crate::by_name::{ByName, gather, place_of, put};
+use crate::by_name::{ByName, gather, place_of};
+use crate::keeping::keep;
 use crate::releasing::{release_all, release_behind};
+use crate::{Lent, NotedMemo};
 use indexmap::IndexMap;
-use read_record::{Entry, ItemMeaning, KeptEntry, NumberedEntry, ReadStore, World};
+use read_record::{
+    Entry, ItemMeaning, KeptEntry, Notes, NumberedEntry, ReadStore, SharedEntry, World,
+};
 use site_base::{ItemName, Memory};
 use std::alloc::Global;
 use std::marker::Model;
+use std::mem;
 
 /// The entries that are kept, at most one of a name. Clauses see a map from names to entries.
 ///
@@ -53,6 +60,22 @@ impl<M: ItemMeaning> Memo<M> {
         }
     }
 
+    /// The memo of these entries, with those that wait.
+    pub(crate) fn of(
+        entries: ByName<NumberedEntry<M>>,
+        store: ReadStore,
+        replaced: Vec<NumberedEntry<M>>,
+    ) -> Memo<M>
+        requires { IsSound M.item store entries.entries replaced.items }
+        ensures { result ≡ as_entries store entries.entry.entries }
+    {
+        Memo {
+            entries,
+            store,
+            replaced,
+        }
+    }
+
     /// The entry of a name, or `None` where none is kept. It takes no memory.
     pub fn entry(&self, name: &ItemName) -> Option<KeptEntry<'_, M>>
         ensures found { result ≡ map.get self.now name.now }
@@ -64,22 +87,57 @@ impl<M: ItemMeaning> Memo<M> {
         }
     }
 
+    /// The memo, lent to one who asks this world. The one error is want of memory.
+    pub fn lend<'a, W: World>(
+        &'a self,
+        alloc: Global,
+        world: &'a W,
+    ) -> Result<Lent<'a, M, W>, Memory>
+        ensures { IfOk result (λ lent. lent ≡ record { entries = self.now; world = world.now }) }
+    {
+        Lent::new(alloc, &self.entries, &self.store, world)
+    }
+
     /// Keeps an entry, in place of the one of its name. The one error is want of memory, after which the memo is as before.
     pub fn merge(&mut self, alloc: Global, entry: Entry<M>) -> Result<(), Memory>
         ensures ok { OnOk result (self.new ≡ with_entry entry self.old) }
         ensures err { OnErr result (self.new ≡ self.old) }
     {
-        let name = entry.name().copy(alloc)?;
-        self.entries.reserve(1)?;
-        self.replaced.reserve(1)?;
-        let entry = entry.number(alloc, &mut self.store)?;
-        match put(&mut self.entries, name, entry) {
-            Some(old) => {
-                self.replaced.push_reserved(old);
-                Ok(())
-            }
-            None => Ok(()),
-        }
+        let shared = SharedEntry::new(alloc, entry)?;
+        self.merge_shared(alloc, &shared)
+    }
+
+    /// The same of an entry that others share.
+    pub fn merge_shared(&mut self, alloc: Global, entry: &SharedEntry<M>) -> Result<(), Memory>
+        ensures ok { OnOk result (self.new ≡ with_entry entry.now self.old) }
+        ensures err { OnErr result (self.new ≡ self.old) }
+    {
+        keep(
+            alloc,
+            &mut self.entries,
+            &mut self.store,
+            &mut self.replaced,
+            entry,
+        )
+    }
+
+    /// Takes the entries out for a round that merges as it goes, together with notes of what it finds of this world. After `Ok`
+    /// this memo has no entries, until they are given back. The one error is want of memory, after which the memo is as before.
+    pub fn noted<'a, W: World>(
+        &mut self,
+        alloc: Global,
+        world: &'a W,
+    ) -> Result<NotedMemo<'a, M, W>, Memory>
+        ensures ok { IfOk result (λ noted. noted ≡ record { entries = self.old; world = world.now }) }
+        ensures err { OnErr result (self.new ≡ self.old) }
+    {
+        let notes = Notes::new(alloc, &self.store)?;
+        let Memo {
+            entries,
+            store,
+            replaced,
+        } = mem::replace(self, Memo::new(alloc));
+        Ok(NotedMemo::of(entries, store, replaced, world, notes))
     }
 
     /// Drops the entries of the names that no item of the world has, and lets those go that were replaced. It takes no memory,
@@ -89,13 +147,27 @@ impl<M: ItemMeaning> Memo<M> {
     {
         let gathered = gather(&mut self.entries, world);
         release_behind(&mut self.entries, &mut self.store, gathered);
-        self.forget_replaced();
+        self.pool();
     }
+}
 
-    /// Lets the entries go that were replaced: what only they have read is given up. It takes no memory.
-    pub fn forget_replaced(&mut self)
-        ensures { self.new ≡ self.old }
+impl<M: ItemMeaning> Memo<M> {
+    ghost use Rattle.std.specs.Borrow.{sem};
+    ghost use Rattle.std.specs.Io.BufRead.{Rests};
+    ghost use Rattle.memo_table.specs.contracts.memo.Memo.{the_row};
+
+    /// Lets the entries go that were replaced, and lends the store, which then holds just the reads of the entries that are kept. It
+    /// takes no memory.
+    pub fn pool(&mut self) -> &ReadStore
+        ensures* same { sem 𝓛 (Rests (the_row M.row M.ItemMeaning) self.entry (λ new. new ≡ self.old)) }
+        ensures just { HoldsKept result.now self.old }
+
+        // So of no entries it holds no code.
+        ensures count { held_ids result.now.codes ≡ read_count self.old }
     {
         release_all(&mut self.replaced, &mut self.store);
+        // The number of entries tells that no two have one name.
+        let _entries = self.entries.len();
+        &self.store
     }
 }

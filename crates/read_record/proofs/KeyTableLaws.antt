@@ -1,5 +1,5 @@
 -- How a table of keys changes: what stands at each number, and that each key leads to a number of its own.
-use Rattle.std.proofs.Common.{◌≡◌, ◌≢◌, ℕ, zero, suc, ◌+◌, ◌-◌, ◌<◌, ◌≤◌, ◌==◌, ◌⊎◌, inl, inr, Bool, true, false, cond, List, [], ◌∷◌, map, length, Option, Some, None, IsSome, is_some, option_map, slice_index_or, refl, sym, ap, subst, ◌∙◌, true≢false, arith}
+use Rattle.std.proofs.Common.{◌≡◌, ◌≢◌, ℕ, zero, suc, ◌+◌, ◌<◌, ◌≤◌, ◌==◌, ◌⊎◌, inl, inr, Bool, true, false, cond, List, [], ◌∷◌, map, Option, Some, None, IsSome, is_some, option_map, slice_index_or, refl, sym, ap, subst, ◌∙◌, true≢false, arith}
 use Rattle.std.proofs.lemmas.Bool.{eqb-true, eq-eqb, cases_eq}
 use Rattle.std.specs.Map.{lookup}
 use Rattle.std.specs.Option.{option_map_or}
@@ -10,7 +10,7 @@ use Rattle.read_record.specs.declared.key_table.KeySlot.{KeySlot}
 use Rattle.read_record.specs.declared.shared_key.TableKey.{TableKey}
 use Rattle.read_record.specs.Keys.{same_key}
 use Rattle.read_record.specs.SameKeys.{same_key-eq, same_key-refl}
-use Rattle.read_record.specs.Stores.{Held, HeldKey, Keys, key_of, uses_of, held_keys, times, IsAt, IsThere, HoldsMore}
+use Rattle.read_record.specs.Stores.{HeldKey, key_of, uses_of, held_keys, IsAt, IsThere, HoldsMore}
 use Rattle.read_record.specs.TableKeys.{key_in, same_table_key}
 use Rattle.read_record.specs.KeyLayout.{held_in, as_keys, LeadsRight}
 

@@ -2,6 +2,7 @@ pub mod BindLaws
 pub mod CallLaws
 pub mod KeyLaws
 pub mod SeenLaws
+pub mod BuilderLaws
 pub mod QueryLaws
 pub mod RecordLaws
 pub mod PlaceLaws
@@ -9,3 +10,4 @@ pub mod TraceLaws
 pub mod Crosses
 pub mod StoreLaws
 pub mod KeyTableLaws
+pub mod NoteLaws

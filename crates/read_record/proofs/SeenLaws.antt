@@ -1,6 +1,5 @@
 -- What is found among what was seen, and among its codes.
-use Rattle.std.proofs.Common.{◌≡◌, ℕ, Bool, true, false, cond, ◌⊎◌, inl, inr, List, [], ◌∷◌, ◌++◌, Option, Some, None, is_some, refl, ap, sym, ◌∙◌}
-use Rattle.indexmap.specs.IndexMap.{insert_entry}
+use Rattle.std.proofs.Common.{◌≡◌, Bool, true, false, cond, ◌⊎◌, inl, inr, [], ◌∷◌, ◌++◌, Option, Some, None, refl, ap, sym, ◌∙◌}
 use Rattle.std.specs.Option.{option_map}
 use Rattle.std.specs.Map.{lookup}
 use Rattle.site_base.specs.Code.{code}
@@ -8,7 +7,7 @@ use Rattle.site_base.specs.Plain.{Plain}
 use Rattle.read_record.specs.declared.key.Key.{Key}
 use Rattle.read_record.specs.Keys.{same_key}
 use Rattle.read_record.specs.SameKeys.{same_key-eq, same_key-refl}
-use Rattle.read_record.specs.Queries.{View, Known, Reads, noted, noted_after}
+use Rattle.read_record.specs.Queries.{View, Known, noted, noted_after}
 use Rattle.read_record.specs.Records.{Seen, coded, Answers}
 
 -- what was found stays found
@@ -79,19 +78,3 @@ saw-finds seen view k v answers h = go (lookup (same_key k) seen) refl
     go : (o : Option Plain) → lookup (same_key k) seen ≡ o → lookup (same_key k) (seen_after o k v seen) ≡ Some v
     go (Some w) e = let f : view k ≡ Known w = answers k w e in let g : w ≡ v = cc in rw (e, g)
     go None e = found-new k v seen e
-
--- ---- reads in a map
-
-pub insert-new : (reads : Reads) (k : Key) (bytes : List ℕ) → lookup (same_key k) reads ≡ None → insert_entry same_key reads k bytes ≡ reads ++ (k, bytes) ∷ []
-insert-new [] k bytes h = refl
-insert-new (r ∷ reads) k bytes h =
-    (elim (same_key k r.0) as (λ b. cond b (Some r.1) (lookup (same_key k) reads) ≡ None → cond b ((r.0, bytes) ∷ reads) (r ∷ insert_entry same_key reads k bytes) ≡ r ∷ (reads ++ (k, bytes) ∷ []))
-    [ true ↦ λ e. cc | false ↦ λ e. ap (λ rest. r ∷ rest) (insert-new reads k bytes e) ]) h
-
-not-some : {A : Type 0} (o : Option A) → is_some o ≡ false → o ≡ None
-not-some None h = refl
-not-some (Some a) h = cc
-
--- an insert of a key that is new is a push
-pub inserted-new : (old new : Reads) (k k' : Key) (bytes : List ℕ) → lookup (same_key k) old ≡ None → k' ≡ k → new ≡ insert_entry same_key old k' bytes → new ≡ old ++ (k, bytes) ∷ []
-inserted-new old new k k' bytes none e g = g ∙ ap (λ j. insert_entry same_key old j bytes) e ∙ insert-new old k bytes none

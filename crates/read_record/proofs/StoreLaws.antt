@@ -1,5 +1,5 @@
 -- What stores hold: reads that are added and given back, and what numbers then stand for.
-use Rattle.std.proofs.Common.{◌≡◌, ℕ, zero, suc, ◌+◌, ◌<◌, ◌≤◌, ◌==◌, Bool, true, false, cond, List, [], ◌∷◌, ◌++◌, map, length, take, slice_get, Option, Some, None, option_map, refl, sym, ap, subst, ◌∙◌, add-one, arith}
+use Rattle.std.proofs.Common.{◌≡◌, ℕ, zero, suc, ◌+◌, ◌<◌, ◌==◌, Bool, true, cond, List, [], ◌∷◌, ◌++◌, length, take, slice_get, Some, option_map, refl, sym, ap, subst, ◌∙◌, add-one, arith}
 use Rattle.std.proofs.lemmas.Bool.{eq-eqb}
 use Rattle.std.proofs.lemmas.List.{map-append}
 use Rattle.std.proofs.lemmas.Option.{slice_get-map}
@@ -154,6 +154,10 @@ resolved-later a b (x ∷ xs) ys all m =
 
 pub resolved-at : (a : Store) (xs : Numbers) (p : ℕ) (x : ℕ × ℕ) → slice_get xs p ≡ Some x → slice_get (resolved a xs) p ≡ Some (read_in a x)
 resolved-at a xs p x at = slice_get-map (read_in a) xs p ∙ ap (option_map (read_in a)) at
+
+-- the same by what was lent of it
+pub lent-at : (a : Store) (xs : Numbers) (p : ℕ) (x : ℕ × ℕ) (k : Key) (code : List ℕ) → slice_get xs p ≡ Some x → k ≡ key_of a.keys x.0 → code ≡ bytes_of a.codes x.1 → slice_get (resolved a xs) p ≡ Some (k, code)
+lent-at a xs p x k code at key same = resolved-at a xs p x at ∙ (λ i. Some (sym key i, sym same i))
 
 pub length-resolved : (a : Store) (xs : Numbers) → length (resolved a xs) ≡ length xs
 length-resolved a [] = refl

@@ -1,5 +1,4 @@
 -- Entries that are lent: as they were made, or by numbers of a store.
-use Rattle.std.specs.Prelude.{ℕ}
 use Rattle.read_record.specs.declared.kept_entry.EntryPlace.{EntryPlace}
 use Rattle.read_record.specs.declared.kept_entry.EntryPlace.TheVariants.{Whole, Numbered}
 use Rattle.read_record.specs.Entries.{Kept}

@@ -14,3 +14,4 @@ pub mod Numbered
 pub mod TableKeys
 pub mod KeyLayout
 pub mod KeptPlaces
+pub mod Noted

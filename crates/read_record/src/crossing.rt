@@ -1,5 +1,7 @@
 // What threads may pass to each other, and what they may share. Nothing runs here: that it is proved shows it.
-use crate::{Entry, ItemMeaning, NumberedEntry, Outcome, ReadStore, Tally};
+use crate::{
+    Entry, ItemMeaning, NumberedEntry, Outcome, ReadShares, ReadStore, SharedEntry, Tally,
+};
 
 fn is_sent<T: Send>() {}
 
@@ -17,10 +19,18 @@ fn entries_are_shared<M: ItemMeaning + Send + Sync>() {
     is_shared::<Entry<M>>();
 }
 
+fn shared_entries_are_shared<M: ItemMeaning + Send + Sync>() {
+    is_shared::<SharedEntry<M>>();
+}
+
 fn numbered_entries_are_shared<M: ItemMeaning + Send + Sync>() {
     is_shared::<NumberedEntry<M>>();
 }
 
 fn stores_are_shared() {
     is_shared::<ReadStore>();
+}
+
+fn shares_are_sent() {
+    is_sent::<ReadShares>();
 }

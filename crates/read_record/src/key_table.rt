@@ -53,6 +53,11 @@ impl KeyTable {
         }
     }
 
+    /// Below how many all numbers are. Nothing is promised of it.
+    pub(crate) fn places(&self) -> usize {
+        self.slots.capacity()
+    }
+
     /// The key of a number.
     pub(crate) fn key(&self, number: usize) -> &Key
         requires { 0 < uses_of self.now number }
@@ -61,18 +66,18 @@ impl KeyTable {
         self.slots[number].key.as_key()
     }
 
-    /// A number of a key, for one more read of it. After `Memory` the table is as before.
-    pub(crate) fn hold(&mut self, alloc: Global, key: &Key) -> Result<usize, Memory>
+    /// A number of a key, for one more read of it: where the key is new, a further holder of it is kept. After `Memory` the table is as before.
+    pub(crate) fn hold(&mut self, key: &SharedKey) -> Result<usize, Memory>
         ensures held { IfOk result (λ number. HoldsMore (held_keys self.old) (held_keys self.new) (number ∷ [])) }
         ensures key { IfOk result (λ number. key_of self.new number ≡ key.now) }
         ensures err { OnErr result (self.new ≡ self.old) }
     {
-        match self.number_of(key) {
+        match self.number_of(key.as_key()) {
             Some(number) => {
                 self.hold_again(number)?;
                 Ok(number)
             }
-            None => self.add(alloc, key),
+            None => self.add(key),
         }
     }
 
@@ -101,13 +106,13 @@ impl KeyTable {
     }
 
     /// Adds a key with its first read. After `Memory` the table is as before.
-    fn add(&mut self, alloc: Global, key: &Key) -> Result<usize, Memory>
+    fn add(&mut self, key: &SharedKey) -> Result<usize, Memory>
         ensures held { IfOk result (λ number. HoldsMore (held_keys self.old) (held_keys self.new) (number ∷ [])) }
         ensures key { IfOk result (λ number. key_of self.new number ≡ key.now) }
         ensures err { OnErr result (self.new ≡ self.old) }
     {
-        let shared = SharedKey::new(alloc, key.copy(alloc)?)?;
-        let kept = TableKey::Kept(shared.share()?);
+        let shared = key.share()?;
+        let kept = TableKey::Kept(key.share()?);
         self.slots.reserve(1)?;
         let number = self.slots.vacant_key();
         self.numbers.insert(kept, number)?;

@@ -2,8 +2,9 @@
 ghost use Rattle.std.specs.Prelude.{◌≡◌, ◌<◌, ◌++◌, ℕ, [], ◌∷◌, IfOk, OnErr, Some, length, slice_get};
 ghost use Rattle.read_record.specs.Stores.{resolved, Has, HasMore};
 
+use crate::Record;
+use crate::fresh_read::FreshRead;
 use crate::read_store::{NumberedRead, ReadStore};
-use crate::{Key, Record};
 use site_base::Memory;
 use std::alloc::Global;
 use std::marker::Model;
@@ -45,19 +46,13 @@ impl NumberedRecord {
     }
 
     /// Notes a read at the end. After `Memory` the record is as before, and the store holds what it held.
-    fn add(
-        &mut self,
-        alloc: Global,
-        store: &mut ReadStore,
-        key: &Key,
-        code: &[u8],
-    ) -> Result<(), Memory>
-        ensures ok { IfOk result (λ _. (read : ℕ × ℕ) × (self.new ≡ self.old ++ read ∷ []) × HasMore store.old store.new (read ∷ []) × (resolved store.new (read ∷ []) ≡ (key.now, code.now) ∷ [])) }
+    fn add(&mut self, alloc: Global, store: &mut ReadStore, read: &FreshRead) -> Result<(), Memory>
+        ensures ok { IfOk result (λ _. (numbered : ℕ × ℕ) × (self.new ≡ self.old ++ numbered ∷ []) × HasMore store.old store.new (numbered ∷ []) × (resolved store.new (numbered ∷ []) ≡ read.now ∷ [])) }
         ensures err { OnErr result ((self.new ≡ self.old) × HasMore store.old store.new []) }
     {
         self.reads.reserve(1)?;
-        let read = store.add(alloc, key, code)?;
-        self.reads.push_reserved(read);
+        let numbered = store.add(alloc, read)?;
+        self.reads.push_reserved(numbered);
         Ok(())
     }
 
@@ -87,8 +82,7 @@ impl Record {
             reads: Vec::new(alloc),
         };
         for place in 0..self.len() {
-            let (key, code) = self.at(place);
-            match numbered.add(alloc, store, key, code) {
+            match numbered.add(alloc, store, self.read_at(place)) {
                 Ok(()) => {}
                 Err(_) => {
                     numbered.release(store);

@@ -3,7 +3,7 @@ ghost use Rattle.std.specs.Prelude.{◌≡◌, [], IfOk, OnErr};
 ghost use Rattle.read_record.specs.Stores.{Has, HasMore};
 ghost use Rattle.read_record.specs.Numbered.{entry_in, IsCertified};
 
-use crate::{Entry, ItemMeaning, NumberedRecord, Outcome, ReadStore};
+use crate::{Entry, ItemMeaning, NumberedRecord, Outcome, ReadStore, SharedEntry};
 use site_base::{ItemName, Memory};
 use std::alloc::Global;
 use std::marker::{Model, PhantomData};
@@ -74,6 +74,28 @@ impl<M: ItemMeaning> Entry<M> {
     {
         let (name, record, outcome) = self.into_parts();
         let reads = record.number(alloc, store)?;
+        Ok(NumberedEntry {
+            name,
+            reads,
+            outcome,
+            meaning: PhantomData,
+        })
+    }
+}
+
+impl<M: ItemMeaning> SharedEntry<M> {
+    /// The same entry by numbers of a store; its name and its outcome are further holders of their texts. After `Memory` the store has
+    /// given back what it gave.
+    pub fn number(&self, alloc: Global, store: &mut ReadStore) -> Result<NumberedEntry<M>, Memory>
+        ensures same { IfOk result (λ entry. entry_in store.new entry ≡ self.now) }
+        ensures certified { IfOk result (IsCertified M.item store.new) }
+        ensures held { IfOk result (λ entry. HasMore store.old store.new entry.reads) }
+        ensures err { OnErr result (HasMore store.old store.new []) }
+    {
+        let entry = self.as_entry();
+        let name = entry.name().copy(alloc)?;
+        let outcome = entry.outcome().copy(alloc)?;
+        let reads = entry.reads().number(alloc, store)?;
         Ok(NumberedEntry {
             name,
             reads,

@@ -5,6 +5,7 @@ ghost use Rattle.text_pool.specs.Texts.{bytes_of, count_of};
 ghost use Rattle.read_record.specs.Stores.{key_of, resolved, uses_of, HasMore};
 
 use crate::Key;
+use crate::fresh_read::FreshRead;
 use crate::key_table::KeyTable;
 use site_base::Memory;
 use std::alloc::Global;
@@ -47,6 +48,22 @@ impl Model for NumberedRead {
     ghost view = { λ read. (read.key, read.code) };
 }
 
+impl NumberedRead {
+    /// The number of the key.
+    pub(crate) fn key_number(&self) -> usize
+        ensures { result ≡ self.now.0 }
+    {
+        self.key
+    }
+
+    /// The number of the code.
+    pub(crate) fn code_number(&self) -> usize
+        ensures { result ≡ self.now.1 }
+    {
+        self.code.number()
+    }
+}
+
 impl ReadStore {
     /// The store of no reads; it takes no memory.
     pub fn new(alloc: Global) -> ReadStore
@@ -65,6 +82,11 @@ impl ReadStore {
         &self.codes
     }
 
+    /// Below how many all numbers of keys are. Nothing is promised of it.
+    pub(crate) fn key_places(&self) -> usize {
+        self.keys.places()
+    }
+
     /// The key of a read.
     pub(crate) fn key(&self, read: &NumberedRead) -> &Key
         requires { 0 < uses_of self.now.keys read.now.0 }
@@ -81,22 +103,17 @@ impl ReadStore {
         self.codes.bytes(&read.code)
     }
 
-    /// A read with this key and this code. After `Memory` the store holds what it held.
-    pub(crate) fn add(
-        &mut self,
-        alloc: Global,
-        key: &Key,
-        code: &[u8],
-    ) -> Result<NumberedRead, Memory>
-        ensures held { IfOk result (λ read. HasMore self.old self.new (read ∷ [])) }
-        ensures same { IfOk result (λ read. resolved self.new (read ∷ []) ≡ (key.now, code.now) ∷ []) }
+    /// A read with the key and the code of a fresh one. After `Memory` the store holds what it held.
+    pub(crate) fn add(&mut self, alloc: Global, read: &FreshRead) -> Result<NumberedRead, Memory>
+        ensures held { IfOk result (λ numbered. HasMore self.old self.new (numbered ∷ [])) }
+        ensures same { IfOk result (λ numbered. resolved self.new (numbered ∷ []) ≡ read.now ∷ []) }
         ensures err { OnErr result (HasMore self.old self.new []) }
     {
         if self.codes.holds() >= MOST_IDS {
             return Err(Memory);
         }
-        let key = self.keys.hold(alloc, key)?;
-        match self.codes.intern(alloc, code) {
+        let key = self.keys.hold(read.key())?;
+        match self.codes.intern(alloc, read.code()) {
             Ok(code) => Ok(NumberedRead { key, code }),
             Err(_) => {
                 self.keys.release(key);

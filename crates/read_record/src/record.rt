@@ -1,12 +1,11 @@
 // The record of what was read.
-ghost use Rattle.std.specs.Prelude.{◌≡◌, ◌<◌, [], ◌∷◌, ◌++◌, Some, None, is_some, IfOk, OnOk, OnErr, length, slice_get};
+ghost use Rattle.std.specs.Prelude.{◌≡◌, ◌<◌, [], Some, IfOk, length, slice_get};
 ghost use Rattle.std.specs.List.{IsDistinct};
-ghost use Rattle.std.specs.Map.{keys_of, lookup};
+ghost use Rattle.std.specs.Map.{keys_of};
 ghost use Rattle.read_record.specs.Keys.{same_key};
 
 use crate::Key;
-use crate::seen_code::SeenCode;
-use indexmap::IndexMap;
+use crate::fresh_read::FreshRead;
 use site_base::Memory;
 use std::alloc::Global;
 use std::marker::Model;
@@ -15,7 +14,7 @@ use std::marker::Model;
 /// see a list of pairs.
 #[derive(Drop)]
 pub struct Record {
-    reads: IndexMap<Key, SeenCode>,
+    reads: Vec<FreshRead>,
 }
 
 impl Model for Record {
@@ -30,28 +29,18 @@ impl Model for Record {
 
     ghost coded = { coded_list (coded× the_key.the_row.coded (coded_list coded_ℕ)) };
 
-    ghost view = { λ r. r.reads.entries };
+    ghost view = { λ r. r.reads.items };
 
-    ghost invariant = { λ r. IsDistinct same_key (keys_of r.reads.entries) };
+    ghost invariant = { λ r. IsDistinct same_key (keys_of r.reads.items) };
 }
 
 impl Record {
-    /// The record of no reads; it takes no memory.
-    pub(crate) fn new(alloc: Global) -> Record
-        ensures { result ≡ [] }
+    /// The record of reads of which no two have one key; it takes no memory.
+    pub(crate) fn of(reads: Vec<FreshRead>) -> Record
+        requires { IsDistinct same_key (keys_of reads.items) }
+        ensures { result ≡ reads.items }
     {
-        Record {
-            reads: IndexMap::new(alloc),
-        }
-    }
-
-    // The record of no reads, with room for so many.
-    fn with_room(alloc: Global, count: usize) -> Result<Record, Memory>
-        ensures { IfOk result (λ made. made ≡ []) }
-    {
-        Ok(Record {
-            reads: IndexMap::with_capacity(alloc, count)?,
-        })
+        Record { reads }
     }
 
     /// How many keys were read.
@@ -75,46 +64,26 @@ impl Record {
         requires { place < length self.now }
         ensures { slice_get self.now place ≡ Some (result.0.now, result.1.now) }
     {
-        let (key, seen) = self.pair_at(place);
-        (key, seen.as_slice())
+        let read = self.read_at(place);
+        (read.key().as_key(), read.code())
     }
 
-    fn pair_at(&self, place: u64) -> (&Key, &SeenCode)
+    /// The read at a place.
+    pub(crate) fn read_at(&self, place: u64) -> &FreshRead
         requires { place < length self.now }
-        ensures { slice_get self.now place ≡ Some (result.0.now, result.1.now) }
+        ensures { slice_get self.now place ≡ Some result.now }
     {
-        match self.reads.get_index(place as usize) {
-            Some((key, seen)) => (key, seen),
-            None => unreachable!(),
-        }
+        &self.reads[place as usize]
     }
 
-    /// Whether this key was read.
-    pub(crate) fn has(&self, key: &Key) -> bool
-        ensures { result ≡ is_some (lookup (same_key key.now) self.now) }
-    {
-        self.reads.contains_key(key)
-    }
-
-    /// Notes a read at the end, whose key was not read before. After `Memory` the record is as before.
-    pub(crate) fn add(&mut self, alloc: Global, key: &Key, seen: SeenCode) -> Result<(), Memory>
-        requires { lookup (same_key key.now) self.old ≡ None }
-        ensures ok { OnOk result (self.new ≡ self.old ++ (key.now, seen) ∷ []) }
-        ensures err { OnErr result (self.new ≡ self.old) }
-    {
-        let key = key.copy(alloc)?;
-        self.reads.insert(key, seen)?;
-        Ok(())
-    }
-
+    /// An equal record, whose reads are further holders of the same keys and codes.
     pub(crate) fn copy(&self, alloc: Global) -> Result<Record, Memory>
         ensures { IfOk result (λ copy. copy ≡ self.now) }
     {
-        let mut copy = Record::with_room(alloc, self.reads.len())?;
+        let mut reads = Vec::with_capacity(alloc, self.reads.len())?;
         for place in 0..self.len() {
-            let (key, seen) = self.pair_at(place);
-            copy.add(alloc, key, seen.share()?)?;
+            reads.push(self.read_at(place).share()?)?;
         }
-        Ok(copy)
+        Ok(Record::of(reads))
     }
 }

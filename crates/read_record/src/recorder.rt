@@ -4,8 +4,10 @@ ghost use Rattle.site_base.specs.Code.{code};
 ghost use Rattle.site_base.specs.View.{plain};
 ghost use Rattle.read_record.specs.Queries.{Known, noted};
 
+use crate::fresh_read::FreshRead;
+use crate::record_builder::RecordBuilder;
 use crate::seen_code::SeenCode;
-use crate::{Answer, Finished, Key, Look, Record, World};
+use crate::{Answer, Finished, Key, Look, ReadShares, Record, World};
 use site_base::{Memory, Value};
 use std::alloc::Global;
 
@@ -15,12 +17,19 @@ pub(crate) struct Recorder<'a, W: World, F: Finished> {
     world: &'a W,
     reader: u32,
     outs: &'a F,
-    reads: Record,
+    reads: RecordBuilder,
+    shares: ReadShares,
     ghost in_range: { reader < length (W.names world.now) },
 }
 
 impl<'a, W: World, F: Finished> Recorder<'a, W, F> {
-    pub(crate) fn new(alloc: Global, world: &'a W, reader: u32, outs: &'a F) -> Recorder<'a, W, F>
+    pub(crate) fn new(
+        alloc: Global,
+        world: &'a W,
+        reader: u32,
+        outs: &'a F,
+        shares: ReadShares,
+    ) -> Recorder<'a, W, F>
         requires { reader < length (W.names world.now) }
         ensures world { result.world.now ≡ world.now }
         ensures reader { result.reader ≡ reader }
@@ -31,14 +40,16 @@ impl<'a, W: World, F: Finished> Recorder<'a, W, F> {
             world,
             reader,
             outs,
-            reads: Record::new(alloc),
+            reads: RecordBuilder::new(alloc),
+            shares,
         }
     }
 
-    pub(crate) fn into_record(self) -> Record
-        ensures { result ≡ self.entry.reads }
+    /// The record of what was read, and the shares that were handed in, with what was noted since; it takes no memory.
+    pub(crate) fn into_parts(self) -> (Record, ReadShares)
+        ensures { result.0 ≡ self.entry.reads }
     {
-        self.reads
+        (self.reads.into_record(), self.shares)
     }
 
     // Notes what was seen, unless its key was read before.
@@ -52,18 +63,25 @@ impl<'a, W: World, F: Finished> Recorder<'a, W, F> {
         if self.reads.has(key) {
             return Ok(());
         }
-        let seen = self.code_of(alloc, key, value)?;
-        self.reads.add(alloc, key, seen)
+        let read = self.read_of(alloc, key, value)?;
+        self.reads.add(read)
     }
 
-    // The code of what was seen: a share of it, where the world keeps it.
-    fn code_of(&self, alloc: Global, key: &Key, value: &Value) -> Result<SeenCode, Memory>
-        requires seen { W.sight self.now.world.now self.now.reader (F.outcomes self.now.outs.now) key.now ≡ Known (plain value.now) }
-        ensures { IfOk result (λ seen. seen ≡ code (plain value.now)) }
+    // The read of what was seen: with a holder of its code, where the world keeps it.
+    fn read_of(&mut self, alloc: Global, key: &Key, value: &Value) -> Result<FreshRead, Memory>
+        requires seen { W.sight self.old.world.now self.old.reader (F.outcomes self.old.outs.now) key.now ≡ Known (plain value.now) }
+        ensures world { self.new.world.now ≡ self.old.world.now }
+        ensures reader { self.new.reader ≡ self.old.reader }
+        ensures outs { self.new.outs.now ≡ self.old.outs.now }
+        ensures reads { self.new.reads ≡ self.old.reads }
+        ensures read { IfOk result (λ read. read ≡ (key.now, code (plain value.now))) }
     {
         match self.world.shared_code(alloc, self.reader, key, self.outs)? {
-            Some(bytes) => Ok(SeenCode::kept(bytes)),
-            None => SeenCode::of(alloc, value),
+            Some(bytes) => self.shares.share_key(alloc, key, SeenCode::kept(bytes)),
+            None => {
+                let seen = SeenCode::of(alloc, value)?;
+                self.shares.share(alloc, key, seen)
+            }
         }
     }
 }

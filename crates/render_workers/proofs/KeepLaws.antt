@@ -22,14 +22,18 @@ use Rattle.round_core.proofs.MeantLaws.{outcome_met}
 use Rattle.round_core.proofs.OneWay.{one-entry}
 use Rattle.render_workers.specs.Rounds.{entry_with, entry_over, with_some, entries_below}
 
+-- what an item's query gives over a view, with all that it reads, tells that
+pub own-tells : (view : View) (name : ItemName) (q : Query SiteFault Page) (o : Outcome) → interpret view q ≡ met_of o → Tells view name q (record { name = name; reads = reads_of view [] q; outcome = o })
+own-tells view name q o met =
+    let made : IsMade (interpret view q) = subst IsMade (sym met) (outcome-made o) in
+    let certified : Certifies (reads_of view [] q) q (met_of o) = subst (λ m. Certifies (reads_of view [] q) q m) met (certifies view q made) in
+    record { named = refl; outcome = met; agrees = reads-agree view [] q refl; certified = certified }
+
 -- an entry that is certified, and tells what an item's query gives over a view with which its record agrees, is the item's entry over it
 pub tells-entry : (view : View) (name : ItemName) (q : Query SiteFault Page) (e : Kept) → Tells view name q e → entry_over view name q ≡ Some e
 tells-entry view name q e t =
-    let made : IsMade (interpret view q) = subst IsMade (sym t.outcome) (outcome-made e.outcome) in
     let own : Kept = record { name = name; reads = reads_of view [] q; outcome = e.outcome } in
-    let certified : Certifies (reads_of view [] q) q (met_of e.outcome) = subst (λ m. Certifies (reads_of view [] q) q m) t.outcome (certifies view q made) in
-    let is : Tells view name q own = record { named = refl; outcome = t.outcome; agrees = reads-agree view [] q refl; certified = certified } in
-    ap (λ o. entry_with o name (reads_of view [] q)) (ap outcome_of t.outcome ∙ outcome_met e.outcome) ∙ ap Some (one-entry view name q own e is t)
+    ap (λ o. entry_with o name (reads_of view [] q)) (ap outcome_of t.outcome ∙ outcome_met e.outcome) ∙ ap Some (one-entry view name q own e (own-tells view name q e.outcome t.outcome) t)
 
 -- what is kept already stays as it is
 pub kept-same : (m : Entries) (e : Kept) → get m e.name ≡ Some e → with_entry e m ≡ m

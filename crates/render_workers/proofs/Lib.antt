@@ -5,6 +5,7 @@ pub mod OneWorker
 pub mod FreshLaws
 pub mod TryLaws
 pub mod RoundLaws
+pub mod AnewLaws
 pub mod TallyLaws
 pub mod WorkerLaws
 pub mod CollectLaws

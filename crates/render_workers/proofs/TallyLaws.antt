@@ -1,8 +1,11 @@
 -- How often names stand in lists.
-use Rattle.std.proofs.Common.{◌≡◌, ◌∙◌, ℕ, ◌+◌, if◌then◌else◌, List, [], ◌∷◌, ◌++◌, ap, append_assoc, append-nil, refl, sym, arith}
+use Rattle.std.proofs.Common.{◌≡◌, ◌∙◌, ℕ, ◌+◌, if◌then◌else◌, List, [], ◌∷◌, ◌++◌, ap, append_assoc, append-nil, sym, arith}
 use Rattle.site_base.specs.declared.item_name.ItemName.{ItemName}
 use Rattle.memo_table.specs.Names.{same_name}
+use Rattle.read_record.specs.Answers.{rendered_names}
 use Rattle.read_record.specs.Traces.{traced_names}
+use Rattle.read_record.specs.declared.renderer.Rendered.{Rendered}
+use Rattle.read_record.specs.declared.renderer.Rendered.TheVariants as rendered
 use Rattle.read_record.specs.declared.traced.Traced.{Traced}
 use Rattle.read_record.specs.declared.traced.Traced.TheVariants as traced
 use Rattle.render_workers.specs.Tallies.{times, Grows}
@@ -24,3 +27,9 @@ pub grows_traced : {M : Type 0} (t : Traced M) (name : ItemName) (names after : 
 grows_traced (traced.Entry kept) name names after is = (name ∷ [], is)
 grows_traced (traced.Needs j) name names after is = ([], is ∙ sym (append-nil names))
 grows_traced traced.Memory name names after is = ([], is ∙ sym (append-nil names))
+
+-- what a render adds
+pub grows_rendered : (r : Rendered) (name : ItemName) (names after : List ItemName) → after ≡ rendered_names r name names → Grows names after
+grows_rendered (rendered.Out outcome) name names after is = (name ∷ [], is)
+grows_rendered (rendered.Needs j) name names after is = ([], is ∙ sym (append-nil names))
+grows_rendered rendered.Memory name names after is = ([], is ∙ sym (append-nil names))

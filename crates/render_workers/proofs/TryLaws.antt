@@ -1,18 +1,21 @@
 -- One try at an item, whatever it comes to.
-use Rattle.std.proofs.Common.{◌≡◌, ℕ, ◌<◌, List, [], ◌∷◌, ◌++◌, length, get_or, append-nil, Option, Some, None, Result, Ok, Err, refl, ap, sym, ◌∙◌, subst}
-use Rattle.std.specs.Prelude.{IfSome, slice_get}
+use Rattle.std.proofs.Common.{◌≡◌, ℕ, ◌<◌, List, [], ◌∷◌, ◌++◌, length, get_or, append-nil, option_map, Option, Some, None, Result, Ok, Err, refl, ap, sym, ◌∙◌, subst}
+use Rattle.std.specs.Prelude.{IfSome, MatchOption, slice_get}
 use Rattle.std.proofs.lemmas.Option.{slice_get-get_or}
 use Rattle.std.specs.FinMap.{get}
 use Rattle.site_base.specs.declared.faults.SiteFault.{SiteFault}
 use Rattle.site_base.specs.declared.item_name.ItemName.{ItemName}
 use Rattle.read_record.specs.declared.key.Key.{Key}
 use Rattle.read_record.specs.declared.outcome.Outcome.{Outcome}
+use Rattle.read_record.specs.declared.outcome.Checked.{Checked}
 use Rattle.read_record.specs.declared.outcome.Checked.TheVariants as checked
 use Rattle.read_record.specs.Queries.{Query, View, interpret, needed_item}
-use Rattle.read_record.specs.Records.{first_other}
-use Rattle.read_record.specs.Outcomes.{Page}
+use Rattle.read_record.specs.Records.{first_other, Certifies}
+use Rattle.read_record.specs.Outcomes.{Page, met_of}
 use Rattle.read_record.specs.Entries.{Kept, Tells}
+use Rattle.read_record.proofs.RecordLaws.{carried}
 use Rattle.memo_table.specs.Entries.{Entries}
+use Rattle.memo_table.specs.Lending.{EntriesAndWorld}
 use Rattle.round_core.specs.Meant.{nameless, is_other, is_stale}
 use Rattle.round_core.specs.Steps.{Differs}
 use Rattle.render_workers.specs.declared.answers.Why.{Why}
@@ -23,7 +26,7 @@ use Rattle.render_workers.specs.declared.settling.Settled.{Settled}
 use Rattle.render_workers.specs.declared.settling.Settled.TheVariants as settled
 use Rattle.render_workers.specs.Folds.{counted, tree_too_long}
 use Rattle.render_workers.specs.Whys.{first_other_key, reason_of, why_for, why_of, why_names}
-use Rattle.render_workers.specs.Turns.{waits_at, waits_for, IsRendered, IsSettled, IsFault, IsAdded, IsAddedNew, IsTurn}
+use Rattle.render_workers.specs.Turns.{kept_in, with_check, IsFound, waits_at, waits_for, IsRendered, IsSettled, IsFault, IsAdded, IsAddedNew, IsTurn}
 use Rattle.render_workers.proofs.FoldLaws.{MissesNothing, waits-none}
 use Rattle.render_workers.proofs.WhyLaws.{why-differs, why-fresh}
 use Rattle.render_workers.proofs.KeepLaws.{kept-same}
@@ -56,13 +59,83 @@ module _ {M : Type 0} (view : View) (name : ItemName) (query : Query SiteFault P
       subst (λ k. IsSettled k view name query r before after) (sym is)
       (rendered (Some e) key r (place, differs) reason (ap (λ c. waits_at c (needed_item (interpret view query))) differs) h)
 
--- what is kept of an item differs, and it was rendered for that reason
-pub settled_anew : {M : Type 0} (o : Option ItemName) (n : ItemName) → o ≡ Some n → (view : View) (item : ItemName → Query SiteFault Page) (m : Entries) (e : Kept) (place : ℕ) (key : Key) (r : Settled M) (before after : List ItemName)
-    → get m n ≡ Some e → first_other e.reads view ≡ checked.Differs place → Some key ≡ first_other_key e.reads view → IfSome o (λ name. IsRendered view name (item name) (Some key) r before after)
-    → IfSome o (λ name. IsSettled (get m name) view name (item name) r before after)
-settled_anew o n is view item m e place key r before after kept differs reason h =
-    if-some (λ name. IsSettled (get m name) view name (item name) r before after) o n is
-    (rendered-anew view n (item n) before after (get m n) e place (Some key) r kept differs reason (of-some (λ name. IsRendered view name (item name) (Some key) r before after) o n is h))
+module _ (o : Option ItemName) (n : ItemName) (is : o ≡ Some n) (view : View) (m : Entries) where
+  -- what was found of an item is its entry, checked
+  pub found_right : (found : Option (Kept × Checked)) → MatchOption found (get m n ≡ None) (λ r. (get m n ≡ Some r.0) × (r.1 ≡ first_other r.0.reads view)) → IfSome found (λ r. r.0.name ≡ n)
+      → IfSome o (λ name. IfSome found (IsFound view name))
+  found_right None h named = if-some (λ name. IfSome None (IsFound view name)) o n is tt
+  found_right (Some r) h named = if-some (λ name. IfSome (Some r) (IsFound view name)) o n is (named, h.1)
+
+  found-kept : (found : Option (Kept × Checked)) → MatchOption found (get m n ≡ None) (λ r. (get m n ≡ Some r.0) × (r.1 ≡ first_other r.0.reads view)) → kept_in found ≡ get m n
+  found-kept None h = sym h
+  found-kept (Some r) h = sym h.0
+
+  -- and what came of it came of what is kept
+  pub settled_found : {M : Type 0} (item : ItemName → Query SiteFault Page) (found : Option (Kept × Checked)) (r : Settled M) (before after : List ItemName)
+      → MatchOption found (get m n ≡ None) (λ r. (get m n ≡ Some r.0) × (r.1 ≡ first_other r.0.reads view))
+      → IfSome o (λ name. IsSettled (kept_in found) view name (item name) r before after) → IfSome o (λ name. IsSettled (get m name) view name (item name) r before after)
+  settled_found item found r before after h settled =
+      if-some (λ name. IsSettled (get m name) view name (item name) r before after) o n is
+      (subst (λ k. IsSettled k view n (item n) r before after) (found-kept found h) (of-some (λ name. IsSettled (kept_in found) view name (item name) r before after) o n is settled))
+
+-- an entry with its check is what was found of it
+module _ (o : Option ItemName) (n : ItemName) (is : o ≡ Some n) (view : View) (m : Entries) (k : Option Kept) (c : Option Checked) (found : Option (Kept × Checked)) (entry : k ≡ get m n)
+    (checks : c ≡ option_map (λ e. first_other e.reads view) (get m n)) (both : found ≡ with_check k c) where
+  checked-found : (k : Option Kept) → MatchOption (with_check k (option_map (λ e. first_other e.reads view) k)) (k ≡ None) (λ r. (k ≡ Some r.0) × (r.1 ≡ first_other r.0.reads view))
+  checked-found None = refl
+  checked-found (Some e) = (refl, refl)
+
+  noted-found : MatchOption found (get m n ≡ None) (λ r. (get m n ≡ Some r.0) × (r.1 ≡ first_other r.0.reads view))
+  noted-found =
+      subst (λ f. MatchOption f (get m n ≡ None) (λ r. (get m n ≡ Some r.0) × (r.1 ≡ first_other r.0.reads view))) (sym (both ∙ (λ i. with_check (entry i) (checks i)))) (checked-found (get m n))
+
+  noted-named : IfSome k (λ e. e.name ≡ n) → IfSome found (λ r. r.0.name ≡ n)
+  noted-named h = subst (λ f. IfSome f (λ r. r.0.name ≡ n)) (sym both) (go k c h)
+    where
+      go : (k : Option Kept) (c : Option Checked) → IfSome k (λ e. e.name ≡ n) → IfSome (with_check k c) (λ r. r.0.name ≡ n)
+      go None c h = tt
+      go (Some e) None h = tt
+      go (Some e) (Some v) h = h
+
+  pub noted_right : IfSome k (λ e. e.name ≡ n) → IfSome o (λ name. IfSome found (IsFound view name))
+  noted_right named = found_right o n is view m found noted-found (noted-named named)
+
+  pub noted_settled : {M : Type 0} (item : ItemName → Query SiteFault Page) (r : Settled M) (before after : List ItemName)
+      → IfSome o (λ name. IsSettled (kept_in found) view name (item name) r before after) → IfSome o (λ name. IsSettled (get m name) view name (item name) r before after)
+  noted_settled item r before after settled = settled_found o n is view m item found r before after noted-found settled
+
+-- what came of an entry that was found
+module _ (names : List ItemName) (i : ℕ) (within : i < length names) (view : View) (found : Option (Kept × Checked)) (e : Kept) (c : Checked) (there : found ≡ Some (e, c))
+    (is : IfSome (slice_get names i) (λ name. IfSome found (IsFound view name))) where
+  its-name : slice_get names i ≡ Some (get_or names i nameless)
+  its-name = slice_get-get_or names i nameless within
+
+  found-there : IsFound view (get_or names i nameless) (e, c)
+  found-there =
+      of-some (IsFound view (get_or names i nameless)) found (e, c) there
+      (of-some (λ name. IfSome found (IsFound view name)) (slice_get names i) (get_or names i nameless) its-name is)
+
+  pub first_found : first_other e.reads view ≡ c
+  first_found = sym found-there.1
+
+  -- it agrees, and is kept
+  pub settled_kept : (M : Type 0) (item : ItemName → Query SiteFault Page) (tally : List ItemName) → c ≡ checked.Agrees → Certifies e.reads (item e.name) (met_of e.outcome)
+      → IfSome (slice_get names i) (λ name. IsSettled {M = M} (kept_in found) view name (item name) (settled.Kept e) tally tally)
+  settled_kept M item tally agrees certified =
+      let n = get_or names i nameless in
+      let own : e.name ≡ n = found-there.0 in
+      let certified' : Certifies e.reads (item n) (met_of e.outcome) = subst (λ m. Certifies e.reads (item m) (met_of e.outcome)) own certified in
+      let same : first_other e.reads view ≡ checked.Agrees = first_found ∙ agrees in
+      let tells : Tells view n (item n) e = record { named = own; outcome = carried e.reads view same (item n) (met_of e.outcome) certified'; agrees = same; certified = certified' } in
+      if-some (λ name. IsSettled {M = M} (kept_in found) view name (item name) (settled.Kept e) tally tally) (slice_get names i) n its-name (ap kept_in there, tells, refl)
+
+  -- it differs, and the item was rendered for that reason
+  pub settled_anew : {M : Type 0} (item : ItemName → Query SiteFault Page) (place : ℕ) (key : Key) (r : Settled M) (before after : List ItemName) → c ≡ checked.Differs place → Some key ≡ first_other_key e.reads view
+      → IfSome (slice_get names i) (λ name. IsRendered view name (item name) (Some key) r before after) → IfSome (slice_get names i) (λ name. IsSettled (kept_in found) view name (item name) r before after)
+  settled_anew item place key r before after differs reason h =
+      let n = get_or names i nameless in
+      if-some (λ name. IsSettled (kept_in found) view name (item name) r before after) (slice_get names i) n its-name
+      (rendered-anew view n (item n) before after (kept_in found) e place (Some key) r (ap kept_in there) (first_found ∙ differs) reason (of-some (λ name. IsRendered view name (item name) (Some key) r before after) (slice_get names i) n its-name h))
 
 -- ---- what joins the outcomes
 
@@ -145,6 +218,14 @@ module _ (o : Option ItemName) (view : View) (item : ItemName → Query SiteFaul
           → IfSome o (λ name. IsTurn view name (item name) r p q m m' before after)
       go (Some n) h = turn-new view n (item n) e h.1 p q m before after why m' r (why-differs (get m n) view n why h.0 h.2) (h.3 ∙ ap (λ (w : Why). before ++ w.name ∷ []) (sym h.2)) added
       go None h = h
+
+-- the world stays the one that is asked
+pub asks_on : {W : Type 0} (a b : EntriesAndWorld W) (w : W) → a ≡ b → b.world ≡ w → a.world ≡ w
+asks_on a b w same is = ap (λ (x : EntriesAndWorld _). x.world) same ∙ is
+
+-- and the entries are what it says
+pub keeps_on : {W : Type 0} (a b : EntriesAndWorld W) (m : Entries) → a ≡ b → b.entries ≡ m → a.entries ≡ m
+keeps_on a b m same is = ap (λ (x : EntriesAndWorld _). x.entries) same ∙ is
 
 -- where the view misses nothing, no item has to be done first
 pub never_waits : (names : List ItemName) (i : ℕ) → i < length names → (view : View) (item : ItemName → Query SiteFault Page) (m : Entries) (j : ℕ) (before after : List ItemName) → MissesNothing view

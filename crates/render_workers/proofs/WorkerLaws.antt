@@ -1,7 +1,8 @@
 -- What one worker makes of an item over what it knows is what the item comes to behind all items before it.
-use Rattle.std.proofs.Common.{◌≡◌, ℕ, ◌+◌, ◌<◌, List, [], ◌∷◌, ◌++◌, length, append_assoc, append-nil, get_or, Option, Some, None, refl, ap, sym, ◌∙◌, subst}
-use Rattle.std.specs.Prelude.{slice_get, IfSome, All}
+use Rattle.std.proofs.Common.{◌≡◌, ℕ, zero, suc, replicate, ◌+◌, ◌<◌, List, [], ◌∷◌, ◌++◌, length, append_assoc, append-nil, get_or, Option, Some, None, refl, ap, sym, ◌∙◌, subst}
+use Rattle.std.specs.Prelude.{slice_get, IfSome, MatchOption, All}
 use Rattle.std.specs.FinMap.{get}
+use Rattle.std.proofs.lemmas.List.{length-set, length-replicate}
 use Rattle.std.proofs.lemmas.Option.{get_or_from_slice_get, slice_get-get_or}
 use Rattle.std.proofs.lemmas.List.Elements.{All-append, All-push}
 use Rattle.atomic_table.specs.Seated.{TableId}
@@ -10,6 +11,7 @@ use Rattle.site_base.specs.declared.item_name.ItemName.{ItemName}
 use Rattle.read_record.specs.declared.outcome.Outcome.{Outcome}
 use Rattle.read_record.specs.declared.outcome.Agreement.{Agreement}
 use Rattle.read_record.specs.declared.outcome.Agreement.TheVariants as agreement
+use Rattle.read_record.specs.declared.outcome.Checked.{Checked}
 use Rattle.read_record.specs.declared.outcome.Checked.TheVariants as checked
 use Rattle.read_record.specs.Queries.{Query, View, Reply, Known, Missing, Reads}
 use Rattle.read_record.specs.Records.{agreement_of, checked_at, first_other_from}
@@ -20,7 +22,7 @@ use Rattle.memo_table.specs.Entries.{Entries}
 use Rattle.claim_table.specs.Seats.{Seated, finished, joined}
 use Rattle.round_core.specs.Meant.{Given, nameless, name_at, query_at, kept_at, entry_of, outcome_of, outs_below, view_at}
 use Rattle.round_core.specs.Facts.{AreMeant}
-use Rattle.round_core.specs.Hands.{Hand, hand_outs}
+use Rattle.round_core.specs.Hands.{Hand, hand_outs, taken}
 use Rattle.round_core.specs.Steps.{Differs}
 use Rattle.round_core.proofs.MeantLaws.{Within, outs_at, outcome_met, tells-meant, differs-meant}
 use Rattle.render_workers.specs.declared.answers.Why.{Why}
@@ -149,6 +151,29 @@ module _ {M : Type 0} where
     subst (λ (r : Part M). IsPart g table r.seat r.tally r.brought.items) (sym same) (subst (λ t. IsPart g table p.seat t p.brought.items) (sym told) part),
     (stays.0 ∙ hand.0, stays.1 hand.1),
   )
+
+-- a hand that knows nothing knows nothing wrong
+pub knows-nothing : (g : Given) (hand : Hand) → hand ≡ replicate (length g.names) None → IsHand g hand
+knows-nothing g hand is = (ap length is ∙ length-replicate (length g.names) None, λ i o e. absurd (nobody (length g.names) i o (ap (λ (h : Hand). hand_outs h i) (sym is) ∙ e)))
+  where
+    nobody : (n i : ℕ) (o : Outcome) → hand_outs (replicate n None) i ≡ Some o → ⊥
+    nobody zero zero o e = cc
+    nobody zero (suc i) o e = cc
+    nobody (suc n) zero o e = cc
+    nobody (suc n) (suc i) o e = nobody n i o e
+
+-- a hand has the same room once it took an entry
+pub takes : (c : Checked) (i : ℕ) (k : Kept) (old new : Hand) → new ≡ taken c i k old → length new ≡ length old
+takes c i k old new is = ap length is ∙ same c
+  where
+    same : (c : Checked) → length (taken c i k old) ≡ length old
+    same checked.Agrees = length-set old i (Some k)
+    same (checked.Differs place) = refl
+    same (checked.Needs j) = refl
+
+pub takes_kept : (r : Option Checked) (P : Type 0) (Q R : Kept → Checked → Type 0) (i : ℕ) (old new : Hand) → MatchOption r (P × (new ≡ old)) (λ c. (k : Kept) × Q k c × R k c × (new ≡ taken c i k old)) → length new ≡ length old
+takes_kept None P Q R i old new h = ap length h.1
+takes_kept (Some c) P Q R i old new h = takes c i h.0 old new h.3
 
 -- where an item has to wait, nothing was rendered
 pub waits-same : (names : List ItemName) (i : ℕ) → i < length names → (view : View) (item : ItemName → Query SiteFault Page) (m : Entries) (j : ℕ) (before after : List ItemName)

@@ -63,3 +63,7 @@ abbrev pub IsRound : Given → ℕ → Result Round RoundError → Entries → L
 IsRound g fixed (Ok round) kept before after = IsWhole g fixed round kept before after
 IsRound g fixed (Err (error.Fault f)) kept before after = IsStopped g fixed f kept before after
 IsRound g fixed (Err error.Memory) kept before after = Unit {0}
+
+-- a round that keeps nothing answers as one does that would leave these entries
+abbrev pub IsRoundAnew : Given → ℕ → Result Round RoundError → List ItemName → List ItemName → Type 0
+IsRoundAnew g fixed result before after = (entries : Entries) × IsRound g fixed result entries before after

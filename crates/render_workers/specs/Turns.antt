@@ -24,6 +24,21 @@ use Rattle.render_workers.specs.Whys.{reason_of, why_for, why_of, why_names}
 
 -- ---- one try
 
+-- an entry with what came of its check
+abbrev pub with_check : Option Kept → Option Checked → Option (Kept × Checked)
+with_check (Some entry) (Some checked) = Some (entry, checked)
+with_check (Some entry) None = None
+with_check None checked = None
+
+-- of what was found of an item, the entry
+abbrev pub kept_in : Option (Kept × Checked) → Option Kept
+kept_in None = None
+kept_in (Some found) = Some found.0
+
+-- an entry of this name, with the first key of it that the view does not give as it was seen
+abbrev pub IsFound : View → ItemName → Kept × Checked → Type 0
+IsFound view name found = (found.0.name ≡ name) × (found.1 ≡ first_other found.0.reads view)
+
 abbrev pub waits_at : Checked → Option ℕ → Option ℕ
 waits_at checked.Agrees needed = None
 waits_at (checked.Differs place) needed = needed
@@ -66,7 +81,17 @@ IsAdded name outcome (Ok u) old new = Adds name outcome old new
 IsAdded name outcome (Err (error.Fault f)) old new = counted outcome name old.bytes ≡ Err f
 IsAdded name outcome (Err error.Memory) old new = Unit {0}
 
--- the same of an item that was rendered anew, whose entry is kept
+-- the same of an item that was rendered anew for this reason
+pub record AddsRendered (name : ItemName) (outcome : Outcome) (told : Why) (old new : Progress) : Type 0 where
+  pub bytes : counted outcome name old.bytes ≡ Ok new.bytes
+  pub outs : new.outs ≡ old.outs ++ outcome ∷ []
+  pub why : new.why ≡ old.why ++ told ∷ []
+
+abbrev pub IsAddedRendered : ItemName → Outcome → Why → Result (Unit {0}) RoundError → Progress → Progress → Type 0
+IsAddedRendered name outcome why (Ok u) old new = AddsRendered name outcome why old new
+IsAddedRendered name outcome why (Err error) old new = IsAdded name outcome (Err error) old new
+
+-- the same, where its entry is kept
 pub record AddsNew (entry : Kept) (told : Why) (old new : Progress) (memo memo' : Entries) : Type 0 where
   pub bytes : counted entry.outcome entry.name old.bytes ≡ Ok new.bytes
   pub outs : new.outs ≡ old.outs ++ entry.outcome ∷ []
@@ -100,3 +125,7 @@ abbrev pub IsTurn : View → ItemName → Query SiteFault Page → Result (Unit 
 IsTurn view name query (Ok u) old new kept kept' before after = Turns view name query old new kept kept' before after
 IsTurn view name query (Err (error.Fault f)) old new kept kept' before after = Ends view name query f old kept kept' before after
 IsTurn view name query (Err error.Memory) old new kept kept' before after = Unit {0}
+
+-- an item was rendered of which nothing is kept, before and behind it: whatever is kept of others, it is a turn of one whose entry joins that
+abbrev pub IsTurnAnew : View → ItemName → Query SiteFault Page → Result (Unit {0}) RoundError → Progress → Progress → List ItemName → List ItemName → Type 0
+IsTurnAnew view name query result old new before after = (kept : Entries) → get kept name ≡ None → (kept' : Entries) × IsTurn view name query result old new kept kept' before after

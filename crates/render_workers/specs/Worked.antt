@@ -27,10 +27,10 @@ IsHand g hand = (length hand ≡ length g.names) × AreMeant g (hand_outs hand)
 abbrev pub StaysRight : Given → Hand → Hand → Type 0
 StaysRight g old new = (length new ≡ length old) × (AreMeant g (hand_outs old) → AreMeant g (hand_outs new))
 
-module _ {M : Type 0} where
-  abbrev pub IsWork : Given → TableId → Worker M → Type 0
-  IsWork g table w = IsPart g table w.part.seat w.part.tally w.part.brought.items × IsHand g w.hand
+abbrev pub IsWork : {M W : Type 0} → Given → TableId → Worker M W → Type 0
+IsWork g table w = IsPart g table w.part.seat w.part.tally w.part.brought.items × IsHand g w.hand
 
+module _ {M : Type 0} where
   -- what all workers bring back: no item is there twice
   abbrev pub IsGathered : Given → Part M → Type 0
   IsGathered g p = IsPart g p.seat.table p.seat p.tally p.brought.items × EachOnce p.seat.mine p.seat.done

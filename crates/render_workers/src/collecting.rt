@@ -11,10 +11,10 @@ ghost use Rattle.render_workers.specs.Worked.{IsGathered, IsWorked};
 use crate::part::{Part, Work};
 use crate::placing::{place_all, take_from};
 use crate::progress::Progress;
-use crate::serial::{add_new, closed, next_item};
+use crate::serial::{add_shared, closed, next_item};
 use crate::{Round, RoundError};
-use memo_table::Memo;
-use read_record::{ItemMeaning, Renderer, Tally, World};
+use memo_table::{Memo, NotedMemo};
+use read_record::{ItemMeaning, ReadShares, Renderer, Tally, World};
 use std::alloc::Global;
 
 #[tactic(auto, using(crate::proofs::TallyLaws::grows_none, crate::proofs::TallyLaws::grows_more, crate::proofs::TallyLaws::grows_traced))]
@@ -40,22 +40,29 @@ pub(crate) fn collect<R: Renderer, W: World>(
     let mut places = place_all(alloc, brought, world.items())?;
     tally.join(rendered)?;
     let mut progress = Progress::new(alloc, world.fixed_bytes());
+    let mut shares = ReadShares::new(alloc);
+    let mut noted = memo.noted(alloc, world)?;
     for item in 0..world.items() {
         let work = take_from(&mut places, item);
         match collect_next(
             alloc,
             renderer,
             world,
-            memo,
+            &mut noted,
             item,
             work,
             &mut progress,
             tally,
+            &mut shares,
         ) {
             Ok(()) => {}
-            Err(error) => return Err(error),
+            Err(error) => {
+                noted.give_back(memo);
+                return Err(error);
+            }
         }
     }
+    noted.give_back(memo);
     Ok(closed(world, memo, progress))
 }
 
@@ -65,25 +72,28 @@ fn collect_next<R: Renderer, W: World>(
     alloc: Global,
     renderer: &R,
     world: &W,
-    memo: &mut Memo<R::Meaning>,
+    noted: &mut NotedMemo<'_, R::Meaning, W>,
     item: u32,
     work: Option<Work<R::Meaning>>,
     progress: &mut Progress,
     tally: &mut Tally,
+    shares: &mut ReadShares,
 ) -> Result<(), RoundError>
+    requires world { noted.old.world ≡ world.now }
     requires item { item < length (W.names world.now) }
     requires done { AreDone item (slice_get progress.old.outs) }
     requires right { IfSome (slice_get (W.names world.now) item)
-        (λ name. IfSome work (IsRight (get memo.old name) (W.sight world.now item (slice_get progress.old.outs)) name (R.Meaning.item name))) }
+        (λ name. IfSome work (IsRight (get noted.old.entries name) (W.sight world.now item (slice_get progress.old.outs)) name (R.Meaning.item name))) }
+    ensures world { noted.new.world ≡ world.now }
     ensures grows { Grows tally.old tally.new }
     // With the name of an item that a worker rendered, the tally is as if it were rendered now.
     ensures turn { IfSome (slice_get (W.names world.now) item)
-        (λ name. IsTurn (W.sight world.now item (slice_get progress.old.outs)) name (R.Meaning.item name) result progress.old progress.new memo.old memo.new tally.old (tally.new ++ name_in work)) }
+        (λ name. IsTurn (W.sight world.now item (slice_get progress.old.outs)) name (R.Meaning.item name) result progress.old progress.new noted.old.entries noted.new.entries tally.old (tally.new ++ name_in work)) }
 {
     match work {
-        Some(Work::New(entry, why)) => add_new(alloc, memo, progress, entry, why),
-        Some(Work::Kept) => add_kept(alloc, world, memo, item, progress),
-        None => next_item(alloc, renderer, world, memo, item, progress, tally),
+        Some(Work::New(entry, why)) => add_shared(alloc, world, noted, progress, &entry, why),
+        Some(Work::Kept) => add_kept(alloc, world, noted, item, progress),
+        None => next_item(alloc, renderer, world, noted, item, progress, tally, shares),
     }
 }
 
@@ -91,17 +101,17 @@ fn collect_next<R: Renderer, W: World>(
 fn add_kept<M: ItemMeaning, W: World>(
     alloc: Global,
     world: &W,
-    memo: &Memo<M>,
+    noted: &NotedMemo<'_, M, W>,
     item: u32,
     progress: &mut Progress,
 ) -> Result<(), RoundError>
     requires item { item < length (W.names world.now) }
     requires right { IfSome (slice_get (W.names world.now) item)
-        (λ name. IsFresh (get memo.now name) (W.sight world.now item (slice_get progress.old.outs)) name (M.item name)) }
+        (λ name. IsFresh (get noted.now.entries name) (W.sight world.now item (slice_get progress.old.outs)) name (M.item name)) }
     ensures { IfSome (slice_get (W.names world.now) item)
-        (λ name. IsTurn (W.sight world.now item (slice_get progress.old.outs)) name (M.item name) result progress.old progress.new memo.now memo.now [] []) }
+        (λ name. IsTurn (W.sight world.now item (slice_get progress.old.outs)) name (M.item name) result progress.old progress.new noted.now.entries noted.now.entries [] []) }
 {
-    let Some(entry) = memo.entry(world.name(item)) else {
+    let Some(entry) = noted.entry(world.name(item)) else {
         // A worker kept it.
         unreachable!()
     };

@@ -5,7 +5,7 @@ ghost use Rattle.claim_table.specs.Seats.{finished};
 
 use crate::Why;
 use claim_table::{ClaimSeat, ClaimTable};
-use read_record::{Entry, ItemMeaning, Tally};
+use read_record::{ItemMeaning, SharedEntry, Tally};
 use site_base::Memory;
 use std::alloc::Global;
 
@@ -14,8 +14,8 @@ use std::alloc::Global;
 pub(crate) enum Work<M: ItemMeaning> {
     /// What is kept of it stays.
     Kept,
-    /// It was rendered anew.
-    New(Entry<M>, Why),
+    /// It was rendered anew. Its cell holds the same entry.
+    New(SharedEntry<M>, Why),
 }
 
 /// An item with what was made of it.

@@ -1,9 +1,9 @@
 // What the items so far came to.
-ghost use Rattle.std.specs.Prelude.{◌≡◌, ◌+◌, []};
+ghost use Rattle.std.specs.Prelude.{◌≡◌, ◌+◌, ◌≤◌, [], length};
 ghost use Rattle.render_workers.specs.Folds.{tree_sum, tree_too_long};
-ghost use Rattle.render_workers.specs.Turns.{IsAdded, IsFault};
+ghost use Rattle.render_workers.specs.Turns.{IsAdded, IsAddedRendered, IsFault};
 
-use crate::{Outcomes, RoundError, Whys};
+use crate::{Outcomes, Round, RoundError, Why, Whys};
 use read_record::{Finished, Outcome};
 use site_base::{FaultKind, ItemName, Sequence, SiteFault};
 use std::alloc::Global;
@@ -65,6 +65,40 @@ impl Progress {
             Outcome::Fault(fault) => Err(RoundError::Fault(fault)),
         }
     }
+
+    /// Adds what the next item came to, which was rendered for this reason, with the errors of `add`.
+    pub(crate) fn add_rendered(
+        &mut self,
+        alloc: Global,
+        name: &ItemName,
+        outcome: Outcome,
+        why: Why,
+    ) -> Result<(), RoundError>
+        ensures { IsAddedRendered name.now outcome why result self.old self.new }
+    {
+        match self.add(alloc, name, outcome) {
+            Ok(()) => {}
+            Err(error) => return Err(error),
+        }
+        self.why.push(why)?;
+        Ok(())
+    }
+}
+
+/// The round once all items are done, which are so many.
+pub(crate) fn round_of(progress: Progress, items: u32) -> Round
+    requires { length progress.why ≤ items }
+    ensures outs { result.outs ≡ progress.outs }
+    ensures why { result.why ≡ progress.why }
+    ensures reused { result.reused + length progress.why ≡ items }
+{
+    let Progress {
+        outs,
+        why,
+        bytes: _,
+    } = progress;
+    let reused = items - why.len() as u32;
+    Round { outs, reused, why }
 }
 
 /// The bytes with those of a page, unless no tree may have so many.

@@ -9,10 +9,10 @@ ghost use Rattle.render_workers.specs.Brought.{IsPart};
 use crate::cells::{Cells, has_fault};
 use crate::learning::{catch_up, fetch};
 use crate::part::{Part, Work};
-use crate::settling::{Settled, settle};
+use crate::settling::{Settled, settle_lent};
 use claim_table::{ClaimSeat, ClaimTable, Claimed};
-use memo_table::Memo;
-use read_record::{Finished, ItemMeaning, Renderer, World};
+use memo_table::{Lent, Memo};
+use read_record::{Finished, ItemMeaning, ReadShares, Renderer, SharedEntry, World};
 use round_core::{Hand, Made};
 use site_base::Memory;
 use std::alloc::Global;
@@ -20,9 +20,13 @@ use std::sync::Wait;
 
 /// A worker with what it has done and what it knows.
 #[derive(Drop)]
-struct Worker<'a, M: ItemMeaning> {
+struct Worker<'a, M: ItemMeaning, W: World> {
     part: Part<M>,
     hand: Hand<'a, M>,
+    /// What is kept, with notes of what was found of the world.
+    lent: Lent<'a, M, W>,
+    /// What the entries that it makes have read.
+    shares: ReadShares,
     /// The cells of the items below were looked at.
     looked_at: u32,
 }
@@ -55,7 +59,7 @@ fn go_through<'a, H: Wait, R: Renderer, W: World>(
     rt: &H,
     alloc: Global,
     renderer: &R,
-    world: &W,
+    world: &'a W,
     memo: &'a Memo<R::Meaning>,
     table: &ClaimTable,
     cells: &'a Cells<R::Meaning>,
@@ -68,6 +72,8 @@ fn go_through<'a, H: Wait, R: Renderer, W: World>(
     let mut worker = Worker {
         part: Part::new(alloc, seat),
         hand: Hand::new(alloc, world)?,
+        lent: memo.lend(alloc, world)?,
+        shares: ReadShares::new(alloc),
         looked_at: 0,
     };
     for item in 0..world.items() {
@@ -96,6 +102,8 @@ fn go_through<'a, H: Wait, R: Renderer, W: World>(
     let Worker {
         part,
         hand: _,
+        lent: _,
+        shares: _,
         looked_at: _,
     } = worker;
     Ok(part)
@@ -110,25 +118,29 @@ fn make<'a, H: Wait, R: Renderer, W: World>(
     memo: &'a Memo<R::Meaning>,
     table: &ClaimTable,
     cells: &'a Cells<R::Meaning>,
-    worker: &mut Worker<'a, R::Meaning>,
+    worker: &mut Worker<'a, R::Meaning, W>,
     item: u32,
 ) -> Result<(), Memory>
     requires item { item < length (W.names world.now) }
     requires mine { 0 < times item worker.old.part.seat.mine }
+    requires lent { worker.old.lent ≡ record { entries = memo.now; world = world.now } }
     requires work { IsWork (given_by (W.names world.now) (W.sight world.now) R.Meaning.item memo.now) table.now worker.old }
-    ensures { OnOk result (IsWork (given_by (W.names world.now) (W.sight world.now) R.Meaning.item memo.now) table.now worker.new) }
+    ensures lent { worker.new.lent ≡ record { entries = memo.now; world = world.now } }
+    ensures work { OnOk result (IsWork (given_by (W.names world.now) (W.sight world.now) R.Meaning.item memo.now) table.now worker.new) }
 {
     // The place of what is made of it, before anything is rendered into the tally.
     worker.part.brought.reserve(1)?;
     for _ in rt.forever() {
-        match settle(
+        match settle_lent(
             alloc,
             renderer,
             world,
             memo,
+            &mut worker.lent,
             item,
             &worker.hand,
             &mut worker.part.tally,
+            &mut worker.shares,
         ) {
             Settled::Kept(entry) => {
                 let shown = Box::new(alloc, Made::Kept)?;
@@ -138,8 +150,9 @@ fn make<'a, H: Wait, R: Renderer, W: World>(
                 return Ok(());
             }
             Settled::New(entry, why) => {
-                let shown = Box::new(alloc, Made::New(entry.copy(alloc)?))?;
-                let has_fault = has_fault(entry.outcome());
+                let entry = SharedEntry::new(alloc, entry)?;
+                let shown = Box::new(alloc, Made::New(entry.share()?))?;
+                let has_fault = has_fault(entry.as_entry().outcome());
                 worker.part.add(table, item, Work::New(entry, why))?;
                 cells.show(rt, world, memo, &worker.hand, item, shown, has_fault);
                 return Ok(());
@@ -161,12 +174,14 @@ fn learn<'a, H: Wait, M: ItemMeaning, W: World>(
     world: &W,
     memo: &'a Memo<M>,
     cells: &'a Cells<M>,
-    worker: &mut Worker<'a, M>,
+    worker: &mut Worker<'a, M, W>,
     needed: u32,
     reader: u32,
 ) -> bool
     requires reader { reader < length (W.names world.now) }
     requires room { length worker.old.hand ≡ length (W.names world.now) }
+    requires lent { worker.old.lent ≡ record { entries = memo.now; world = world.now } }
+    ensures lent { worker.new.lent ≡ record { entries = memo.now; world = world.now } }
     ensures part { worker.new.part ≡ worker.old.part }
     ensures hand { StaysRight (given_by (W.names world.now) (W.sight world.now) M.item memo.now) worker.old.hand worker.new.hand }
 {
@@ -177,6 +192,7 @@ fn learn<'a, H: Wait, M: ItemMeaning, W: World>(
     catch_up(
         world,
         memo,
+        &mut worker.lent,
         cells,
         &mut worker.hand,
         worker.looked_at,
@@ -186,6 +202,15 @@ fn learn<'a, H: Wait, M: ItemMeaning, W: World>(
     match worker.hand.done(needed) {
         // An item that needs one with a fault is never done.
         Some(outcome) => !has_fault(outcome),
-        None => fetch(rt, world, memo, cells, &mut worker.hand, needed, reader),
+        None => fetch(
+            rt,
+            world,
+            memo,
+            &mut worker.lent,
+            cells,
+            &mut worker.hand,
+            needed,
+            reader,
+        ),
     }
 }

@@ -6,11 +6,11 @@ ghost use Rattle.render_workers.specs.Tallies.{Grows};
 ghost use Rattle.render_workers.specs.Worked.{IsWorked};
 
 use crate::collecting::collect;
-use crate::serial::regenerate_serial;
+use crate::serial::{let_go, never_waits, regenerate_serial};
 use crate::spreading::work_all;
 use crate::{Round, RoundError};
 use memo_table::Memo;
-use read_record::{ItemMeaning, Renderer, Tally, World};
+use read_record::{Renderer, Tally, World};
 use std::alloc::Global;
 use std::sync::Wait;
 use std::thread::Threads;
@@ -45,7 +45,7 @@ where
         return regenerate_serial(alloc, renderer, world, memo, tally);
     }
     let round = by_many(rt, alloc, renderer, world, memo, jobs, tally);
-    memo.forget_replaced();
+    let_go(memo);
     round
 }
 
@@ -66,8 +66,3 @@ where
     let all = work_all(rt, alloc, renderer, world, memo, jobs)?;
     collect(alloc, renderer, world, memo, all, tally)
 }
-
-// A law of worlds, which takes no time: rendering one item after another never waits for an item.
-fn never_waits<M: ItemMeaning, W: World>(world: &W, memo: &Memo<M>)
-    ensures { IsTold (fold_of (given_by (W.names world.now) (W.sight world.now) M.item memo.now) (W.fixed world.now)) }
-{}

@@ -1,7 +1,6 @@
 -- What a hand knows once an entry was taken.
-use Rattle.std.proofs.Common.{◌≡◌, ◌⊎◌, inl, inr, ℕ, zero, suc, length, map, replicate, set, List, [], ◌∷◌, Option, Some, None, refl, ap, sym, ◌∙◌, subst}
+use Rattle.std.proofs.Common.{◌≡◌, ◌⊎◌, inl, inr, ℕ, set, Option, Some, None, refl, ap, sym, ◌∙◌, subst}
 use Rattle.std.specs.Prelude.{slice_get}
-use Rattle.std.specs.Option.{option_map}
 use Rattle.std.proofs.lemmas.Option.{get_or_from_slice_get}
 use Rattle.read_record.specs.declared.outcome.Outcome.{Outcome}
 use Rattle.read_record.specs.declared.outcome.Checked.{Checked}
@@ -10,23 +9,12 @@ use Rattle.read_record.specs.Records.{first_other, Certifies}
 use Rattle.read_record.specs.Outcomes.{met_of}
 use Rattle.read_record.specs.Worlds.{Lawful}
 use Rattle.read_record.specs.Entries.{Kept}
+use Rattle.read_record.proofs.PlaceLaws.{get-set}
 use Rattle.read_record.proofs.RecordLaws.{carried}
 use Rattle.round_core.specs.Meant.{Given, nameless, name_at, query_at, meant}
 use Rattle.round_core.specs.Facts.{AreMeant}
 use Rattle.round_core.specs.Hands.{Hand, flat, outcome_in, hand_outs, taken}
 use Rattle.round_core.proofs.MeantLaws.{met-meant}
-
--- what stands at a place after a change stood there, or is the new one
-get-set : {A : Type 0} (xs : List A) (i j : ℕ) (a x : A) → slice_get (set xs i a) j ≡ Some x → (slice_get xs j ≡ Some x) ⊎ ((j ≡ i) × (a ≡ x))
-get-set [] i j a x h = inl h
-get-set (y ∷ ys) zero zero a x h = inr (refl, cc)
-get-set (y ∷ ys) zero (suc j) a x h = inl h
-get-set (y ∷ ys) (suc i) zero a x h = inl h
-get-set (y ∷ ys) (suc i) (suc j) a x h = go (get-set ys i j a x h)
-  where
-    go : (slice_get ys j ≡ Some x) ⊎ ((j ≡ i) × (a ≡ x)) → (slice_get ys j ≡ Some x) ⊎ ((suc j ≡ suc i) × (a ≡ x))
-    go (inl e) = inl e
-    go (inr e) = inr (ap suc e.0, e.1)
 
 found-in : (o : Option (Option Kept)) (x : Outcome) → outcome_in (flat o) ≡ Some x → (k : Kept) × (o ≡ Some (Some k)) × (k.outcome ≡ x)
 found-in (Some (Some k)) x h = (k, refl, cc)

@@ -1,11 +1,13 @@
 // What one worker knows.
-ghost use Rattle.std.specs.Prelude.{◌≡◌, ◌<◌, Some, None, IfOk, length, replicate, slice_get};
+ghost use Rattle.std.specs.Prelude.{◌≡◌, ◌<◌, Some, None, IfOk, MatchOption, length, replicate, slice_get};
 ghost use Rattle.read_record.specs.Records.{first_other};
 ghost use Rattle.memo_table.specs.Entries.{Entries};
-ghost use Rattle.round_core.specs.Meant.{given_by};
+ghost use Rattle.read_record.specs.Entries.{Kept};
+ghost use Rattle.round_core.specs.Meant.{given_by, kept_in};
 ghost use Rattle.round_core.specs.Facts.{AreMeant};
 ghost use Rattle.round_core.specs.Hands.{hand_outs, taken};
 
+use memo_table::Lent;
 use read_record::{Checked, Finished, ItemMeaning, KeptEntry, Outcome, World};
 use site_base::Memory;
 use std::alloc::Global;
@@ -60,12 +62,45 @@ impl<'a, M: ItemMeaning> Hand<'a, M> {
         // The name tells that the entry is certified.
         let _name = kept.name();
         let checked = kept.check(world, item, self);
+        self.know(item, kept, checked);
+        checked
+    }
+
+    /// Checks what a memo that is lent has under the name of an item, which is not known, over what is known, without looking up again
+    /// what was found before: it is known from here on exactly where its record agrees. `None` tells that the memo has nothing under the
+    /// name. It takes no memory.
+    pub fn take_kept<W: World>(&mut self, lent: &mut Lent<'a, M, W>, item: u32) -> Option<Checked>
+        requires world { length self.old ≡ length (W.names lent.old.world) }
+        requires item { item < length (W.names lent.old.world) }
+        requires unknown { slice_get self.old item ≡ Some None }
+        ensures lent { lent.new ≡ lent.old }
+        ensures taken { MatchOption result ((kept_in (W.names lent.old.world) lent.old.entries item ≡ None) × (self.new ≡ self.old))
+            (λ checked. (kept : Kept) × (kept_in (W.names lent.old.world) lent.old.entries item ≡ Some kept) × (checked ≡ first_other kept.reads (W.sight lent.old.world item (hand_outs self.old))) × (self.new ≡ taken checked item kept self.old)) }
+        ensures right { (entries : Entries) → let given = given_by (W.names lent.old.world) (W.sight lent.old.world) M.item entries in
+            AreMeant given (hand_outs self.old) → AreMeant given (hand_outs self.new) }
+    {
+        let world = lent.world();
+        match lent.checked(world.name(item), item, self) {
+            Some((kept, checked)) => {
+                // The name tells that the entry is certified.
+                let _name = kept.name();
+                self.know(item, kept, checked);
+                Some(checked)
+            }
+            None => None,
+        }
+    }
+
+    /// An entry that was checked is known where it agrees.
+    fn know(&mut self, item: u32, kept: KeptEntry<'a, M>, checked: Checked)
+        requires { item < length self.old }
+        ensures { self.new ≡ taken checked item kept.entry self.old }
+    {
         match checked {
             Checked::Agrees => self.entries[item as usize] = Some(kept),
             Checked::Differs(_) => {}
             Checked::Needs(_) => {}
         }
-        checked
     }
 }
 

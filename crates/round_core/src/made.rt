@@ -1,10 +1,11 @@
 // What cells hold.
-use read_record::{Entry, ItemMeaning};
+use read_record::{ItemMeaning, SharedEntry};
 
 /// What a cell holds.
 #[derive(Drop)]
 pub enum Made<M: ItemMeaning> {
     /// The entry that is kept under the item's name.
     Kept,
-    New(Entry<M>),
+    /// An entry that was made, which others share.
+    New(SharedEntry<M>),
 }

@@ -38,7 +38,7 @@ pub(crate) fn cell_entry<'a, M: ItemMeaning, W: World>(
     match core.cell(item) {
         None => None,
         Some(Made::Kept) => kept(world, memo, item),
-        Some(Made::New(entry)) => Some(KeptEntry::whole(entry)),
+        Some(Made::New(entry)) => Some(KeptEntry::whole(entry.as_entry())),
     }
 }
 

@@ -1,16 +1,19 @@
 // One event.
-ghost use Rattle.std.specs.Prelude.{◌≡◌, ◌<◌, Some, None, IfSome, length};
+ghost use Rattle.std.specs.Prelude.{◌≡◌, ◌<◌, Some, None, IfSome, OnOk, length};
 ghost use Rattle.read_record.specs.Records.{Certifies};
 ghost use Rattle.read_record.specs.Outcomes.{met_of};
 ghost use Rattle.round_core.specs.Meant.{given_by, kept_at};
-ghost use Rattle.round_core.specs.States.{at, outs};
+ghost use Rattle.round_core.specs.States.{at, outs, with_cell};
 ghost use Rattle.round_core.specs.Steps.{Differs, IsStepped, OnDone};
 ghost use Rattle.round_core.specs.Facts.{KeptCertified};
 
 use crate::outs::{Outs, cell_entry, kept};
 use crate::{Core, Event, Made};
 use memo_table::Memo;
-use read_record::{Checked, ItemMeaning, Renderer, Tally, Traced, World, render_traced};
+use read_record::{
+    Checked, Entry, ItemMeaning, Renderer, SharedEntry, Tally, Traced, World, render_traced,
+};
+use site_base::Memory;
 use std::alloc::Global;
 
 /// What an event came to.
@@ -108,6 +111,19 @@ pub(crate) fn keep<M: ItemMeaning, W: World>(
     }
 }
 
+/// Sets the cell of an item to an entry that was made.
+fn set_cell<M: ItemMeaning>(
+    alloc: Global,
+    core: &mut Core<M>,
+    item: u32,
+    entry: Entry<M>,
+) -> Result<(), Memory>
+    ensures { OnOk result (core.new ≡ with_cell item (Made.New entry) core.old) }
+{
+    let shared = SharedEntry::new(alloc, entry)?;
+    core.add_cell(item, Made::New(shared))
+}
+
 /// Renders an item that may be finished, and sets its cell.
 fn render<R: Renderer, W: World>(
     alloc: Global,
@@ -127,7 +143,7 @@ fn render<R: Renderer, W: World>(
     let mut tally = Tally::new(alloc);
     let outs = Outs::new(round.world, round.memo, core, worker);
     match render_traced(alloc, renderer, round.world, item, &outs, &mut tally) {
-        Traced::Entry(entry) => match core.add_cell(item, Made::New(entry)) {
+        Traced::Entry(entry) => match set_cell(alloc, core, item, entry) {
             Ok(()) => Stepped::Done,
             Err(_) => Stepped::Memory,
         },

@@ -215,3 +215,45 @@ const TURNED: Row = Row {
 fn keeps_all_items_of_a_site(rt: HostRuntime) {
     assert!(rt; comes_out(rt.alloc(), &TURNED));
 }
+
+/// How many ids the pool of codes holds once these were kept, and only the items of a site stay.
+fn held(alloc: Global, keeps: &[Keep], stays: &str) -> Result<u128, Memory> {
+    let mut memo = kept(alloc, keeps)?;
+    forget(alloc, &mut memo, stays)?;
+    Ok(memo.pool().codes().holds())
+}
+
+#[test]
+fn what_is_forgotten_leaves_no_code(rt: HostRuntime) {
+    assert!(rt; matches!(held(rt.alloc(), THREE_SITES, "d.html"), Ok(0)));
+}
+
+/// A memo to which so many entries of one item came.
+fn kept_again(alloc: Global, times: u32) -> Result<Memo<SampleItems>, Memory> {
+    let mut memo = Memo::new(alloc);
+    for variable in 0..times {
+        memo.merge(alloc, first_entry(alloc, "a.html", i64::from(variable))?)?;
+    }
+    Ok(memo)
+}
+
+/// How many keys the entry of the first item has read.
+fn reads(alloc: Global, memo: &Memo<SampleItems>) -> Result<u64, Memory> {
+    let name = name_at(alloc, "a.html", 0)?;
+    match memo.entry(&name) {
+        Some(entry) => Ok(entry.len()),
+        None => Ok(0),
+    }
+}
+
+/// Whether the pool holds one id for each read of the last of so many entries of one item.
+fn holds_the_last(alloc: Global, times: u32) -> Result<bool, Memory> {
+    let mut memo = kept_again(alloc, times)?;
+    let reads = reads(alloc, &memo)?;
+    Ok(reads > 0 && memo.pool().codes().holds() == u128::from(reads))
+}
+
+#[test]
+fn the_pool_holds_the_reads_of_the_last_entry_alone(rt: HostRuntime) {
+    assert!(rt; matches!(holds_the_last(rt.alloc(), 10_000), Ok(true)));
+}

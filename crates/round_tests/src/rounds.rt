@@ -409,7 +409,7 @@ fn is_made(core: &Core<ThreeItems>, item: u32, output: &str) -> bool {
 fn is_new(made: &Made<ThreeItems>, want: &str) -> bool {
     match made {
         Made::Kept => false,
-        Made::New(entry) => is_output(entry.outcome(), want),
+        Made::New(entry) => is_output(entry.as_entry().outcome(), want),
     }
 }
 

@@ -1,4 +1,4 @@
-use Rattle.read_record.proofs.StoreLaws.{leaves-all, leaves-none}
+use Rattle.read_record.proofs.StoreLaws.{leaves-all}
 use Rattle.memo_table.specs.Stored.{all_reads}
 use Rattle.memo_table.proofs.StoredLaws.{last-there, leaves-last}
 use Rattle.memo_table.proofs.releasing.release_all.Goals as goal

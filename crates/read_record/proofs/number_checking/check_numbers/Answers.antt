@@ -1,8 +1,8 @@
-use Rattle.std.proofs.Common.{◌≡◌, ◌≤◌, Some, length, slice_get, sym, ◌∙◌, arith}
+use Rattle.std.proofs.Common.{◌≡◌, ◌≤◌, length, sym, arith}
 use Rattle.read_record.specs.declared.outcome.Checked.TheVariants as checked
 use Rattle.read_record.specs.Stores.{resolved}
 use Rattle.read_record.specs.Records.{first_other}
-use Rattle.read_record.proofs.StoreLaws.{has_at, resolved-at, length-resolved}
+use Rattle.read_record.proofs.StoreLaws.{has_at, lent-at, length-resolved}
 use Rattle.read_record.proofs.PlaceLaws.{next-place, no-more}
 use Rattle.read_record.proofs.RecordLaws.{carried, carried-missed}
 use Rattle.read_record.proofs.number_checking.check_numbers.Goals as goal
@@ -19,9 +19,7 @@ returns-in-Other-clause-first g c =
     let reads = resolved c.args.store.now c.args.reads.now in
     let key = c.key.result.now in
     let code = c.code.result.now in
-    let at : slice_get reads c.loop-place.place ≡ Some (key, code) =
-    resolved-at c.args.store.now c.args.reads.now c.loop-place.place c.at-read.result.now c.at-read.ensures ∙ (λ i. Some (sym c.key.ensures i, sym c.code.ensures i))
-    in
+    let at = lent-at c.args.store.now c.args.reads.now c.loop-place.place c.at-read.result.now key code c.at-read.ensures c.key.ensures c.code.ensures in
     sym (next-place reads view c.loop-place.place key code at c.loop-place.invariant _ c.in-Other.ensures)
 
 pub returns-in-Needs-clause-first : goal.returns-in-Needs-clause-first
@@ -30,9 +28,7 @@ returns-in-Needs-clause-first g c =
     let reads = resolved c.args.store.now c.args.reads.now in
     let key = c.key.result.now in
     let code = c.code.result.now in
-    let at : slice_get reads c.loop-place.place ≡ Some (key, code) =
-    resolved-at c.args.store.now c.args.reads.now c.loop-place.place c.at-read.result.now c.at-read.ensures ∙ (λ i. Some (sym c.key.ensures i, sym c.code.ensures i))
-    in
+    let at = lent-at c.args.store.now c.args.reads.now c.loop-place.place c.at-read.result.now key code c.at-read.ensures c.key.ensures c.code.ensures in
     sym (next-place reads view c.loop-place.place key code at c.loop-place.invariant _ c.in-Needs.ensures)
 
 pub loop-place-preserved : goal.loop-place-preserved
@@ -41,9 +37,7 @@ loop-place-preserved g c =
     let reads = resolved c.args.store.now c.args.reads.now in
     let key = c.key.result.now in
     let code = c.code.result.now in
-    let at : slice_get reads c.loop-place.place ≡ Some (key, code) =
-    resolved-at c.args.store.now c.args.reads.now c.loop-place.place c.at-read.result.now c.at-read.ensures ∙ (λ i. Some (sym c.key.ensures i, sym c.code.ensures i))
-    in
+    let at = lent-at c.args.store.now c.args.reads.now c.loop-place.place c.at-read.result.now key code c.at-read.ensures c.key.ensures c.code.ensures in
     next-place reads view c.loop-place.place key code at c.loop-place.invariant _ c.in-Same.ensures
 
 pub returns-clause-carries : goal.returns-clause-carries

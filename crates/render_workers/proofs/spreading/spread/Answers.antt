@@ -9,6 +9,7 @@ use Rattle.render_workers.proofs.spreading.spread.Goals as goal
 pub map_vec-requires-send-X : goal.map_vec-requires-send-X
 map_vec-requires-send-X g c κs within =
     let s = c.type_bounds.send-R-Meaning in
+    let y = c.type_bounds.sync-R-Meaning in
     search (part_send, part_field_send, Memory.the_send, heap.crosses, sendable) depth 60 fits 20000
 
 pub map_vec-requires-sync-F : goal.map_vec-requires-sync-F

@@ -1,4 +1,4 @@
-use Rattle.std.proofs.Common.{◌≡◌, Some, None, option_map, sym, subst, ap, ◌∙◌}
+use Rattle.std.proofs.Common.{Some, option_map, sym, ap, ◌∙◌}
 use Rattle.std.specs.FinMap.{get}
 use Rattle.read_record.specs.Entries.{Kept}
 use Rattle.read_record.specs.Numbered.{entry_in}

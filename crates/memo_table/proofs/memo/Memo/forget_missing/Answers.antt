@@ -14,7 +14,7 @@ invariant_of-self g c =
 
 pub returns : goal.returns
 returns g c =
-    c.forget_replaced.ensures
+    c.pool.follows.holds-at-none
     ∙ left-map g.M.ItemMeaning.item (g.W.World.names c.args.world.now) c.self.inside.store c.release_behind.new.store c.self.inside.entries.entries c.gather-gathered.new.values.entries c.release_behind.new.entries.entries
     c.gather-gathered.result c.self.inside.replaced.items c.self.invariant c.gather-gathered.ensures.moved c.gather-gathered.ensures.front c.release_behind.ensures.front c.release_behind.ensures.given
     ∙ ap (of_names (g.W.World.names c.args.world.now)) c.self.view_is

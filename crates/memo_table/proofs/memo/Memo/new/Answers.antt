@@ -1,6 +1,6 @@
 use Rattle.std.proofs.Common.{◌≡◌, [], subst, sym, ap}
 use Rattle.std.specs.FinMap.{empty}
-use Rattle.memo_table.specs.Entries.{Entries, AreCertified, AreNamed}
+use Rattle.memo_table.specs.Entries.{AreCertified, AreNamed}
 use Rattle.memo_table.specs.NameKeys.{as_map}
 use Rattle.memo_table.specs.Stored.{Listed, resolved_all, no_reads, HoldsJust}
 use Rattle.memo_table.proofs.EntryLaws.{certified-empty, named-empty}

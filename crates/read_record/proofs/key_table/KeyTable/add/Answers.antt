@@ -1,4 +1,4 @@
-use Rattle.std.proofs.Common.{◌≡◌, ◌+◌, ◌∷◌, [], None, Some, refl, sym, ap, subst, ◌∙◌}
+use Rattle.std.proofs.Common.{◌≡◌, ◌∷◌, [], None, Some, refl, sym, ap, subst, ◌∙◌}
 use Rattle.slab.specs.Slab.{Slab, Updates, get}
 use Rattle.read_record.specs.declared.key_table.KeySlot.{KeySlot}
 use Rattle.read_record.specs.declared.shared_key.TableKey.{TableKey}
@@ -22,9 +22,9 @@ all c =
     updates_from slots c.reserve.new.self c.insert_reserved.new.self number (Some slot) kept
     (subst (λ k. Updates c.reserve.new.self c.insert_reserved.new.self k (Some slot)) (c.insert_reserved.ensures.key ∙ sym c.vacant_key-number.ensures.value) c.insert_reserved.ensures.updates)
     in (
-      leads-added c.self.inside.numbers.entries c.insert.new.self.entries slots c.insert_reserved.new.self number slot key c.self.invariant free up (sym c.in_ok-share.ensures) c.in_ok-insert.ensures.updates.0,
+      leads-added c.self.inside.numbers.entries c.insert.new.self.entries slots c.insert_reserved.new.self number slot key c.self.invariant free up (c.in_ok-shared.ensures ∙ sym c.in_ok-share.ensures) c.in_ok-insert.ensures.updates.0,
       added_first slots c.insert_reserved.new.self number slot free up refl,
-      key_there slots c.insert_reserved.new.self number slot up ∙ c.in_ok-shared.ensures ∙ c.in_ok-copy.ensures,
+      key_there slots c.insert_reserved.new.self number slot up ∙ c.in_ok-shared.ensures,
     )
 
 pub invariant_of-self-2 : goal.invariant_of-self-2

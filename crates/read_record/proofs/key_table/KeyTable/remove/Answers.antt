@@ -1,4 +1,4 @@
-use Rattle.std.proofs.Common.{◌≡◌, ◌<◌, ◌∷◌, [], refl, sym, ap, subst, ◌∙◌, arith}
+use Rattle.std.proofs.Common.{◌≡◌, ◌∷◌, [], refl, sym, ap, subst, ◌∙◌, arith}
 use Rattle.read_record.specs.Stores.{held_keys, uses_of, HoldsMore}
 use Rattle.read_record.specs.KeyLayout.{as_keys}
 use Rattle.read_record.proofs.KeyTableLaws.{slot-held, leads-removed, left-after, last_gone, uses-in}

@@ -1,4 +1,4 @@
-use Rattle.std.proofs.Common.{◌≡◌, ◌∷◌, List, [], length, sym, subst, arith}
+use Rattle.std.proofs.Common.{◌≡◌, length, sym, subst, arith}
 use Rattle.read_record.specs.Stores.{Numbers, Has}
 use Rattle.read_record.proofs.StoreLaws.{Leaves, leaves-all, leaves-one, leaves-none, has_first, no_items}
 use Rattle.read_record.proofs.numbered.NumberedRecord.release.Goals as goal

@@ -24,4 +24,4 @@ returns-in-Err-clause-err c =
 pub loop-place-preserved : goal.loop-place-preserved
 loop-place-preserved c =
     let e = c.in-Ok.ensures.ok in
-    numbered-one c.args.self.now c.args.store.now c.loop-place.store c.add.new.store c.loop-place.numbered c.add.new.self c.loop-place.place c.at.result.0.now c.at.result.1.now e.0 c.at.ensures c.loop-place.invariant.0 c.loop-place.invariant.1 e.2 e.3 e.1
+    numbered-one c.args.self.now c.args.store.now c.loop-place.store c.add.new.store c.loop-place.numbered c.add.new.self c.loop-place.place c.read_at.result.now.0 c.read_at.result.now.1 e.0 c.read_at.ensures c.loop-place.invariant.0 c.loop-place.invariant.1 e.2 e.3 e.1
