@@ -1,18 +1,21 @@
 -- How one build from nothing ends, by the place at which it ends.
 use Rattle.std.proofs.Common.{◌≡◌, ◌∙◌, ◌⊎◌, inl, inr, ℕ, ◌+◌, ◌-◌, ◌^◌, ◌≤◌, min, Bool, false, List, [], ◌++◌, take, refl, sym, ap, subst, Option, Some, None, Result, Ok, Err, append_assoc, arith}
 use Rattle.std.proofs.lemmas.List.{append-nil}
+use Rattle.std.specs.FinMap.{empty, entries}
 use Rattle.out_tree.specs.declared.step.Call.{Call}
 use Rattle.site_base.specs.Ends.{Rose}
 use Rattle.site_base.specs.Places.{Files}
 use Rattle.site_base.specs.declared.errors.Memory.{Memory}
+use Rattle.site_base.specs.declared.faults.SiteFault.{SiteFault}
 use Rattle.site_base.specs.declared.item_name.ItemName.{ItemName}
+use Rattle.source_tree.specs.Scan.{scan_fault}
 use Rattle.site_script.specs.declared.line.Line.TheVariants as line
 use Rattle.site_session.specs.Bytes.{reply_bytes}
 use Rattle.site_session.specs.Makes.{IsShort}
 use Rattle.site_session.specs.Rebuilds.{Rebuilds}
 use Rattle.site_session.specs.Replies.{LineLeaves, LineSpares, built_reply}
 use Rattle.site_session.specs.Rounds.{in_any_order}
-use Rattle.site_session.specs.Session.{Given, Answers, source_failures}
+use Rattle.site_session.specs.Session.{Given, Answers, Event, Nothing, TheScan, TheList, TheSteps, event_of, scan, source_failures}
 use Rattle.site_session.specs.Standing.{Standing, Holds}
 use Rattle.site_session.specs.Scenes.{OutputSeen, Scene, SourceSeen, output_seen}
 use Rattle.site_session.specs.declared.build.Rebuilt.{Rebuilt}
@@ -168,6 +171,31 @@ module _ {S D : Type 0} (first opened : Standing) (is_first : opened ≡ first) 
 
       bytes_by : (given : Given) (before : List ℕ) → given.why ≡ why → was.sink.taken ≡ Some before → sink.taken ≡ Some (before ++ reply_bytes given.why reply)
       bytes_by given before w at = t.bytes before at ∙ ap (λ b. Some (before ++ reply_bytes b reply)) (sym w)
+
+-- a scan keeps what is kept
+scan-keeps : (given : Given) (now : Standing) (fault : Option SiteFault) (event : Event) → (scan given now fault event).0.kept ≡ now.kept
+scan-keeps given now None Nothing = refl
+scan-keeps given now None TheScan = refl
+scan-keeps given now None TheList = refl
+scan-keeps given now None (TheSteps paths) = refl
+scan-keeps given now (Some fault) Nothing = refl
+scan-keeps given now (Some fault) TheScan = refl
+scan-keeps given now (Some fault) TheList = refl
+scan-keeps given now (Some fault) (TheSteps paths) = refl
+
+-- so a session that kept no renders stands as one that keeps none
+pub told_bare : {S : Type 0} (why : Bool) (old new : Standing) (source source' : SourceSeen S) (taken taken' : Option (List ℕ)) (reply : Reply) → old.kept ≡ empty → ScanTold why old new source source' taken taken' reply
+    → ScanTold why old (record new { kept = empty }) source source' taken taken' reply
+told_bare why old new source source' taken taken' reply none t = record {
+  answers = λ given src.
+      let told = t.answers given src in
+      let kept_is : new.kept ≡ empty = ap (λ (p : Standing × Reply). p.0.kept) (sym told) ∙ scan-keeps given old (scan_fault (entries given.source)) (event_of reply) ∙ none in
+      told ∙ (λ i. (record new { kept = kept_is i }, reply));
+  bytes = t.bytes;
+  quiet = t.quiet;
+  belief = t.belief;
+  left = t.left;
+}
 
 -- once a build follows
 module _ {S D : Type 0} (first opened : Standing) (is_first : opened ≡ first) (unlisted : first.belief ≡ None) (why : Bool) (contents : D → Option Files) (calls : D → Option (List Call)) (failures : D → ℕ)

@@ -49,7 +49,7 @@ pub(crate) fn build_one_by_one<
         Reply::Scanned(_) => {}
         other => return status_of(other),
     }
-    let rebuilt = session.rebuild_serial(alloc, out, renderer, tally);
+    let rebuilt = session.build_once(alloc, out, renderer, tally);
     match tell_build(alloc, options.why, rebuilt, sink) {
         Ok(reply) => status_of(reply),
         Err(stop) => stop.status(),

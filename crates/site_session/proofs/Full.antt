@@ -27,7 +27,7 @@ use Rattle.site_reader.specs.declared.site_error.SiteError.{SiteError}
 use Rattle.site_reader.specs.declared.site_error.SiteError.TheVariants as error
 use Rattle.site_reader.specs.declared.site.Site.{Site}
 use Rattle.site_session.specs.Full.{Whole, fault_of, given_of, kept_after, kept_by, names_by, names_behind, names_past, names_rendered, output_in, output_of, rendered, whole, whole_by, written_by, written_in}
-use Rattle.site_session.specs.Outputs.{Comes, IsOutput, Settled, output_by}
+use Rattle.site_session.specs.Outputs.{Comes, IsOutput, IsOutputAnew, Settled, output_by}
 use Rattle.site_session.specs.Rounds.{Adds, IsGone, Stopped, Whole as WholeRound, in_any_order, in_order}
 use Rattle.site_session.specs.Session.{first_fault, full_now, site_now}
 use Rattle.site_session.specs.Standing.{Standing}
@@ -185,6 +185,9 @@ unread_in_order files kept found e before first = from_unread in_order laws_in_o
 
 pub unread_in_any_order : (files : Files) (kept : Entries) (found : Found Site) (e : SiteError) (before : List ItemName) → IsFirst found e → IsOutput in_any_order files kept found (Err e) kept before before
 unread_in_any_order files kept found e before first = from_unread in_any_order laws_in_any_order.none files kept found e before first
+
+pub unread_anew : (files : Files) (found : Found Site) (e : SiteError) (before : List ItemName) → IsFirst found e → IsOutputAnew files found (Err e) before before
+unread_anew files found e before first = (empty, unread_in_order files empty found e before first)
 
 -- ---- first faults
 

@@ -1,5 +1,6 @@
 -- What the reading and rendering of a build answer, before its output is touched.
 use Rattle.std.specs.Prelude.{◌≡◌, List, [], length, Result, Ok, Err}
+use Rattle.std.specs.FinMap.{empty}
 use Rattle.memo_table.specs.Entries.{Entries}
 use Rattle.site_base.specs.Places.{Files}
 use Rattle.site_base.specs.declared.item_name.ItemName.{ItemName}
@@ -7,7 +8,7 @@ use Rattle.site_reader.specs.Found.{Found}
 use Rattle.site_reader.specs.declared.site.Site.{Site}
 use Rattle.site_reader.specs.declared.site_error.SiteError.{SiteError}
 use Rattle.site_reader.specs.declared.site_error.SiteError.TheVariants as error
-use Rattle.site_session.specs.Rounds.{Adds}
+use Rattle.site_session.specs.Rounds.{Adds, in_order}
 use Rattle.render_workers.specs.Tallies.{Grows}
 use Rattle.render_workers.specs.declared.answers.Round.{Round}
 use Rattle.render_workers.specs.declared.answers.RoundError.{RoundError}
@@ -25,6 +26,10 @@ abbrev pub IsOutput : Adds → Files → Entries → Found Site → Result Outpu
 IsOutput adds files kept found (Ok output) new before after = (output_in files kept found ≡ Ok output) × Settled adds files kept found new before after × (names_rendered files new found ≡ [])
 IsOutput adds files kept found (Err (error.Fault fault)) new before after = (output_in files kept found ≡ Err fault) × Settled adds files kept found new before after
 IsOutput adds files kept found (Err error.Memory) new before after = Grows before after
+
+-- the same, rendered one after another by a build that keeps nothing: as of one that would leave these entries
+abbrev pub IsOutputAnew : Files → Found Site → Result Output SiteError → List ItemName → List ItemName → Type 0
+IsOutputAnew files found result before after = (entries : Entries) × IsOutput in_order files empty found result entries before after
 
 -- what a round without a fault makes of a build
 abbrev pub output_by : Files → Site → Round → Output

@@ -1,12 +1,13 @@
 -- What a rebuild does to a session, its output and a tally.
 use Rattle.std.specs.Prelude.{◌≡◌, ◌+◌, ◌-◌, ◌^◌, ◌≤◌, ℕ, min, List, Option, Some, Result, Ok, Err, OnErr, OnOk}
+use Rattle.std.specs.FinMap.{empty}
 use Rattle.out_tree.specs.declared.step.Call.{Call}
 use Rattle.site_base.specs.Places.{Files}
 use Rattle.site_base.specs.declared.errors.Memory.{Memory}
 use Rattle.site_base.specs.declared.faults.SiteFault.{SiteFault}
 use Rattle.site_base.specs.declared.item_name.ItemName.{ItemName}
 use Rattle.site_script.specs.declared.line.Line.TheVariants as line
-use Rattle.site_session.specs.Rounds.{Adds}
+use Rattle.site_session.specs.Rounds.{Adds, in_order}
 use Rattle.site_session.specs.Full.{full}
 use Rattle.site_session.specs.Settled.{IsSettled}
 use Rattle.site_session.specs.Replies.{built_reply, Called, FailedAt, Leaves}
@@ -45,3 +46,9 @@ pub record Rebuilds {D : Type 0} (adds : Adds) (contents : D → Option Files) (
   pub err : OnErr result (contents after ≡ contents before)
   -- want of memory is not told in the place of a failure
   pub short : OnErr result (failures after ≡ failures before)
+
+-- what a build answers and leaves with which its session ends: what a rebuild does, one item after another, of a session that keeps no
+-- renders. It would stand like this then
+abbrev pub BuildsOnce : {D : Type 0} → (D → Option Files) → (D → Option (List Call)) → (D → ℕ) → Standing → Result Rebuilt Memory → D → D → List ItemName → List ItemName → Type 0
+BuildsOnce contents calls failures old result before after tally tally' =
+    (new : Standing) × Rebuilds in_order contents calls failures (record old { kept = empty }) new result before after tally tally'

@@ -46,3 +46,7 @@ abbrev pub IsGone : Adds → Given → ℕ → Result Round RoundError → Entri
 IsGone adds g fixed (Ok round) kept before after = Whole adds g fixed round kept before after
 IsGone adds g fixed (Err (error.Fault f)) kept before after = Stopped adds g fixed f kept before after
 IsGone adds g fixed (Err error.Memory) kept before after = Grows before after
+
+-- a round that keeps nothing goes one after another, as one does that would leave these entries
+abbrev pub IsGoneAnew : Given → ℕ → Result Round RoundError → List ItemName → List ItemName → Type 0
+IsGoneAnew g fixed result before after = (entries : Entries) × IsGone in_order g fixed result entries before after

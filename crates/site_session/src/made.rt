@@ -4,7 +4,7 @@ ghost use Rattle.site_session.specs.Full.{made_of, output_bytes};
 ghost use Rattle.site_session.specs.Seen.{seen};
 
 use read_record::Outcome;
-use site_base::{Memory, SharedBytes};
+use site_base::{Memory, SharedBytes, Text};
 use site_reader::SiteItem;
 use std::alloc::Global;
 
@@ -35,12 +35,21 @@ pub(crate) fn made_of<'a>(
     Ok(made)
 }
 
+// The output's bytes, which are shared where it is a file of its own.
 fn output_bytes(alloc: Global, outcome: &Outcome) -> Result<SharedBytes, Memory>
     ensures { IfOk result (λ bytes. bytes ≡ output_bytes outcome.now) }
 {
-    let bytes = match outcome {
-        Outcome::Done { output, .. } => output.as_bytes(),
-        Outcome::Fault(_) => b"",
-    };
-    SharedBytes::from_vec(alloc, bytes.to_vec(alloc)?)
+    match outcome {
+        Outcome::Done { output, .. } => text_bytes(alloc, output),
+        Outcome::Fault(_) => SharedBytes::from_vec(alloc, Vec::new(alloc)),
+    }
+}
+
+fn text_bytes(alloc: Global, text: &Text) -> Result<SharedBytes, Memory>
+    ensures { IfOk result (λ bytes. bytes ≡ text.now) }
+{
+    match text.whole_file() {
+        Some(file) => file.share(),
+        None => SharedBytes::from_vec(alloc, text.as_bytes().to_vec(alloc)?),
+    }
 }

@@ -4,14 +4,14 @@ ghost use Rattle.site_reader.specs.Lawful.{IsLawful};
 ghost use Rattle.site_reader.specs.Sites as sites;
 ghost use Rattle.site_script.specs.Line.{is_moment};
 ghost use Rattle.site_session.specs.Full.{fault_of, full, whole, written_by};
-ghost use Rattle.site_session.specs.Outputs.{Comes, IsOutput, output_by};
+ghost use Rattle.site_session.specs.Outputs.{Comes, IsOutput, IsOutputAnew, output_by};
 ghost use Rattle.site_session.specs.Rounds.{in_any_order, in_order};
 ghost use Rattle.site_world.specs.Sights.{item_names};
 ghost use Rattle.source_tree.specs.Limits.{most_files};
 
 use crate::made::made_of;
 use crate::reading::Reading;
-use crate::rounds::{Crew, by_crew, one_by_one};
+use crate::rounds::{Crew, all_anew, by_crew, one_by_one};
 use crate::tree::tree_of;
 use memo_table::Memo;
 use out_tree::{KeepList, Tree};
@@ -127,6 +127,40 @@ fn site_by_crew<H: Threads + Wait + Sync, R: Renderer<Meaning = PageMeaning> + S
     output_of(alloc, held, site, round)
 }
 
+/// The same for a session that ends with this: the items are rendered anew, one after another, and nothing is kept of them.
+pub(crate) fn output_anew<R: Renderer<Meaning = PageMeaning>>(
+    alloc: Global,
+    held: &Held,
+    moment: i64,
+    settings: &Settings,
+    renderer: &R,
+    tally: &mut Tally,
+) -> Result<Output, SiteError>
+    requires { is_moment moment ≡ true }
+    ensures { IsOutputAnew held.now (sites.site held.now moment settings.now) result tally.old tally.new }
+{
+    match read_site(alloc, held, moment, settings) {
+        Ok(site) => site_anew(alloc, held, &site, renderer, tally),
+        Err(error) => Err(error),
+    }
+}
+
+fn site_anew<R: Renderer<Meaning = PageMeaning>>(
+    alloc: Global,
+    held: &Held,
+    site: &Site,
+    renderer: &R,
+    tally: &mut Tally,
+) -> Result<Output, SiteError>
+    requires lawful { IsLawful held.now site.now }
+    requires few { length site.now.items ≤ 2 * most_files }
+    requires moment { pos 0 ≤ℤ site.now.moment }
+    ensures { IsOutputAnew held.now (Ok site.now) result tally.old tally.new }
+{
+    let round = all_anew(alloc, held, site, renderer, tally);
+    output_of(alloc, held, site, round)
+}
+
 /// The first fault of what the held files stand for.
 pub(crate) fn first_fault<R: Renderer<Meaning = PageMeaning>>(
     alloc: Global,
@@ -155,18 +189,8 @@ fn first_item_fault<R: Renderer<Meaning = PageMeaning>>(
     requires moment { pos 0 ≤ℤ site.now.moment }
     ensures { IfOk result (λ fault. fault ≡ fault_of (whole held.now site.now)) }
 {
-    let mut reading = Reading::Once;
-    let mut memo = Memo::new(alloc);
     let mut tally = Tally::new(alloc);
-    match one_by_one(
-        alloc,
-        &mut reading,
-        held,
-        site,
-        renderer,
-        &mut memo,
-        &mut tally,
-    ) {
+    match all_anew(alloc, held, site, renderer, &mut tally) {
         Ok(_) => Ok(None),
         Err(RoundError::Fault(fault)) => Ok(Some(fault)),
         Err(RoundError::Memory) => Err(Memory),

@@ -1,16 +1,18 @@
 // How a build goes over the items of its site: one after another, or by many workers.
 ghost use Rattle.std.specs.Prelude.{◌≡◌, ◌≤ℤ◌, ◌≤◌, pos};
+ghost use Rattle.std.specs.FinMap.{empty};
 ghost use Rattle.site_reader.specs.Lawful.{IsLawful};
 ghost use Rattle.site_session.specs.Full.{given_of};
-ghost use Rattle.site_session.specs.Rounds.{IsGone, in_any_order, in_order};
+ghost use Rattle.site_session.specs.Rounds.{IsGone, IsGoneAnew, in_any_order, in_order};
 ghost use Rattle.site_world.specs.Sights.{fixed_bytes};
 
 use crate::reading::Reading;
 use memo_table::Memo;
 use page_render::PageMeaning;
 use read_record::{Renderer, Tally};
-use render_workers::{Round, RoundError, regenerate, regenerate_serial};
+use render_workers::{Round, RoundError, regenerate, regenerate_serial, render_all};
 use site_reader::Site;
+use site_world::SiteWorld;
 use source_tree::Held;
 use std::alloc::Global;
 use std::sync::Wait;
@@ -70,4 +72,20 @@ pub(crate) fn by_crew<H: Threads + Wait + Sync, R: Renderer<Meaning = PageMeanin
         crew.jobs,
         tally,
     )
+}
+
+/// Renders the items of a site one after another, and keeps nothing of them.
+pub(crate) fn all_anew<R: Renderer<Meaning = PageMeaning>>(
+    alloc: Global,
+    held: &Held,
+    site: &Site,
+    renderer: &R,
+    tally: &mut Tally,
+) -> Result<Round, RoundError>
+    requires lawful { IsLawful held.now site.now }
+    requires moment { pos 0 ≤ℤ site.now.moment }
+    ensures { IsGoneAnew (given_of held.now site.now empty) (fixed_bytes held.now site.now) result tally.old tally.new }
+{
+    let world = SiteWorld::new(alloc, site, held)?;
+    render_all(alloc, renderer, &world, tally)
 }

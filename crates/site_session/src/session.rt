@@ -7,19 +7,21 @@ ghost use Rattle.source_tree.specs.Put.{put_refusal};
 ghost use Rattle.site_base.specs.declared.faults.SiteFault.{SiteFault};
 ghost use Rattle.render_workers.specs.Tallies.{Grows};
 ghost use Rattle.site_script.specs.Line.{IsInTime, is_moment};
+ghost use Rattle.memo_table.specs.Stored.{read_count, HoldsKept};
+ghost use Rattle.text_pool.specs.Texts.{held_ids};
 ghost use Rattle.site_session.specs.Full.{full};
 ghost use Rattle.site_session.specs.Standing.{Holds};
 ghost use Rattle.site_session.specs.Session.{Given, Reply, Fine, Absent, Answers, first_fault, names_now, names_past_now, rendered_now, start, output_failures, source_failures};
 ghost use Rattle.site_session.specs.declared.build.Report.{Report};
 ghost use Rattle.site_session.specs.declared.output.Written.{Written};
-ghost use Rattle.site_session.specs.Rebuilds.{Rebuilds};
+ghost use Rattle.site_session.specs.Rebuilds.{BuildsOnce, Rebuilds};
 ghost use Rattle.site_session.specs.Replies.{scan_reply, IsQuiet, LineLeaves, LineSpares, OutputLeft, OutputSpared, SourceLeft};
 ghost use Rattle.site_session.specs.Scenes.{output_seen, scene, source_seen};
 ghost use Rattle.site_session.specs.Rounds.{in_any_order, in_order};
 ghost use Rattle.site_script.specs.declared.line.Line.TheVariants as line;
 
 use crate::build::{Rebuilt, Report, finish};
-use crate::output::{first_fault, output_by_crew, output_one_by_one};
+use crate::output::{first_fault, output_anew, output_by_crew, output_one_by_one};
 use crate::reading::Reading;
 use crate::reply::Reply;
 use crate::rest::{known_still, reused_after};
@@ -27,7 +29,7 @@ use crate::rounds::Crew;
 use memo_table::Memo;
 use out_tree::{OutKeeper, OutTree};
 use page_render::PageMeaning;
-use read_record::{Renderer, Tally};
+use read_record::{ReadStore, Renderer, Tally};
 use site_base::{FileBytes, Memory, Settings, SiteFault, SitePath};
 use site_reader::{KeptReader, SiteError};
 use site_script::{Line, ScriptKind};
@@ -39,7 +41,6 @@ use std::sync::Wait;
 use std::thread::Threads;
 
 /// The files that are held, the moment, the renders that are kept, and what is believed of the output.
-#[derive(Drop)]
 pub struct Session {
     held: Held,
     settings: Settings,
@@ -72,6 +73,21 @@ impl Model for Session {
 
     ghost invariant = { λ s. (is_moment s.moment ≡ true)
         × IfSome s.resting (λ reused. Rests (record { files = s.held; moment = s.moment; settings = s.settings; kept = s.memo; belief = s.keeper }) reused) };
+}
+
+// A call of its own, so that no proof above goes by what all its parts come to.
+impl Drop for Session {
+    fn drop(self) {
+        let Session {
+            held: _,
+            settings: _,
+            moment: _,
+            reading: _,
+            memo: _,
+            keeper: _,
+            resting: _,
+        } = self;
+    }
 }
 
 impl Session {
@@ -271,6 +287,46 @@ impl Session {
         let rebuilt = finish(&mut self.keeper, alloc, output, out);
         self.resting = reused_after(&rebuilt);
         rebuilt
+    }
+
+    /// Makes the output equal to what the held files stand for, as `rebuild_serial` does for a session that keeps no renders, with
+    /// its answers and errors. The session ends with it, so nothing is kept: each item is rendered, and its name joins the tally.
+    pub fn build_once<O: OutTree, R: Renderer<Meaning = PageMeaning>>(
+        self,
+        alloc: Global,
+        out: &mut O,
+        renderer: &R,
+        tally: &mut Tally,
+    ) -> Result<Rebuilt, Memory>
+        ensures { BuildsOnce O.contents O.calls O.failures self result out.old out.new tally.old tally.new }
+    {
+        let Session {
+            held,
+            settings,
+            moment,
+            reading: _,
+            memo: _,
+            mut keeper,
+            resting: _,
+        } = self;
+        let output = output_anew(alloc, &held, moment, &settings, renderer, tally);
+        finish(&mut keeper, alloc, output, out)
+    }
+
+    ghost use Rattle.std.specs.Borrow.{sem};
+    ghost use Rattle.std.specs.Io.BufRead.{Rests};
+    ghost use Rattle.site_session.specs.contracts.session.Session.{the_row};
+
+    /// What the kept renders have read, each key and each code once, and nothing else, whatever came before: a build, a fault, or
+    /// want of memory. It takes no memory.
+    pub fn kept_reads(&mut self) -> &ReadStore
+        ensures* same { sem 𝓛 (Rests the_row self.entry (λ new. new ≡ self.old)) }
+        ensures just { HoldsKept result.now self.old.kept }
+
+        // So where nothing is kept, it holds no code.
+        ensures count { held_ids result.now.codes ≡ read_count self.old.kept }
+    {
+        self.memo.pool()
     }
 
     /// Does a line of a script, and says what is replied. A build is done by the crew, which has 1 to 64 threads.

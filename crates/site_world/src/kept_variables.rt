@@ -19,9 +19,15 @@ use std::alloc::Global;
 use std::sync::Arc;
 
 /// The variables of a site, which are used again for the next one where all that they rest on is the same.
-#[derive(Drop)]
 pub struct KeptVariables {
     last: Option<Based>,
+}
+
+// A call of its own, so that no proof goes by cases where a session is dropped.
+impl Drop for KeptVariables {
+    fn drop(self) {
+        let KeptVariables { last: _ } = self;
+    }
 }
 
 // Variables with what they rest on. They are those of each site with this basis.
