@@ -5,8 +5,10 @@ import os
 import shutil
 import subprocess
 import sys
+import time
 from dataclasses import dataclass, field
 from pathlib import Path
+from typing import Callable
 
 TOP = Path(__file__).resolve().parents[2]
 PARTS = TOP / "share" / "site"
@@ -69,3 +71,22 @@ def build_by_jekyll(folders: list[Path], environment: dict[str, str]) -> dict[st
     if done.returncode:
         raise RuntimeError(done.stderr)
     return dict(line.split("\t", 1) for line in done.stdout.splitlines() if "\t" in line)
+
+
+def until(condition: Callable[[], bool], seconds: float = 30.0) -> bool:
+    """Waits for a condition to hold, so long at most; whether it holds."""
+    end = time.monotonic() + seconds
+    while not condition():
+        if time.monotonic() > end:
+            return False
+        time.sleep(0.01)
+    return True
+
+
+def is_running(number: int) -> bool:
+    """Whether there is a process of this number that has not ended."""
+    try:
+        state = Path("/proc", str(number), "stat").read_text(errors="replace").rpartition(")")[2].split()[0]
+    except OSError:
+        return False
+    return state not in "ZX"

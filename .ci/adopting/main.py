@@ -5,6 +5,7 @@ import sys
 import tempfile
 from pathlib import Path
 
+import calls
 import hostile
 import plugins
 import proof
@@ -21,8 +22,10 @@ def main() -> int:
     with tempfile.TemporaryDirectory() as name:
         work = Path(name)
         work.chmod(0o755)
-        for part in ("rows", "chance", "hostile", "proof", "plugins"):
+        for part in ("rows", "calls", "chance", "hostile", "proof", "plugins"):
             (work / part).mkdir()
+        calls.try_all(work / "calls", failures)
+        print("calls of other programs: within their limits, and ended with their caller")
         count = rows.try_rows(work / "rows", failures, jekyll)
         print(f"{count} sites that are read otherwise: " + ("here and there as listed" if jekyll else "here as listed; not tried by Jekyll, which is not installed"))
         if jekyll:
