@@ -17,6 +17,9 @@ def run(program, arguments):
     if word in ("", "help", "-h", "--help"):
         print(words.listing())
         return 0 if word else 2
+    if word in ("version", "-V", "--version"):
+        print("\n".join(importlib.import_module("version").lines(program)))
+        return 0
     if word not in words.WORDS:
         raise words.Refused(f"there is no word {words.shown(word)}; `site --help` lists them", 2)
     if not words.is_here(word):

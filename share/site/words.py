@@ -55,7 +55,7 @@ def listing() -> str:
     for name, word in WORDS.items():
         if is_here(name):
             lines += [f"  site {name} {word.usage}", f"      {word.does}", f"      {word.example}"]
-    lines += ["", "Without FOLDER, the current folder is used. `site WORD --help` says more."]
+    lines += ["", "Without FOLDER, the current folder is used. `site WORD --help` says more, and `site --version` what is installed."]
     return "\n".join(lines)
 
 
