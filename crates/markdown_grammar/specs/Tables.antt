@@ -1,9 +1,8 @@
 -- The table that a paragraph's text is, or none. After GitHub Flavored Markdown 0.29, section 4.10.
-use Rattle.std.specs.Prelude.{Bool, List, None, Option, Some, [], drop, false, if◌then◌else◌, length, map, nat_lt, not, option_map, reverse, suc, take, true, zero, ℕ, ◌&&◌, ◌-◌, ◌==◌, ◌||◌, ◌∷◌}
-use Rattle.std.specs.List.{onto_first, prefix_len, slice_split, suffix_len}
+use Rattle.std.specs.Prelude.{Bool, List, None, Option, Some, [], codes, drop, false, if◌then◌else◌, length, map, nat_eq, nat_lt, not, option_map, suc, take, true, zero, ℕ, ◌&&◌, ◌-◌, ◌==◌, ◌||◌, ◌∷◌}
+use Rattle.std.specs.List.{ends_with, list_any, onto_first, prefix_len, slice_split, starts_with, suffix_len}
 use Rattle.site_text.specs.Bytes.{backslash, between, colon, hyphen, line_feed, space}
-use Rattle.site_text.specs.Fronts.{first_byte, has_one}
-use Rattle.markdown_grammar.specs.Fronts.{is_empty, same_bytes}
+use Rattle.site_text.specs.Fronts.{first_byte}
 use Rattle.markdown_grammar.specs.declared.align.Align.{Align}
 use Rattle.markdown_grammar.specs.declared.align.Align.TheVariants.{Center, Left, Plain, Right}
 
@@ -32,20 +31,13 @@ bare_end t = take (length t - suffix_len is_cell_white t) t
 abbrev pub bare : List ℕ → List ℕ
 bare t = bare_end (bare_front t)
 
--- the last byte, or 0
-abbrev pub last_byte : List ℕ → ℕ
-last_byte t = first_byte (reverse t)
-
-abbrev pub without_last_byte : List ℕ → List ℕ
-without_last_byte t = take (length t - 1) t
-
 -- without one pipe in front
 abbrev pub without_first_pipe : List ℕ → List ℕ
-without_first_pipe t = if first_byte t == pipe then drop 1 t else t
+without_first_pipe t = if starts_with nat_eq t (codes "|") then drop 1 t else t
 
 -- without one pipe at the end, unless a backslash stands before it
 abbrev pub without_last_pipe : List ℕ → List ℕ
-without_last_pipe t = if (last_byte t == pipe) && not (last_byte (without_last_byte t) == backslash) then without_last_byte t else t
+without_last_pipe t = if ends_with nat_eq t (codes "|") && not (ends_with nat_eq t (codes "\\|")) then take (length t - 1) t else t
 
 -- cut at each pipe that has no backslash before it; `escaped` where one stands before the text
 abbrev pub cut_at_pipes : (escaped : Bool) → List ℕ → List (List ℕ)
@@ -56,10 +48,10 @@ cut_at_pipes escaped (c ∷ cs) = elim ((c == pipe) && not escaped) [ true ↦ [
 abbrev pub written_cells : List ℕ → List (List ℕ)
 written_cells line = map bare (cut_at_pipes false (without_last_pipe (without_first_pipe (bare line))))
 
--- a pipe in place of each backslash and pipe
+-- without the backslash directly before each pipe
 abbrev pub unescaped : List ℕ → List ℕ
 unescaped [] = []
-unescaped (c ∷ cs) = elim ((c == backslash) && (first_byte cs == pipe)) [ true ↦ unescaped cs | false ↦ c ∷ unescaped cs ]
+unescaped (c ∷ cs) = elim (starts_with nat_eq (c ∷ cs) (codes "\\|")) [ true ↦ unescaped cs | false ↦ c ∷ unescaped cs ]
 
 -- the texts of a line's cells
 abbrev pub cells : List ℕ → List (List ℕ)
@@ -72,12 +64,15 @@ aligned true false = Left
 aligned false true = Right
 aligned true true = Center
 
--- one hyphen or more, and then a colon or nothing
+-- behind the hyphens: nothing, or a colon
+abbrev pub ended : (first : Bool) → List ℕ → Option Align
+ended first [] = Some (aligned first false)
+ended first (c ∷ []) = if c == colon then Some (aligned first true) else None
+ended first (c ∷ d ∷ ds) = None
+
+-- one hyphen or more, and what follows them
 abbrev pub hyphens : (first : Bool) → List ℕ → Option Align
-hyphens first t =
-    let n = prefix_len (λ c. c == hyphen) t in
-    let end = drop n t in
-    if nat_lt 0 n && (is_empty end || same_bytes end (colon ∷ [])) then Some (aligned first (not (is_empty end))) else None
+hyphens first t = let n = prefix_len (λ c. c == hyphen) t in if nat_lt 0 n then ended first (drop n t) else None
 
 -- the alignment that a cell of a delimiter row gives: hyphens, with a colon in front, at the end, at both or at neither
 abbrev pub align_of : List ℕ → Option Align
@@ -90,7 +85,7 @@ aligns_of (cell ∷ rest) = elim (align_of cell) [ Some align ↦ option_map (λ
 
 -- the alignments that a delimiter row gives, which holds a pipe
 abbrev pub delimiter_row : List ℕ → Option (List Align)
-delimiter_row line = if has_one (λ c. c == pipe) line then aligns_of (written_cells line) else None
+delimiter_row line = if list_any (λ c. c == pipe) line then aligns_of (written_cells line) else None
 
 -- so many cells: empty ones where there are too few, and none of those that are too many
 abbrev pub filled : ℕ → List (List ℕ) → List (List ℕ)
