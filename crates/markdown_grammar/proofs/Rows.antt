@@ -1,4 +1,4 @@
--- Texts with the HTML that they mean, by the sections of CommonMark 0.31.2.
+-- Texts with the HTML that they mean, by the sections of CommonMark 0.31.2 and, for tables, of GitHub Flavored Markdown 0.29.
 mod Tabs
 mod Characters
 mod LeafBlocks
@@ -14,4 +14,5 @@ mod Images
 mod Autolinks
 mod RawHtml
 mod LineBreaks
+mod Tables
 mod Parts

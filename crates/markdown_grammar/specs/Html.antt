@@ -24,6 +24,7 @@ use Rattle.markdown_grammar.specs.ListTags.{Open, fresh_line, is_tight, list_clo
 use Rattle.markdown_grammar.specs.Lists.{is_loose}
 use Rattle.markdown_grammar.specs.Reading.{inlines, pieces_from}
 use Rattle.markdown_grammar.specs.References.{resolved}
+use Rattle.markdown_grammar.specs.Tables.{table_of}
 
 -- the text so far, and after it the blocks
 abbrev pub blocks_onto : List Definition → Bool → Open → Blocks → List ℕ → List ℕ
@@ -41,5 +42,5 @@ html_of bs = blocks_onto (links_of bs) false no_list bs []
 
 -- the HTML that a text means: its blocks, in which the definitions of the whole text are known
 unfoldable pub html : List ℕ → List ℕ
-unfolding down lines definitions character_names resolved block_names verbatim_names blocks blocks_of pairs pieces_from inlines default_case_fold full_folding full_folding_rows general_category general_category_rows value_in chars encode_utf8 digits
+unfolding down lines definitions character_names resolved block_names verbatim_names blocks blocks_of pairs pieces_from inlines table_of default_case_fold full_folding full_folding_rows general_category general_category_rows value_in chars encode_utf8 digits
 html t = html_of (blocks_of t)

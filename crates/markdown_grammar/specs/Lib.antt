@@ -35,6 +35,8 @@ pub mod InlineHtml
 pub mod LinksOf
 pub mod Lists
 pub mod ListTags
+pub mod Tables
+pub mod TableHtml
 pub mod LeafHtml
 pub mod Html
 pub mod OpenEnds
