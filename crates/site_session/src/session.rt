@@ -317,8 +317,8 @@ impl Session {
     ghost use Rattle.std.specs.Io.BufRead.{Rests};
     ghost use Rattle.site_session.specs.contracts.session.Session.{the_row};
 
-    /// What the kept renders have read, each key and each code once, and nothing else, whatever came before: a build, a fault, or
-    /// want of memory. It takes no memory.
+    /// What the kept renders have read, and nothing else, whatever came before: a build, a fault, or want of memory. What only
+    /// replaced renders had read may wait until this call, which lets it go. It takes no memory.
     pub fn kept_reads(&mut self) -> &ReadStore
         ensures* same { sem 𝓛 (Rests the_row self.entry (λ new. new ≡ self.old)) }
         ensures just { HoldsKept result.now self.old.kept }
