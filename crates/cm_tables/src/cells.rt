@@ -1,7 +1,7 @@
 // The cells of a line, one after another.
-ghost use Rattle.std.specs.Prelude.{◌≡◌, ◌==◌, ◌<◌, ◌∷◌, ◌+◌, [], MatchOption, false, length};
+ghost use Rattle.std.specs.Prelude.{◌≡◌, ◌==◌, ◌<◌, ◌∷◌, ◌+◌, [], MatchOption, false, length, map, ℕ};
 ghost use Rattle.std.specs.Str.{IsCharBoundary};
-ghost use Rattle.markdown_grammar.specs.Tables.{cut_at_pipes, without_first_pipe, without_last_pipe, written_cells};
+ghost use Rattle.markdown_grammar.specs.Tables.{cut_at_pipes, filled, unescaped, without_first_pipe, without_last_pipe, written_cells};
 ghost use Rattle.cm_tables.specs.Cells.{cell_len, cut_rest, left};
 
 use crate::white::bare;
@@ -27,11 +27,21 @@ impl<'a> Cells<'a> {
 
     /// The next cell, or none behind the last.
     pub fn next_cell(&mut self) -> Option<&'a str>
-        ensures { MatchOption result (left self.old ≡ []) (λ cell. left self.old ≡ cell.now ∷ left self.new) }
+        ensures { MatchOption result ((left self.old ≡ []) × (left self.new ≡ [])) (λ cell. left self.old ≡ cell.now ∷ left self.new) }
     {
         let (cell, rest) = cut_first(self.rest?);
         self.rest = rest;
         Some(bare(cell))
+    }
+
+    /// The next cell, or an empty one behind the last.
+    pub fn next_filled(&mut self) -> &'a str
+        ensures { (n : ℕ) → filled (1 + n) (map unescaped (left self.old)) ≡ unescaped result.now ∷ filled n (map unescaped (left self.new)) }
+    {
+        match self.next_cell() {
+            Some(cell) => cell,
+            None => "",
+        }
     }
 
     /// Whether exactly so many cells are still to come.

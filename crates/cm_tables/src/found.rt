@@ -3,24 +3,26 @@ ghost use Rattle.std.specs.Prelude.{◌≡◌, ◌==◌, ◌∷◌, IfOk, option
 ghost use Rattle.std.specs.List.{slice_split};
 ghost use Rattle.site_text.specs.Bytes.{line_feed};
 ghost use Rattle.markdown_grammar.specs.Tables.{headed, table_in, table_of};
-ghost use Rattle.cm_tables.specs.Found.{lines_in, shown};
+ghost use Rattle.cm_tables.specs.Found.{shown};
+ghost use Rattle.cm_tables.specs.Rows.{below};
 
 use crate::cells::Cells;
 use crate::delimiters::delimiter_row;
+use crate::rows::{Rows, first_line};
 use markdown_grammar::Align;
 use site_base::Memory;
 use std::alloc::Global;
 
-/// A table in a paragraph's text, whose lines are lent from there. Each line is one row; `Cells` gives its cells, of which a
-/// row has as many as there are alignments: empty ones where the line has too few, and none of those that are too many.
+/// A table in a paragraph's text, whose lines are lent from there. Each line is one row, and `Cells` gives its cells. A row has
+/// as many as there are alignments: empty ones where its line has too few, and none of those that are too many.
 #[derive(Drop)]
 pub struct TableText<'a> {
     /// How the cells of each column are aligned.
     pub aligns: Vec<Align>,
     /// The header's line, which has as many cells as there are columns.
     pub header: &'a str,
-    /// The lines below the delimiter row with LF between them, if there are any.
-    pub rows: Option<&'a str>,
+    /// The lines below the delimiter row.
+    pub rows: Rows<'a>,
 }
 
 /// The table of a paragraph's text, in which LF stands between the lines, or none where it is none. GitHub Flavored Markdown
@@ -45,14 +47,14 @@ fn table_under<'a>(
 {
     let (delimiters, rows) = first_line(below);
     match delimiter_row(alloc, delimiters)? {
-        Some(aligns) => Ok(headed(header, rows, aligns)),
+        Some(aligns) => Ok(headed(header, Rows::in_lines(rows), aligns)),
         None => Ok(None),
     }
 }
 
 // The header has as many cells as the delimiter row.
-fn headed<'a>(header: &'a str, rows: Option<&'a str>, aligns: Vec<Align>) -> Option<TableText<'a>>
-    ensures { option_map shown result ≡ headed header.now (lines_in rows.entry) aligns.items }
+fn headed<'a>(header: &'a str, rows: Rows<'a>, aligns: Vec<Align>) -> Option<TableText<'a>>
+    ensures { option_map shown result ≡ headed header.now (below rows.entry) aligns.items }
 {
     if Cells::in_line(header).are(aligns.len()) {
         Some(TableText {
@@ -62,15 +64,5 @@ fn headed<'a>(header: &'a str, rows: Option<&'a str>, aligns: Vec<Align>) -> Opt
         })
     } else {
         None
-    }
-}
-
-// The first line, and those below it, if there are any.
-fn first_line(text: &str) -> (&str, Option<&str>)
-    ensures { slice_split (λ c. c == line_feed) text.now ≡ result.0.now ∷ lines_in result.1 }
-{
-    match text.split_once('\n') {
-        Some((line, below)) => (line, Some(below)),
-        None => (text, None),
     }
 }

@@ -5,8 +5,10 @@ mod cells;
 mod delimiters;
 mod escapes;
 mod found;
+mod rows;
 mod white;
 
 pub use cells::Cells;
 pub use escapes::{has_pipe, unescaped};
 pub use found::{TableText, find_table};
+pub use rows::Rows;

@@ -1,7 +1,8 @@
 use Rattle.std.proofs.Common.{◌∙◌, ◌≡◌, ◌∷◌, [], ap, subst, option_map}
 use Rattle.std.specs.Prelude.{IfOk}
-use Rattle.cm_tables.specs.Found.{lines_in, shown}
-use Rattle.cm_tables.proofs.FoundLaws.{in_lines}
+use Rattle.cm_tables.specs.Found.{shown}
+use Rattle.cm_tables.specs.Rows.{lines_in}
+use Rattle.cm_tables.proofs.RowLaws.{in_lines}
 use Rattle.cm_tables.proofs.found.find_table.Goals as goal
 
 pub returns-in-Some : goal.returns-in-Some

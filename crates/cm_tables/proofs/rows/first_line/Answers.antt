@@ -1,8 +1,8 @@
 use Rattle.std.proofs.Common.{lit<}
 use Rattle.std.specs.Prelude.{None, Some}
 use Rattle.std.proofs.lemmas.Str.Pattern.{split_once_first}
-use Rattle.cm_tables.proofs.FoundLaws.{first_of, only_line}
-use Rattle.cm_tables.proofs.found.first_line.Goals as goal
+use Rattle.cm_tables.proofs.RowLaws.{first_of, only_line}
+use Rattle.cm_tables.proofs.rows.first_line.Goals as goal
 
 pub returns-in-Some : goal.returns-in-Some
 returns-in-Some c =

@@ -1,4 +1,4 @@
--- The lines of a table.
+-- The lines of a text, the first and those below it.
 use Rattle.std.proofs.Common.{List, [], ap, arith, false, length, sym, ℕ, ◌<◌, ◌==◌, ◌∷◌, ◌≡◌}
 use Rattle.std.specs.List.{after_first, before_first, position_or_len, slice_split}
 use Rattle.std.proofs.lemmas.List.Splits.{slice_split_first, slice_split_none}
