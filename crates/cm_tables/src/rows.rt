@@ -2,6 +2,7 @@
 ghost use Rattle.std.specs.Prelude.{◌≡◌, ◌==◌, ◌∷◌, [], MatchOption};
 ghost use Rattle.std.specs.List.{slice_split};
 ghost use Rattle.site_text.specs.Bytes.{line_feed};
+ghost use Rattle.markdown_grammar.specs.Fronts.{is_empty};
 ghost use Rattle.cm_tables.specs.Rows.{below, lines_in};
 
 /// The rows below a table's header that are still to come.
@@ -16,6 +17,13 @@ impl<'a> Rows<'a> {
         ensures { below result ≡ lines_in rest.entry }
     {
         Rows { rest }
+    }
+
+    /// Whether no row is still to come.
+    pub fn is_empty(&self) -> bool
+        ensures { result ≡ is_empty (below self.now) }
+    {
+        self.rest.is_none()
     }
 
     /// The line of the next row, or none behind the last.
