@@ -6,13 +6,12 @@ use Rattle.markdown_grammar.specs.Definitions.{Definition}
 use Rattle.markdown_grammar.specs.Extents.{blank_line, container, leaf, no_blocks}
 use Rattle.markdown_grammar.specs.Fronts.{is_empty}
 use Rattle.markdown_grammar.specs.Html.{blocks_onto, html_of}
-use Rattle.markdown_grammar.specs.InlineHtml.{inline_html}
-use Rattle.markdown_grammar.specs.LeafHtml.{leaf_onto, paragraph_onto, prose_text, tagged}
+use Rattle.markdown_grammar.specs.LeafHtml.{leaf_onto, paragraph_onto, prose_text, table_or_prose_onto}
 use Rattle.markdown_grammar.specs.Leaves as leaves
 use Rattle.markdown_grammar.specs.LinksOf.{links_of}
 use Rattle.markdown_grammar.specs.Lists.{goes_on, is_loose}
 use Rattle.markdown_grammar.specs.ListTags.{Open, fresh_line, in_list, is_tight, list_closed, list_tag, no_list}
-use Rattle.markdown_grammar.specs.Reading.{inlines}
+use Rattle.markdown_grammar.specs.Tables.{table_of}
 use Rattle.cm_blocks.specs.Documents as document
 use Rattle.cm_blocks.specs.Documents.{Document, document_of, item_before, leaf_before}
 use Rattle.cm_blocks.specs.DocumentHtml.{document_html, document_onto}
@@ -22,8 +21,8 @@ use Rattle.cm_blocks.proofs.MadeLaws.{Shape, next_is, next_kind, next_loose, nex
 -- a leaf
 leaf_html : (defs : List Definition) (tight : Bool) (s : leaves.Leaf) (d : Document) (out : List ℕ) → document_onto defs tight d (leaf_onto defs tight s out) ≡ document_onto defs tight (leaf_before s d) out
 leaf_html defs tight (leaves.paragraph texts) d out = go (is_empty (prose_text texts)) refl where
-  go : (b : Bool) → is_empty (prose_text texts) ≡ b → document_onto defs tight d (paragraph_onto tight (prose_text texts) (inline_html (inlines defs (prose_text texts))) out) ≡ document_onto defs tight (cond b d (document.paragraph (prose_text texts) d)) out
-  go true e = ap (λ (x : Bool). document_onto defs tight d (cond x out (cond tight (out ++ inline_html (inlines defs (prose_text texts))) (fresh_line out ++ tagged (codes "p") (inline_html (inlines defs (prose_text texts))))))) e
+  go : (b : Bool) → is_empty (prose_text texts) ≡ b → document_onto defs tight d (paragraph_onto defs tight (prose_text texts) out) ≡ document_onto defs tight (cond b d (document.paragraph (prose_text texts) d)) out
+  go true e = ap (λ (x : Bool). document_onto defs tight d (cond x out (table_or_prose_onto defs tight (prose_text texts) (table_of (prose_text texts)) out))) e
   go false e = refl
 leaf_html defs tight (leaves.setext_heading level texts) d out = refl
 leaf_html defs tight (leaves.atx_heading level line) d out = refl

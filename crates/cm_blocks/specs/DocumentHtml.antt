@@ -15,7 +15,7 @@ code_html info text = codes "<pre><code" ++ (class_text (info_word info) ++ (cod
 -- the text so far, and after it a document
 abbrev pub document_onto : List Definition → Bool → Document → List ℕ → List ℕ
 document_onto defs tight nothing out = out
-document_onto defs tight (paragraph text rest) out = document_onto defs tight rest (paragraph_onto tight text (inline_html (inlines defs text)) out)
+document_onto defs tight (paragraph text rest) out = document_onto defs tight rest (paragraph_onto defs tight text out)
 document_onto defs tight (heading level text rest) out = document_onto defs tight rest (fresh_line out ++ tagged (heading_name level) (inline_html (inlines defs text)))
 document_onto defs tight (thematic_break rest) out = document_onto defs tight rest (fresh_line out ++ codes "<hr />\n")
 document_onto defs tight (code info text rest) out = document_onto defs tight rest (fresh_line out ++ code_html info text)

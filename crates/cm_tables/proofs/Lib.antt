@@ -1,0 +1,5 @@
+pub mod CellLaws
+pub mod DelimiterLaws
+pub mod EscapeLaws
+pub mod RowLaws
+pub mod WhiteLaws
