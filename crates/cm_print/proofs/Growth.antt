@@ -1,11 +1,13 @@
 -- What is printed only grows.
 use Rattle.std.proofs.Common.{ℕ, ◌+◌, ◌≤◌, Bool, true, false, List, [], ◌∷◌, ◌++◌, ◌==◌, length, arith, length-append}
-use Rattle.std.specs.Prelude.{codes, ◌||◌, if◌then◌else◌, reverse}
+use Rattle.std.specs.Prelude.{None, Option, Some, codes, ◌||◌, if◌then◌else◌, reverse}
 use Rattle.site_text.specs.Bytes.{line_feed}
 use Rattle.site_text.specs.Fronts.{first_byte}
 use Rattle.markdown_grammar.specs.Definitions.{Definition}
 use Rattle.markdown_grammar.specs.Fronts.{is_empty}
-use Rattle.markdown_grammar.specs.LeafHtml.{heading_name, paragraph_onto, tagged}
+use Rattle.markdown_grammar.specs.LeafHtml.{heading_name, paragraph_onto, prose_onto, table_or_prose_onto, tagged}
+use Rattle.markdown_grammar.specs.TableHtml.{table_html}
+use Rattle.markdown_grammar.specs.Tables.{Table, table_of}
 use Rattle.markdown_grammar.specs.ListTags.{fresh_line, is_bullet, list_tag}
 use Rattle.cm_blocks.specs.DocumentHtml.{code_html}
 use Rattle.cm_blocks.specs.declared.node.Node.{Node}
@@ -29,13 +31,17 @@ fresh_grows out = go (is_empty out || (first_byte (reverse out) == line_feed))
     go true = omega arith
     go false = more out (line_feed ∷ [])
 
-pub paragraph_grows : (tight : Bool) (text body out : List ℕ) → length out ≤ length (paragraph_onto tight text body out)
-paragraph_grows tight text body out = go (is_empty text) tight
+pub prose_grows : (tight : Bool) (body out : List ℕ) → length out ≤ length (prose_onto tight body out)
+prose_grows true body out = more out body
+prose_grows false body out = more_yet out (fresh_line out) (tagged (codes "p") body) (fresh_grows out)
+
+pub paragraph_grows : (defs : List Definition) (tight : Bool) (text out : List ℕ) → length out ≤ length (paragraph_onto defs tight text out)
+paragraph_grows defs tight text out = go (is_empty text) (table_of text)
   where
-    go : (b tight : Bool) → length out ≤ length (if b then out else if tight then out ++ body else fresh_line out ++ tagged (codes "p") body)
-    go true tight = omega arith
-    go false true = more out body
-    go false false = more_yet out (fresh_line out) (tagged (codes "p") body) (fresh_grows out)
+    go : (b : Bool) (found : Option Table) → length out ≤ length (if b then out else table_or_prose_onto defs tight text found out)
+    go true found = omega arith
+    go false (Some table) = more_yet out (fresh_line out) (table_html defs table) (fresh_grows out)
+    go false None = prose_grows tight (prose defs text) out
 
 pub text_grows : (c : Closing) (out : List ℕ) → length out ≤ length (text_after c out)
 text_grows closing.Text out = omega arith
@@ -53,7 +59,7 @@ closed_grows i top (next ∷ outer) out = go (top.end == i) (closed_grows i next
     go false h = omega arith
 
 pub entered_grows : (defs : List Definition) (i : ℕ) (s : State) (n : Node) → length s.out ≤ length ((entered defs i s n).out)
-entered_grows defs i s (node.Paragraph text) = paragraph_grows s.top.is_tight text (prose defs text) s.out
+entered_grows defs i s (node.Paragraph text) = paragraph_grows defs s.top.is_tight text s.out
 entered_grows defs i s (node.Heading n text) = more_yet s.out (fresh_line s.out) (tagged (heading_name n) (prose defs text)) (fresh_grows s.out)
 entered_grows defs i s node.Break = more_yet s.out (fresh_line s.out) (codes "<hr />\n") (fresh_grows s.out)
 entered_grows defs i s (node.Code info text) = more_yet s.out (fresh_line s.out) (code_html info text) (fresh_grows s.out)

@@ -6,3 +6,4 @@ pub mod WalkLaws
 pub mod Growth
 pub mod Sequences
 pub mod PrinterLaws
+pub mod TableLaws

@@ -1,5 +1,5 @@
 -- Blocks as HTML, behind the text so far: CommonMark 0.31.2, sections 4 and 5.
-use Rattle.std.specs.Prelude.{Bool, List, codes, if◌then◌else◌, ℕ, ◌++◌}
+use Rattle.std.specs.Prelude.{List, ℕ, ◌++◌}
 use Rattle.markdown_grammar.specs.Definitions.{Definition}
 use Rattle.markdown_grammar.specs.InlineHtml.{inline_html}
 use Rattle.markdown_grammar.specs.LeafHtml.{heading_name, tagged}
@@ -10,10 +10,6 @@ use Rattle.cm_blocks.specs.DocumentHtml.{code_html}
 -- the inlines of a text
 abbrev pub prose : List Definition → List ℕ → List ℕ
 prose defs text = inline_html (inlines defs text)
-
--- a paragraph that is not empty: in a tight list its inlines alone
-abbrev pub paragraph_after : Bool → List ℕ → List ℕ → List ℕ
-paragraph_after tight body out = if tight then out ++ body else fresh_line out ++ tagged (codes "p") body
 
 abbrev pub heading_after : ℕ → List ℕ → List ℕ → List ℕ
 heading_after level body out = fresh_line out ++ tagged (heading_name level) body

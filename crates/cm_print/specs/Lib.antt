@@ -5,3 +5,4 @@ pub mod InlineNodes
 pub mod NodeWalk
 pub mod Writing
 pub mod Printing
+pub mod Tables

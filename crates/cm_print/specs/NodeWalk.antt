@@ -45,7 +45,7 @@ inside i s len tight c out = state (record { end = i + 1 + len; is_tight = tight
 
 -- a node at a place where no level ends
 abbrev pub entered : List Definition → ℕ → State → Node → State
-entered defs i s (node.Paragraph text) = put s (paragraph_onto s.top.is_tight text (prose defs text) s.out)
+entered defs i s (node.Paragraph text) = put s (paragraph_onto defs s.top.is_tight text s.out)
 entered defs i s (node.Heading n text) = put s (heading_after n (prose defs text) s.out)
 entered defs i s node.Break = put s (fresh_line s.out ++ codes "<hr />\n")
 entered defs i s (node.Code info text) = put s (code_after info text s.out)

@@ -1,15 +1,16 @@
 // Leaf blocks as HTML.
 ghost use Rattle.std.specs.Prelude.{◌≡◌, ◌++◌, ◌∷◌, ◌+◌, codes};
 ghost use Rattle.markdown_grammar.specs.InlineHtml.{inline_html};
-ghost use Rattle.markdown_grammar.specs.LeafHtml.{heading_name, paragraph_onto, tagged};
+ghost use Rattle.markdown_grammar.specs.LeafHtml.{heading_name, paragraph_onto, prose_onto, tagged};
 ghost use Rattle.markdown_grammar.specs.ListTags.{fresh_line};
-ghost use Rattle.cm_print.specs.DocumentHtml.{heading_after, paragraph_after, prose};
+ghost use Rattle.cm_print.specs.DocumentHtml.{heading_after, prose};
 ghost use Rattle.cm_print.specs.Writing.{Prints, Reaches, written};
 
 use crate::writer::Writer;
 use cm_inlines::{Inlines, read_inlines};
 use cm_links::Links;
 use cm_starts::HeadingLevel;
+use cm_tables::find_table;
 use markdown_grammar::HtmlError;
 use std::alloc::Global;
 
@@ -24,7 +25,7 @@ impl Writer {
         }
     }
 
-    /// Adds a paragraph, unless its text is empty: in a tight list its inlines alone.
+    /// Adds a paragraph, unless its text is empty: a table, where its text is one, and else prose.
     pub(crate) fn push_paragraph(
         &mut self,
         alloc: Global,
@@ -32,17 +33,23 @@ impl Writer {
         is_tight: bool,
         text: &str,
     ) -> Result<(), HtmlError>
-        ensures { Reaches self.old self.new (paragraph_onto is_tight text.now (prose links.now text.now) (written self.old)) result }
+        ensures { Reaches self.old self.new (paragraph_onto links.now is_tight text.now (written self.old)) result }
     {
         if text.is_empty() {
             return Ok(());
         }
-        let body = read_inlines(alloc, text, links)?;
-        self.push_paragraph_of(is_tight, &body)
+        match find_table(alloc, text)? {
+            Some(table) => self.push_table(alloc, links, table),
+            None => {
+                let body = read_inlines(alloc, text, links)?;
+                self.push_paragraph_of(is_tight, &body)
+            }
+        }
     }
 
+    // Prose: in a tight list its inlines alone.
     fn push_paragraph_of(&mut self, is_tight: bool, body: &Inlines<'_>) -> Result<(), HtmlError>
-        ensures { Reaches self.old self.new (paragraph_after is_tight (inline_html body.now) (written self.old)) result }
+        ensures { Reaches self.old self.new (prose_onto is_tight (inline_html body.now) (written self.old)) result }
     {
         if is_tight {
             return self.push_inlines(body);

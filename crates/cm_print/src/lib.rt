@@ -11,6 +11,7 @@ mod leaf_html;
 mod level;
 mod list_html;
 mod printer;
+mod table_html;
 mod urls;
 mod writer;
 
