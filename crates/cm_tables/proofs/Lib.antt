@@ -3,3 +3,4 @@ pub mod DelimiterLaws
 pub mod EscapeLaws
 pub mod RowLaws
 pub mod WhiteLaws
+pub mod TableLaws

@@ -1,5 +1,5 @@
 -- The lines of a text, the first and those below it.
-use Rattle.std.proofs.Common.{Bool, Bor, List, true, not, None, Option, Some, [], ap, arith, false, length, refl, sym, ℕ, ◌+◌, ◌<◌, ◌==◌, ◌∷◌, ◌≡◌}
+use Rattle.std.proofs.Common.{Bool, Bor, List, true, not, None, Option, Some, [], ap, arith, drop, drop_of_length-le, false, length, refl, sym, ℕ, ◌+◌, ◌<◌, ◌==◌, ◌∷◌, ◌≡◌, ◌≤◌}
 use Rattle.std.specs.Option.{is_some}
 use Rattle.std.specs.List.{after_first, before_first, count_by, position_or_len, slice_split}
 use Rattle.std.proofs.lemmas.List.Splits.{length-slice_split, slice_split_first, slice_split_none}
@@ -37,3 +37,10 @@ none_below None true h = refl
 none_below None false h = absurd cc
 none_below (Some text) true h = absurd cc
 none_below (Some text) false h = some_line text.now
+
+-- how many there are, counted by the ends between them
+pub lines_counted : (count i : ℕ) (text : List ℕ) → length text ≤ i → count + count_by (λ c. c == line_feed) (drop i text) ≡ 1 + count_by (λ c. c == line_feed) text
+    → count ≡ length (slice_split (λ c. c == line_feed) text)
+lines_counted count i text past so_far =
+    let none : count_by (λ c. c == line_feed) (drop i text) ≡ 0 = ap (count_by (λ c. c == line_feed)) (drop_of_length-le text past) in
+    omega (arith, so_far, none, length-slice_split (λ c. c == line_feed) text)

@@ -1,5 +1,5 @@
 // The rows of a table, one after another.
-ghost use Rattle.std.specs.Prelude.{◌≡◌, ◌==◌, ◌∷◌, [], MatchOption};
+ghost use Rattle.std.specs.Prelude.{◌≡◌, ◌==◌, ◌≤◌, ◌∷◌, ◌^◌, [], MatchOption, length};
 ghost use Rattle.std.specs.List.{slice_split};
 ghost use Rattle.site_text.specs.Bytes.{line_feed};
 ghost use Rattle.markdown_grammar.specs.Fronts.{is_empty};
@@ -26,6 +26,17 @@ impl<'a> Rows<'a> {
         self.rest.is_none()
     }
 
+    /// How many rows are still to come.
+    pub(crate) fn len(&self) -> usize
+        ensures value { result ≡ length (below self.now) }
+        ensures bound { result ≤ 2 ^ 63 }
+    {
+        match self.rest {
+            Some(text) => line_count(text),
+            None => 0,
+        }
+    }
+
     /// The line of the next row, or none behind the last.
     pub fn next_row(&mut self) -> Option<&'a str>
         ensures { MatchOption result (below self.old ≡ []) (λ line. below self.old ≡ line.now ∷ below self.new) }
@@ -44,4 +55,17 @@ pub(crate) fn first_line(text: &str) -> (&str, Option<&str>)
         Some((line, below)) => (line, Some(below)),
         None => (text, None),
     }
+}
+
+fn line_count(text: &str) -> usize
+    ensures value { result ≡ length (slice_split (λ c. c == line_feed) text.now) }
+    ensures bound { result ≤ 2 ^ 63 }
+{
+    let mut count = 1;
+    for byte in text.as_bytes() {
+        if *byte == b'\n' {
+            count += 1;
+        }
+    }
+    count
 }
