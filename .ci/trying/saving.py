@@ -295,8 +295,12 @@ def missed(room: Path) -> None:
 
 
 PARTS_OF_ANOTHER = {
-    "notes.py": """def silent_notes(folder, program):
-    return [f"a note of {folder.name}"]
+    "notes.py": """class Said:
+    def lines(self):
+        return self.found
+
+def look(said, folder, program, has_fault):
+    said.found = [f"a note of {folder.name}"]
 """,
     "sass.py": """def compile_styles(folder, program):
     text = (folder / "style.scss").read_text()

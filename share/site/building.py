@@ -1,17 +1,22 @@
 """Keeps a site built: puts what was saved into a running session, and builds."""
 from __future__ import annotations
 
+import contextlib
 import os
+import sys
+import threading
 import time
 from pathlib import Path
 from typing import Callable, Optional
 
 import beside
 from faults import Fault, explain
+from scanned import OUTPUT
 from settings import CONFIGURATION
 from session import Built, Ended, Failed, LeftToScan, Session, can_be_told, read_source
 from status import Status
-from watching import OUTPUT, Changes, Looking, NotToBeHad, mark, watch
+from telling import Telling
+from watching import Changes, Looking, NotToBeHad, mark, watch
 from words import Refused, shown
 
 # An editor saves in several steps: a build waits until nothing has happened for so long, but no longer than so long in all.
@@ -30,7 +35,9 @@ EDITORS_OWN = (".swp", ".swo", ".swx", "~")
 
 
 def say(line: str) -> None:
-    print(f"{time.strftime('%H:%M:%S')}  {line}", flush=True)
+    # In one piece, since another thread may say something too.
+    sys.stdout.write(f"{time.strftime('%H:%M:%S')}  {line}\n")
+    sys.stdout.flush()
 
 
 def is_editors_own(path: str) -> bool:
@@ -50,6 +57,9 @@ class Builder:
     """One site, its watch and its session."""
 
     def __init__(self, program: str, folder: Path, options: list[str], poll: bool = False):
+        # A fork, so it comes before any thread.
+        self.telling = Telling(folder, program)
+        self.teller: Optional[threading.Thread] = None
         self.program = program
         self.folder = folder
         self.options = options
@@ -78,17 +88,32 @@ class Builder:
     def close(self) -> None:
         self.status.stop()
         self.watch.close()
+        self.telling.end()
         if self.session:
             self.session.close()
+        if self.teller:
+            self.teller.join()
+        else:
+            self.telling.close()
+
+    def begin_notes(self) -> None:
+        """Has the notes made and said while other things are done."""
+        self.teller = threading.Thread(target=self.say_notes, args=(self.status.fault is not None,), daemon=True)
+        self.teller.start()
+
+    def say_notes(self, faulty: bool) -> None:
+        self.telling.begin()
+        with contextlib.suppress(OSError):
+            for line in self.telling.lines(faulty, limited=True):
+                say(line)
 
     def run(self) -> None:
         """Builds the site, and then after each save, until the folder has gone."""
-        for line in beside.notes(self.folder, self.program):
-            say(line)
         self.make_styles()
         # The first scan finds what that has written.
         self.take_now()
         self.begin_session()
+        self.begin_notes()
         while True:
             others = [self.session] if self.session else []
             noticed = self.watch.wait(min(self.next_scan - time.monotonic(), BETWEEN_CHECKS), *others)

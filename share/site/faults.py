@@ -3,11 +3,11 @@ from __future__ import annotations
 
 import os
 import re
-import subprocess
 from dataclasses import dataclass
 from pathlib import Path
 from typing import Optional
 
+from calling import NotDone, call
 from session import Failed, LeftToScan, read_source
 from words import shown
 
@@ -40,11 +40,8 @@ def explain(program: str, folder: Path, options: list[str], failed: Failed) -> F
         return output_fault(failed)
     options = [word for word in options if word in ("--drafts", "--future")]
     try:
-        check = subprocess.run(
-            [program, "check", *options], cwd=folder, stdin=subprocess.DEVNULL, stdout=subprocess.DEVNULL, stderr=subprocess.PIPE, start_new_session=True
-        )
-        said = check.stderr.decode(errors="replace").strip()
-    except OSError:
+        said = call([program, "check", *options], folder).stderr.decode(errors="replace").strip()
+    except NotDone:
         said = ""
     # `fault KIND LINE PATH`, or `scan-fault`
     parts = failed.reply.split(" ", 3)

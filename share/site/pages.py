@@ -13,9 +13,9 @@ from pathlib import Path
 from typing import BinaryIO, Optional
 from urllib.parse import quote, unquote_to_bytes
 
+from scanned import OUTPUT
 from settings import Settings
 from session import MOST_BYTES
-from watching import OUTPUT
 
 PARTS = Path(__file__).parent
 # Below this are the script's own files. No page has this address by itself, since a name with a dot in front is hidden.

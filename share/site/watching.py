@@ -12,9 +12,8 @@ from dataclasses import dataclass, field
 from pathlib import Path
 from typing import Optional
 
-# What a scan passes over, wherever it is, and at the top: docs/PROFILE.md, "The folder".
-PASSED_OVER = {".git", ".svn", ".hg", ".jekyll-cache", ".sass-cache", "node_modules"}
-OUTPUT = "_site"
+from scanned import OUTPUT, is_entered, join
+
 # Seconds between two looks.
 BETWEEN_LOOKS = 0.2
 
@@ -43,10 +42,6 @@ class Changes:
         self.output |= later.output
 
 
-def join(folder: str, name: str) -> str:
-    return f"{folder}/{name}" if folder else name
-
-
 def mark(folder: str | Path, name: str = "") -> Optional[tuple[int, int]]:
     """Which file or folder has this name, to tell it from another of that name."""
     try:
@@ -54,11 +49,6 @@ def mark(folder: str | Path, name: str = "") -> Optional[tuple[int, int]]:
     except OSError:
         return None
     return status.st_dev, status.st_ino
-
-
-def is_entered(folder: str, name: str) -> bool:
-    """Whether a scan goes into a folder of this name."""
-    return name not in PASSED_OVER and not (folder == "" and name == OUTPUT)
 
 
 # ---- inotify: the numbers of <sys/inotify.h>

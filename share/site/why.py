@@ -17,9 +17,9 @@ from building import Builder
 from drawing import Edit
 from faults import explain
 from pages import with_script
+from scanned import is_entered, join
 from session import Built, Ended, Failed, LeftToScan, Session, can_be_told, read_source
 from settings import CONFIGURATION
-from watching import is_entered, join
 
 MOST_EDITS = 16
 MOST_SHOWN = 100

@@ -1,0 +1,137 @@
+"""Cases of `.ci/site`: the notes of a site cost little, and whatever they meet is a line."""
+from __future__ import annotations
+
+import os
+import shlex
+import shutil
+import signal
+import subprocess
+import time
+from pathlib import Path
+
+from running import ROOT, SITE, Running, begin, expect, family, is_alive, page, program, run, until, write
+
+# A note that any of these sites has, and that has to be said whatever else is met.
+NOTED = "{{ site.pages | where_exp: 'a', 'b' }}"
+NOTE = "the filter where_exp is not known"
+ODD = {
+    "a field that is longer than python's reader takes": {"_data/a.csv": "a,b\n" + "x" * 200_000 + ",\n"},
+    "a CR alone in a table": {"_data/a.csv": "a,b\n1,\r2\n", "_data/b.tsv": "a\tb\r1\t\r"},
+    "a zero byte in a table": {"_data/a.csv": "a,b\n\0,\n"},
+    "a list as the type of a scope": {"_config.yml": "defaults:\n  - scope: {path: '', type: [posts]}\n    values: {a: b}\n"},
+    "a range that ends before it begins": {"_config.yml": "exclude: ['[z-a]']\n"},
+    "such a range in a scope": {"_config.yml": "defaults:\n  - scope: {path: 'a*[z-a]'}\n    values: {a: b}\n"},
+    "a theme that is a path": {"_config.yml": "theme: /etc/x\n"},
+    "collections of the feed that are a number": {"_config.yml": "feed: {collections: 5}\nplugins: [jekyll-feed]\n"},
+    "a path of the feed that is a list": {"_config.yml": "feed: {path: [a]}\nplugins: [jekyll-feed]\n"},
+    "numbers where texts are looked for": {
+        "_config.yml": "url: 5\nbaseurl: [1]\nplugins: [1, [2], {a: b}]\ndestination: 5\nkeep_files: [1]\nexclude: [1, {a: b}]\n",
+    },
+    "a permalink that is a list": {"a.html": "---\npermalink: /x/\ntags: {a: b}\ncategories: 5\nredirect_from: {a: b}\nlayout: [a]\n---\n"},
+    "a key of thousands of letters": {"a.html": f"---\n{'k' * 5000}: 1\nlayout: {'l' * 5000}\n---\n"},
+    "a page that is only its mark": {"a.html": "---", "b.html": "---\n", "c.md": "---\n---", "_layouts/d.html": "", "_includes/e.html": ""},
+    "a byte that is not UTF-8 in a copied file": {"a.txt": "---\udcff"},
+    "a day that is none": {"_c/a.md": "---\ndate: 2023-02-29\n---\n", "_config.yml": "collections: {c: {output: true}}\n"},
+    "the year 0": {"_c/a.md": "---\ndate: 0000-01-01\n---\n", "_config.yml": "collections: {c: {output: true}}\n"},
+    "a path of the feed with a zero byte": {"_config.yml": 'feed: {path: "a\\0b"}\nplugins: [jekyll-feed]\n'},
+}
+
+
+def write_site(site: Path, files: dict[str, str]) -> None:
+    for path, text in {"noted.html": page(NOTED), **files}.items():
+        (site / path).parent.mkdir(parents=True, exist_ok=True)
+        (site / path).write_bytes(text.encode("utf-8", "surrogateescape"))
+
+
+def told(word: str, site: Path, env: dict | None = None) -> tuple[int, str]:
+    """The status of a word, and what it says on both streams."""
+    done = subprocess.run([SITE, word, site], env=env, stdin=subprocess.DEVNULL, stdout=subprocess.PIPE, stderr=subprocess.STDOUT, timeout=60)
+    return done.returncode, done.stdout.decode(errors="replace")
+
+
+def whatever_is_met(room: Path) -> None:
+    """No text of a site ends the notes with a traceback, or changes a status; the other notes are said."""
+    for number, (name, files) in enumerate(ODD.items()):
+        site = room / str(number)
+        write_site(site, files)
+        for word in ("check", "build"):
+            own = subprocess.run([program(), word], cwd=site, stdin=subprocess.DEVNULL, capture_output=True, timeout=60).returncode
+            status, said = told(word, site)
+            expect(status == own, f"{word} with {name}: status {status}, and the program's {own}: {said}")
+            expect("Traceback" not in said, f"{word} with {name}: {said}")
+            expect(NOTE in said, f"{word} with {name} lacks the other notes: {said}")
+
+
+# A part that makes notes, and meets something.
+MEETS = """import os, signal, time
+
+class Said:
+    def lines(self):
+        return ["a note before"]
+
+def look(said, folder, program, has_fault):
+    {}
+"""
+CUT = "not all notes stood within a second"
+ENDS = {
+    "while True: pass": CUT,
+    "time.sleep(100)": CUT,
+    "os.kill(os.getpid(), signal.SIGSTOP)": "the process that looks for it was ended",
+    "os.kill(os.getpid(), signal.SIGKILL)": "the process that looks for it was ended",
+    "os._exit(0)": "the process that looks for it was ended",
+    "raise MemoryError": "not known: MemoryError",
+    "raise ValueError('a thing')": "not known: a thing",
+    "look(said, folder, program, has_fault)": "not known: maximum recursion depth",
+    "raise SystemExit(5)": "not known: 5",
+    "print('x' * 100_000); os.write(2, b'noise')": "a note before",
+}
+
+
+def own_copy(room: Path, parts: dict[str, str]) -> Path:
+    """A copy of the script with other parts."""
+    for name in ("bin", "share"):
+        shutil.copytree(ROOT / name, room / name)
+    for name, text in parts.items():
+        write(room / "share/site" / name, text)
+    return room / "bin/site"
+
+
+def notes_that_end(room: Path) -> None:
+    """Notes that go on for ever, or whose process ends, are cut: the build ends with its own status, and soon."""
+    site = begin(room)
+    script = own_copy(room / "copy", {})
+    for does, line in ENDS.items():
+        write(room / "copy/share/site/notes.py", MEETS.format(does))
+        began = time.monotonic()
+        done = subprocess.run([script, "build", site], stdin=subprocess.DEVNULL, capture_output=True, text=True, timeout=60)
+        expect(done.returncode == 0 and not done.stderr, f"{does}: status {done.returncode}: {done.stderr}")
+        expect(line in done.stdout and "noise" not in done.stdout, f"{does}: {done.stdout}")
+        expect(time.monotonic() - began < 8, f"{does}: the build took {time.monotonic() - began:.1f} s")
+    write(room / "copy/share/site/notes.py", MEETS.format("while True: pass"))
+    with Running("serve", site, site=script) as served:
+        at = served.said("built: ")
+        write(site / "about.html", page("while the notes are made"))
+        served.said("built: ", at)
+        served.said(CUT)
+        expect(any("a note before" in line for line in served.lines), "what was found before the end is not said")
+    # The end of the script is that of the notes.
+    with Running("serve", site, site=script) as served:
+        served.said("built: ")
+        members = family(served.process.pid)
+        os.kill(served.process.pid, signal.SIGKILL)
+        until(lambda: not any(map(is_alive, members)), "all processes have ended")
+        served.process.wait()
+
+
+def nobody_reads(room: Path) -> None:
+    """A build that was good ends with status 0 when nobody can have the notes; without streams, too."""
+    site = begin(room)
+    write(site / "noted.html", page(NOTED))
+    for command in (
+        "{} build {} >&-", "{} build {} <&- >&- 2>&-", "{} build {} 2>/dev/full", "set -o pipefail; {} build {} | {{ read -r a; read -r b; }}",
+    ):
+        shutil.rmtree(site / "_site", ignore_errors=True)
+        shell = command.format(shlex.quote(str(SITE)), shlex.quote(str(site)))
+        done = subprocess.run(["bash", "-c", shell], stdin=subprocess.DEVNULL, stdout=subprocess.PIPE, stderr=subprocess.PIPE, text=True, timeout=60)
+        expect(done.returncode == 0 and "Traceback" not in done.stderr, f"{command}: status {done.returncode}: {done.stderr}")
+        expect((site / "_site/noted.html").is_file(), f"{command} builds nothing")
