@@ -11,7 +11,7 @@ from typing import Callable, Optional
 
 import beside
 from faults import Fault, explain
-from scanned import OUTPUT
+from inside import OUTPUT
 from settings import CONFIGURATION
 from session import Built, Ended, Failed, LeftToScan, Session, can_be_told, read_source
 from status import Status

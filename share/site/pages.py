@@ -13,7 +13,7 @@ from pathlib import Path
 from typing import BinaryIO, Optional
 from urllib.parse import quote, unquote_to_bytes
 
-from scanned import OUTPUT
+from inside import OUTPUT
 from settings import Settings
 from session import MOST_BYTES
 

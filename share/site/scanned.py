@@ -1,9 +1,7 @@
-"""What a scan of the program goes into: docs/PROFILE.md, "The folder"."""
+"""What a scan of the program goes into."""
 from __future__ import annotations
 
-# Passed over wherever it is, and at the top.
-PASSED_OVER = {".git", ".svn", ".hg", ".jekyll-cache", ".sass-cache", "node_modules"}
-OUTPUT = "_site"
+from inside import OUTPUT, PASSED_OVER
 
 
 def join(folder: str, name: str) -> str:

@@ -17,7 +17,7 @@ from typing import BinaryIO, Iterator, Optional
 
 from calling import NotDone, call
 from faults import read_sentence
-from scanned import OUTPUT, PASSED_OVER
+from inside import OUTPUT, PASSED_OVER
 from session import MOST_BYTES, MOST_PATH, Ended, Failed, Session
 from words import shown
 

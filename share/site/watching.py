@@ -12,7 +12,8 @@ from dataclasses import dataclass, field
 from pathlib import Path
 from typing import Optional
 
-from scanned import OUTPUT, is_entered, join
+from inside import OUTPUT
+from scanned import is_entered, join
 
 # Seconds between two looks.
 BETWEEN_LOOKS = 0.2
