@@ -1,6 +1,7 @@
 """Cases of `.ci/site`: what a save, or what happens to the folder and the program, leads to."""
 from __future__ import annotations
 
+import contextlib
 import os
 import re
 import shutil
@@ -356,3 +357,36 @@ def speed(room: Path) -> None:
                 times.append(time.monotonic() - began)
     print(f"site: a save at 1,000 posts is served after {min(times):.2f} to {max(times):.2f} s")
     expect(min(times) < 0.5, f"a save takes {min(times):.2f} s at 1,000 posts")
+
+
+def folders_that_become_links(room: Path) -> None:
+    """Whatever a folder becomes while it is looked at: nothing from outside of the site is read."""
+    for options in (("--poll",), ()):
+        site = begin(room / ("poll" if options else "noticed"))
+        outside, aside = site.parent / "outside", site.parent / "aside"
+        (site.parent / "link").symlink_to(outside)
+        for number in range(20):
+            write(site / f"deep/sub/p{number}.html", page("inside"))
+            write(outside / f"p{number}.html", page("outside"))
+        with Running("watch", site, *options) as watch:
+            watch.said("built: ")
+            end = time.monotonic() + 3
+            while time.monotonic() < end:
+                for new, old in ((site.parent / "link", aside), (aside, site.parent / "link")):
+                    os.rename(site / "deep/sub", old)
+                    os.rename(new, site / "deep/sub")
+                    for number in range(0, 20, 5):
+                        write(outside / f"p{number}.html", page("outside"))
+                    expect(not any("outside" in text for text in texts_of(site / "_site")), f"a file from outside is built {options}")
+            write(site / "deep/sub/last.html", page("last"))
+            until(lambda: (site / "_site/deep/sub/last.html").is_file(), "the last save")
+            expect(not any("outside" in text for text in texts_of(site / "_site")), f"a file from outside is built {options}")
+
+
+def texts_of(folder: Path) -> list[str]:
+    """The texts of the files below a folder, without those that go meanwhile."""
+    found = []
+    for path in folder.rglob("*.html"):
+        with contextlib.suppress(OSError):
+            found.append(path.read_text())
+    return found

@@ -3,10 +3,9 @@ from __future__ import annotations
 
 import importlib
 import importlib.util
-import os
 from pathlib import Path
 
-from scanned import is_entered, join
+from scanned import entries_of, is_entered, join
 from words import shown
 
 STYLES = (".scss", ".sass")
@@ -29,7 +28,7 @@ def has_styles(folder: Path) -> bool:
     while left:
         below = left.pop()
         try:
-            with os.scandir(folder / below) as entries:
+            with entries_of(folder, below) as entries:
                 for entry in entries:
                     if entry.name.endswith(STYLES):
                         return True

@@ -13,7 +13,7 @@ from pathlib import Path
 from typing import BinaryIO, Optional
 from urllib.parse import quote, unquote_to_bytes
 
-from inside import OUTPUT
+from inside import OUTPUT, open_below
 from settings import Settings
 from session import MOST_BYTES
 
@@ -89,20 +89,11 @@ def segments_of(path: bytes) -> Optional[list[bytes]]:
     return segments
 
 
-def open_below(folder: Path, segments: list[bytes]) -> Optional[int]:
-    """Opens what is at a path below a folder, a file or a folder, and follows no link on the way."""
-    number = None
+def open_page(folder: Path, segments: list[bytes]) -> Optional[int]:
+    """Opens what is at a path below a folder, a file or a folder; nothing where nothing is, or a link is on the way."""
     try:
-        number = os.open(folder, os.O_RDONLY | os.O_DIRECTORY | os.O_NOFOLLOW | os.O_CLOEXEC)
-        for segment in segments:
-            # Opening a fifo would otherwise wait.
-            inner = os.open(segment, os.O_RDONLY | os.O_NOFOLLOW | os.O_NONBLOCK | os.O_CLOEXEC, dir_fd=number)
-            os.close(number)
-            number = inner
-        return number
+        return open_below(folder, segments)
     except OSError as error:
-        if number is not None:
-            os.close(number)
         if error.errno in (errno.EMFILE, errno.ENFILE, errno.ENOMEM):
             raise
         return None
@@ -140,7 +131,7 @@ class Pages:
         *folders, name = segments
         names = [name, name + b".html"] if name else [b"index.html"]
         for candidate in names:
-            number = open_below(self.output, [*folders, candidate])
+            number = open_page(self.output, [*folders, candidate])
             if number is None:
                 continue
             kind = kind_of(number)
@@ -152,7 +143,7 @@ class Pages:
         return self.missing(host, version)
 
     def has(self, segments: list[bytes]) -> bool:
-        number = open_below(self.output, segments)
+        number = open_page(self.output, segments)
         if number is None:
             return False
         kind = kind_of(number)
@@ -161,7 +152,7 @@ class Pages:
 
     def missing(self, host: str, version: str, why: str = "") -> Answer:
         """The site's own page for what it does not have, or one that says so."""
-        number = None if why else open_below(self.output, [b"404.html"])
+        number = None if why else open_page(self.output, [b"404.html"])
         if number is not None and kind_of(number) == "file":
             answer = self.read(number, "404.html", host, version)
             answer.status = 404

@@ -4,12 +4,12 @@ from __future__ import annotations
 import errno
 import os
 import select
-import stat
 import subprocess
 from dataclasses import dataclass, field
 from pathlib import Path
 from typing import Optional, Union
 
+from inside import read_below
 from words import shown
 
 # The limits of a line: docs/PROFILE.md, "The lines of a session".
@@ -159,8 +159,8 @@ def split_why(reply: str) -> tuple[str, str]:
 KEYS = {"new", "source", "content", "output", "var", "paginator", "site", "data", "layout", "include", "file", "link", "post", "moment"}
 
 
-# What it means that a file cannot be opened: it has gone, or it is a link, a socket or a device.
-NO_FILE = {errno.ENOENT, errno.ENOTDIR, errno.ELOOP, errno.ENXIO, errno.ENODEV}
+# What it means that a file cannot be opened: it has gone, or there or on the way is a link, a pipe, a socket or a device.
+NO_FILE = {errno.ENOENT, errno.ENOTDIR, errno.ELOOP, errno.ENXIO, errno.ENODEV, errno.EINVAL}
 
 
 def can_be_told(path: str) -> bool:
@@ -173,22 +173,16 @@ def can_be_told(path: str) -> bool:
 
 
 def read_source(folder: Path, path: str) -> Optional[bytes]:
-    """The bytes of a file of the site; nothing if a scan would find no file there. Never waits, as opening a fifo would."""
+    """The bytes of a file of the site; nothing if a scan would find no file there. Follows no link, and never waits.
+
+    Raises LeftToScan for a file that cannot be read, or is too long for a line.
+    """
     try:
-        number = os.open(folder / path, os.O_RDONLY | os.O_NOFOLLOW | os.O_NONBLOCK | os.O_CLOEXEC)
+        data = read_below(folder, path, MOST_BYTES + 1)
     except OSError as error:
         if error.errno in NO_FILE:
             return None
         raise LeftToScan from error
-    try:
-        if not stat.S_ISREG(os.fstat(number).st_mode):
-            return None
-        with open(number, "rb", closefd=False) as file:
-            data = file.read(MOST_BYTES + 1)
-    except OSError as error:
-        raise LeftToScan from error
-    finally:
-        os.close(number)
     if len(data) > MOST_BYTES:
         raise LeftToScan
     return data

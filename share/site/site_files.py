@@ -18,6 +18,7 @@ from typing import BinaryIO, Iterator, Optional
 from calling import NotDone, call
 from faults import read_sentence
 from inside import OUTPUT, PASSED_OVER
+from scanned import entries_of
 from session import MOST_BYTES, MOST_PATH, Ended, Failed, Session
 from words import shown
 
@@ -86,16 +87,16 @@ def list_files(folder: Path) -> Listing:
     while left:
         below = left.pop()
         try:
-            with os.scandir(folder / below) as entries:
+            with entries_of(folder, below) as entries:
                 for entry in sorted(entries, key=lambda one: os.fsencode(one.name)):
-                    sort_entry(found, left, below, entry)
+                    sort_entry(folder, found, left, below, entry)
         except OSError as error:
             found.odd.append((below or ".", f"it cannot be read ({error.strerror})"))
     found.files.sort(key=os.fsencode)
     return found
 
 
-def sort_entry(found: Listing, left: list[str], below: str, entry: os.DirEntry) -> None:
+def sort_entry(folder: Path, found: Listing, left: list[str], below: str, entry: os.DirEntry) -> None:
     """Adds one name of a folder to what is found, or to the folders that are left."""
     path = f"{below}/{entry.name}" if below else entry.name
     fault = name_fault(path)
@@ -108,7 +109,7 @@ def sort_entry(found: Listing, left: list[str], below: str, entry: os.DirEntry) 
             left.append(path)
     elif not entry.is_file(follow_symlinks=False):
         found.odd.append((path, "it is no file (a pipe, a socket or a device)"))
-    elif not os.access(entry.path, os.R_OK):
+    elif not os.access(folder / path, os.R_OK):
         found.odd.append((path, "it cannot be read (Permission denied)"))
     elif path != OUTPUT:
         found.files.append(path)

@@ -13,7 +13,7 @@ from pathlib import Path
 from typing import Optional
 
 from inside import OUTPUT
-from scanned import is_entered, join
+from scanned import entries_of, is_entered, join
 
 # Seconds between two looks.
 BETWEEN_LOOKS = 0.2
@@ -109,7 +109,7 @@ class Inotify:
             if not self.watch(folder):
                 continue
             try:
-                with os.scandir(os.path.join(self.top, folder)) as entries:
+                with entries_of(self.top, folder) as entries:
                     for entry in entries:
                         if not entry.is_dir(follow_symlinks=False):
                             files.add(join(folder, entry.name))
@@ -237,7 +237,7 @@ class Looking:
         while left:
             folder = left.pop()
             try:
-                with os.scandir(os.path.join(self.top, folder)) as entries:
+                with entries_of(self.top, folder) as entries:
                     for entry in entries:
                         path = join(folder, entry.name)
                         if entry.is_dir(follow_symlinks=False):

@@ -17,7 +17,7 @@ from building import Builder
 from drawing import Edit
 from faults import explain
 from pages import with_script
-from scanned import is_entered, join
+from scanned import entries_of, is_entered, join
 from session import Built, Ended, Failed, LeftToScan, Session, can_be_told, read_source
 from settings import CONFIGURATION
 
@@ -77,8 +77,9 @@ def main(arguments: list[str], program: str) -> int:
     reader.add_argument("--to", type=Path, metavar="PAGE", help="writes the page to this new file")
     given = reader.parse_args(arguments)
     file = Path(os.path.abspath(given.file))
-    site = given.site or site_of(file)
-    path = os.path.relpath(file, site)
+    # From the site's folder on no link is followed.
+    site = (given.site or site_of(file)).resolve()
+    path = os.path.relpath(file.parent.resolve() / file.name, site)
     edits = try_edits(program, site, path)
     for edit in edits:
         print(edit.told())
@@ -152,7 +153,7 @@ def copy_sources(site: Path, room: Path) -> None:
     while left:
         folder = left.pop()
         (room / folder).mkdir(exist_ok=True)
-        with os.scandir(site / folder) as entries:
+        with entries_of(site, folder) as entries:
             for entry in entries:
                 path = join(folder, entry.name)
                 if entry.is_dir(follow_symlinks=False):
