@@ -135,3 +135,27 @@ def nobody_reads(room: Path) -> None:
         done = subprocess.run(["bash", "-c", shell], stdin=subprocess.DEVNULL, stdout=subprocess.PIPE, stderr=subprocess.PIPE, text=True, timeout=60)
         expect(done.returncode == 0 and "Traceback" not in done.stderr, f"{command}: status {done.returncode}: {done.stderr}")
         expect((site / "_site/noted.html").is_file(), f"{command} builds nothing")
+
+
+# What texts of one thing over and over are made of: each sign and each front of a form that the notes look for.
+OVER_AND_OVER = [
+    *" \t\r\n`*_~|<>[]()}:&\"'-.%#=!^$/\\,0a\u00e9", "](", "](#", "~~a", "~~ ", "[^a", "{:", "{: ", "{:toc ", "|-", "| - ", "`` ", "`a", "<a ", "&a", "&a;", "'\"",
+    "$$", "[ ] ", "- [ ] ", ": ", "\n:", "a\n: ", "\n    a", "\n```", "\n~~~", "<script", "<pre>", "</pre>", "site.", "map:", "| map: a | join", "\n[a]: ", "\n-|-", "\n- - -",
+    "a\n---\n", "where: 'a.", "sort: 'a", "- a: ", "--", "...", ",1:", "{1:", "\n1:", " --- \n", "--- ", "\n... ",
+]
+LONG = 100_000
+
+
+def long_texts(room: Path) -> None:
+    """A long text of one thing over and over takes as long as any other of its length."""
+    site = room / "site"
+    write_site(site, {f"p{at}.md": page((part * LONG)[:LONG]) for at, part in enumerate(OVER_AND_OVER)})
+    for at, part in enumerate(OVER_AND_OVER):
+        write(site / f"t{at}.html", page("{{ 'a' | append: '" + (part * LONG)[:LONG].replace("'", "") + "' }}"))
+        write(site / f"_data/d{at}.csv", "a,b\n" + (part * LONG)[:LONG].replace('"', "").replace("\r", "") + "\n")
+    write(site / "spaces.md", page("a" + " " * 60_000 + "b"))
+    write(site / "ticks.md", page(" ".join("`" * count for count in range(1, 500))))
+    began = time.monotonic()
+    _, said = told("check", site)
+    expect(NOTE in said and "Traceback" not in said, f"long texts: {said[:2000]}")
+    expect(time.monotonic() - began < 45, f"a check of long texts took {time.monotonic() - began:.0f} s")

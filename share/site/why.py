@@ -27,7 +27,7 @@ NEWLINE = b"\n"
 YAML = (".yml", ".yaml")
 FRONT = re.compile(rb"\A(?:\xef\xbb\xbf)?---[ \t]*\r?\n(.*?)^(?:---|\.\.\.)[ \t]*$", re.DOTALL | re.MULTILINE)
 # A line of YAML whose value is a bare text that ends with a letter.
-VALUE = re.compile(rb"^[ \t]*(?:- +)?[A-Za-z0-9_-]+: +(?![\[{|>&*!'\"#])[^#\n]*[a-z]$|^[ \t]*- +[A-Za-z][^:#\n]*[a-z]$", re.MULTILINE)
+VALUE = re.compile(rb"^[ \t]*(?:- +)?[A-Za-z0-9_-]+: +(?![ \[{|>&*!'\"#])[^#\n]*[a-z]$|^[ \t]*- +[A-Za-z][^:#\n]*[a-z]$", re.MULTILINE)
 TRUTHS = (b"true", b"false", b"yes", b"no", b"on", b"off", b"null")
 TITLE = re.compile(rb"^title:.*$", re.MULTILINE)
 # The last letter of the last text of JSON, and of a field of a table.
