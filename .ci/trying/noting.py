@@ -159,3 +159,16 @@ def long_texts(room: Path) -> None:
     _, said = told("check", site)
     expect(NOTE in said and "Traceback" not in said, f"long texts: {said[:2000]}")
     expect(time.monotonic() - began < 45, f"a check of long texts took {time.monotonic() - began:.0f} s")
+
+
+def many_faults(room: Path) -> None:
+    """Faults are looked for up to a bound that is said, and not before a site is served."""
+    site = room / "site"
+    for number in range(1500):
+        write(site / f"p{number}.html", page("{% nope %}"))
+    with Running("serve", site) as served:
+        served.said("p0.html:4: no tag has this name", seconds=8)
+    said = run("build", site, status=1)
+    expect("p1.html:4: no tag has this name" in said or CUT in said, f"a build: {said}")
+    said = run("check", site, status=1)
+    expect("faults of more files are not looked for: mend these 50 first" in said and said.count("no tag has this name") == 50, f"a check: {said}")

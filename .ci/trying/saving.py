@@ -390,3 +390,22 @@ def texts_of(folder: Path) -> list[str]:
         with contextlib.suppress(OSError):
             found.append(path.read_text())
     return found
+
+
+def scratch_below(room: Path) -> None:
+    """Scratch folders start no build, also where the folder for temporary files is in the site."""
+    site = begin(room)
+    (site / "tmp").mkdir()
+    counting = room / "counting"
+    write(counting, f'#!/bin/sh\necho x >>{room}/runs\nexec "{program()}" "$@"\n')
+    counting.chmod(0o755)
+    for options in ((), ("--poll",)):
+        with Running("serve", site, *options, env={**os.environ, "SITEBUILD": str(counting), "TMPDIR": str(site / "tmp")}) as watch:
+            watch.said("built: ")
+            write(site / "_config.yml", f"title: T {options}\n")
+            watch.said("built: 1 written")
+            time.sleep(1)
+            runs = (room / "runs").read_text().count("x")
+            time.sleep(1.5)
+            expect((room / "runs").read_text().count("x") == runs, "the program is called again and again")
+            expect(not any((site / "_site/tmp").rglob("*")), "a scratch folder is built")

@@ -16,6 +16,7 @@ def styles(folder: Path, program: str) -> list[str]:
     if not has_styles(folder) or importlib.util.find_spec("sass") is None:
         return []
     try:
+        importlib.import_module("site_files").scratch_outside(folder)
         return [shown(line) for line in importlib.import_module("sass").compile_styles(folder, program)]
     except Exception as error:
         # A file may go while it is read, as when a branch is switched. The next save tries again.

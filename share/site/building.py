@@ -14,6 +14,7 @@ from faults import Fault, explain
 from inside import OUTPUT
 from settings import CONFIGURATION
 from session import Built, Ended, Failed, LeftToScan, Session, can_be_told, read_source
+from site_files import scratch_outside
 from status import Status
 from telling import Telling
 from watching import Changes, Looking, NotToBeHad, mark, watch
@@ -71,6 +72,8 @@ class Builder:
         self.making_sure = False
         self.next_scan = 0.0
         self.begun = 0.0
+        if not scratch_outside(folder):
+            raise Refused("no folder for temporary files is outside of the site; set TMPDIR to one that can be written to")
         # Which folders they are, to tell them from others of these names.
         self.place = mark(folder)
         self.output = mark(folder, OUTPUT)

@@ -203,6 +203,24 @@ def scratch() -> Iterator[Path]:
         shutil.rmtree(folder, ignore_errors=True)
 
 
+def scratch_outside(site: Path) -> bool:
+    """Has each scratch folder from now on made outside of a site: within it, its files would be files of the site. Whether there is a place."""
+    for place in (*default_scratch(), "/tmp", "/var/tmp", "/dev/shm", os.fspath(site.parent)):
+        real = Path(os.path.realpath(place))
+        if real.is_dir() and not real.is_relative_to(site) and os.access(real, os.W_OK | os.X_OK):
+            tempfile.tempdir = os.fspath(real)
+            return True
+    return False
+
+
+def default_scratch() -> list[str]:
+    """The folder for temporary files, if there is one that can be written to."""
+    try:
+        return [tempfile.gettempdir()]
+    except FileNotFoundError:
+        return []
+
+
 def run(program: str, folder: Path, *words: str) -> subprocess.CompletedProcess:
     """Runs the program in a folder; its status, and what it says. Raises NotRead when it cannot be run, or does not end."""
     try:

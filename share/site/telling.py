@@ -144,7 +144,10 @@ class Maker:
             self.say([])
             return
         import notes
+        import site_files
 
+        # Otherwise the program may find its files while it reads the site.
+        site_files.scratch_outside(self.folder)
         self.found = notes.Said()
         notes.look(self.found, self.folder, self.program, self.has_fault)
         self.say([])
