@@ -7,6 +7,7 @@ import http.client
 import json
 import os
 import pty
+import shutil
 import signal
 import socket
 import subprocess
@@ -100,6 +101,15 @@ def program() -> str:
     if "SITEBUILD" not in os.environ:
         os.environ["SITEBUILD"] = subprocess.run(["bash", ROOT / ".ci/program"], check=True, stdout=subprocess.PIPE, text=True).stdout.strip()
     return os.path.abspath(os.environ["SITEBUILD"])
+
+
+def own_copy(room: Path, parts: dict[str, str]) -> Path:
+    """A copy of the script with other parts."""
+    for name in ("bin", "share"):
+        shutil.copytree(ROOT / name, room / name)
+    for name, text in parts.items():
+        write(room / "share/site" / name, text)
+    return room / "bin/site"
 
 
 def free_port() -> int:

@@ -9,7 +9,7 @@ import subprocess
 import time
 from pathlib import Path
 
-from running import ROOT, SITE, Running, begin, expect, family, is_alive, page, program, run, until, write
+from running import SITE, Running, begin, expect, family, is_alive, own_copy, page, program, run, until, write
 
 # A note that any of these sites has, and that has to be said whatever else is met.
 NOTED = "{{ site.pages | where_exp: 'a', 'b' }}"
@@ -85,15 +85,6 @@ ENDS = {
     "raise SystemExit(5)": "not known: 5",
     "print('x' * 100_000); os.write(2, b'noise')": "a note before",
 }
-
-
-def own_copy(room: Path, parts: dict[str, str]) -> Path:
-    """A copy of the script with other parts."""
-    for name in ("bin", "share"):
-        shutil.copytree(ROOT / name, room / name)
-    for name, text in parts.items():
-        write(room / "share/site" / name, text)
-    return room / "bin/site"
 
 
 def notes_that_end(room: Path) -> None:

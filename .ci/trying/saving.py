@@ -11,7 +11,7 @@ import sys
 import time
 from pathlib import Path
 
-from running import PATIENCE, ROOT, SITE, Events, Running, begin, expect, family, is_alive, is_free, page, program, run, until, write
+from running import PATIENCE, ROOT, SITE, Events, Running, begin, expect, family, is_alive, is_free, own_copy, page, program, run, until, write
 
 
 def odd_saves(room: Path, *options) -> None:
@@ -204,7 +204,7 @@ def broken_program(room: Path) -> None:
     """A program that ends at once is not begun anew again and again."""
     site = begin(room)
     broken = room / "broken"
-    write(broken, f'#!/bin/sh\n[ "$1" != session ] || echo x >>{room}/runs\nexit 9\n')
+    write(broken, f'#!/bin/sh\n[ "$1 $PWD" != "session {site}" ] || echo x >>{room}/runs\nexit 9\n')
     broken.chmod(0o755)
     with Running("watch", site, env={**os.environ, "SITEBUILD": str(broken)}) as watch:
         watch.said("the program has ended with status 9; trying again after the next save")
@@ -220,7 +220,7 @@ def dying_program(room: Path) -> None:
     """A program that builds, and then ends by itself, each time."""
     site = begin(room)
     dying = room / "dying"
-    write(dying, f'#!/bin/bash\n[ "$1" != session ] || {{ echo x >>{room}/runs && sleep 0.5 && kill -9 $$; }} &\nexec "{program()}" "$@"\n')
+    write(dying, f'#!/bin/bash\n[ "$1 $PWD" != "session {site}" ] || {{ echo x >>{room}/runs && sleep 0.5 && kill -9 $$; }} &\nexec "{program()}" "$@"\n')
     dying.chmod(0o755)
     with Running("watch", site, env={**os.environ, "SITEBUILD": str(dying)}) as watch:
         watch.said("the program was ended by signal 9; trying again after the next save")
@@ -313,14 +313,9 @@ def look(said, folder, program, has_fault):
 
 def beside(room: Path) -> None:
     """Parts that may be there: notes about a site are said once, and what makes styles starts no build of its own."""
-    (room / "copy").mkdir()
-    for name in ("bin", "share"):
-        shutil.copytree(ROOT / name, room / "copy" / name)
-    for name, text in PARTS_OF_ANOTHER.items():
-        write(room / "copy/share/site" / name, text)
+    script = own_copy(room / "copy", PARTS_OF_ANOTHER)
     site = begin(room)
     write(site / "style.scss", "one")
-    script = room / "copy/bin/site"
     said = subprocess.run([script, "check", site], check=True, stdout=subprocess.PIPE, text=True).stdout
     expect(said.splitlines()[1:] == ["clean", "a note of site"], f"the notes of a check: {said}")
     for options in ((), ("--poll",)):
@@ -409,3 +404,46 @@ def scratch_below(room: Path) -> None:
             time.sleep(1.5)
             expect((room / "runs").read_text().count("x") == runs, "the program is called again and again")
             expect(not any((site / "_site/tmp").rglob("*")), "a scratch folder is built")
+
+
+def another_run(room: Path) -> None:
+    """A second run on one site says so, and builds when the first has ended."""
+    site = begin(room)
+    for first, second in (("watch", "serve"), ("serve", "watch")):
+        with Running(first, site) as one:
+            one.said("built: ")
+            with Running(second, site) as other:
+                at = other.said("another run is using this site, perhaps a `site serve` or `site watch` in another window")
+                write(site / "about.html", page(f"beside {second}"))
+                until(lambda: f"beside {second}" in (site / "_site/about.html").read_text(), "a save is built by the first")
+                time.sleep(0.5)
+                expect(sum("another run" in line for line in other.lines) == 1, f"it is said again: {other.lines}")
+                expect("another run of sitebuild is using this folder" in run("build", site, status=4), "a build beside them")
+                one.stop(signal.SIGTERM)
+                other.said("built: ", at)
+                write(site / "about.html", page(f"after {second}"))
+                until(lambda: f"after {second}" in (site / "_site/about.html").read_text(), "a save is built by the second")
+
+
+def builds_without_end(room: Path) -> None:
+    """A template that goes on for years, saved once and mended, is built no longer; and it ends with the script."""
+    script = own_copy(room / "copy", {})
+    path = room / "copy/share/site/session.py"
+    path.write_text(path.read_text().replace("SLOW = 60.0", "SLOW = 1.0").replace("PATIENCE = 5.0", "PATIENCE = 1.0"))
+    site = begin(room)
+    ranges = [f"{{% for a{number} in (1..1000) %}}" for number in range(20)]
+    years = page("".join(ranges) + "{% endfor %}" * len(ranges))
+    with Running("serve", site, site=script) as served:
+        served.said("built: ")
+        write(site / "about.html", years)
+        time.sleep(1.5)
+        expect(served.get("/.site/browser.js")[0] == 200, "nothing is served while a template goes on")
+        write(site / "about.html", page("mended"))
+        served.said("and is not done; building the whole site again")
+        until(lambda: "mended" in served.text("/about"), "what was mended is built")
+        write(site / "about.html", years)
+        time.sleep(1)
+        members = family(served.process.pid)
+        os.kill(served.process.pid, signal.SIGKILL)
+        until(lambda: not any(map(is_alive, members)), "the program has ended with the script")
+        served.process.wait()

@@ -10,7 +10,7 @@ from pathlib import Path
 from typing import Callable, Optional
 
 import beside
-from faults import Fault, explain
+from faults import ANOTHER_RUN, Fault, explain, is_in_use
 from inside import OUTPUT
 from settings import CONFIGURATION
 from session import Built, Ended, Failed, LeftToScan, Session, can_be_told, read_source
@@ -70,6 +70,8 @@ class Builder:
         self.session: Optional[Session] = None
         self.moment = 0
         self.making_sure = False
+        # What was noticed during a build that took long.
+        self.missed = Changes()
         self.next_scan = 0.0
         self.begun = 0.0
         if not scratch_outside(folder):
@@ -119,7 +121,7 @@ class Builder:
         self.begin_notes()
         while True:
             others = [self.session] if self.session else []
-            noticed = self.watch.wait(min(self.next_scan - time.monotonic(), BETWEEN_CHECKS), *others)
+            noticed = self.missed or self.watch.wait(min(self.next_scan - time.monotonic(), BETWEEN_CHECKS), *others)
             if mark(self.folder) != self.place:
                 raise Refused(f"the folder is not there any more: {shown(os.fspath(self.folder))}")
             if noticed:
@@ -128,7 +130,7 @@ class Builder:
                 self.replace_ended(self.session.how_it_ended())
             elif self.session and self.loss():
                 self.begin_again(self.loss())
-            elif time.monotonic() >= self.next_scan:
+            elif time.monotonic() >= self.next_scan or self.status.fault == ANOTHER_RUN and not is_in_use(self.folder):
                 self.make_sure()
 
     # ---- what was noticed
@@ -136,7 +138,8 @@ class Builder:
     def gather(self) -> Changes:
         """What was noticed, until nothing more is for a moment."""
         until = time.monotonic() + LONGEST
-        changes = self.take()
+        changes, self.missed = self.missed, Changes()
+        changes.add(self.take())
         while time.monotonic() < until and self.watch.wait(QUIET):
             changes.add(self.take())
         return changes
@@ -153,6 +156,11 @@ class Builder:
     def take_now(self) -> Changes:
         """What has happened up to now, even if that takes a look at the folder."""
         return self.take() if self.watch.wait(0) else Changes()
+
+    def is_overtaken(self) -> bool:
+        """Whether something was saved during a build."""
+        self.missed.add(self.take_now())
+        return self.missed.unclear or any(not is_editors_own(path) for path in self.missed.paths)
 
     def make_styles(self) -> None:
         for line in beside.styles(self.folder, self.program):
@@ -214,9 +222,12 @@ class Builder:
     def begin_session(self) -> None:
         """Starts a new session, which builds the whole site. If it ends at once, the next save tries again."""
         self.begun = time.monotonic()
+        # A scan reads all.
+        self.missed = Changes()
         self.on_configuration()
         try:
             self.session = Session(self.program, self.folder, self.options)
+            self.session.is_overtaken = self.is_overtaken
             self.next_scan = time.monotonic() + AFTER_ALL
             self.build(self.session.scan)
         except Ended as ended:
@@ -308,7 +319,7 @@ class Builder:
 
     def tell(self, changed: bool, fault: Optional[Fault]) -> None:
         """Tells those who are served, and says a fault: after each save, as long as it is there."""
-        if fault and not (self.making_sure and fault == self.status.fault):
+        if fault and not (fault == self.status.fault and (self.making_sure or fault == ANOTHER_RUN)):
             say(fault.told())
             if fault.text:
                 say(f"    {shown(fault.text.strip())}")

@@ -5,10 +5,13 @@ import errno
 import os
 import select
 import subprocess
+import time
+from collections import deque
 from dataclasses import dataclass, field
 from pathlib import Path
-from typing import Optional, Union
+from typing import Callable, Optional, Union
 
+from calling import release, start, tell
 from inside import read_below
 from words import shown
 
@@ -17,6 +20,11 @@ MOST_BYTES = 16_777_216
 MOST_PATH = 1024
 # How long a session may take to end after it was told to.
 PATIENCE = 5.0
+# A build that takes longer is not waited for when something was saved since: a template can go on for years.
+SLOW = 60.0
+BETWEEN_LOOKS = 1.0
+# As calling.GUARD, but the program has time to end by itself: a kill could leave half a page.
+LATE_GUARD = f'read -r group && ! read -r _ && sleep {PATIENCE:g} && kill -KILL "-$group"'
 
 
 class Ended(Exception):
@@ -47,9 +55,20 @@ class Failed:
 
 
 class Session:
-    """One process of the program. Its standard input is closed when this process ends in any way, and then it ends too."""
+    """One process of the program. Its standard input is closed when this process ends in any way, and then it ends too, or is ended."""
 
-    def __init__(self, program: str, folder: Path, options: list[str]):
+    def __init__(self, program: str, folder: Path, options: list[str], seconds: Optional[float] = None):
+        """Starts it. Raises Ended when it cannot be started, and later when a reply takes more than so many seconds, if that is given."""
+        self.seconds = seconds
+        # Is asked when a reply takes longer than SLOW: whether it is of no more use.
+        self.is_overtaken: Callable[[], bool] = lambda: False
+        # The lines that were read and not taken yet, and the front of the next one.
+        self.heard: deque[bytes] = deque()
+        self.rest = b""
+        try:
+            self.guard = start(["bash", "-p", "-c", LATE_GUARD], Path("/"), subprocess.DEVNULL)
+        except OSError as error:
+            raise Ended(f"the program cannot be started ({error.strerror}): {shown(program)}") from error
         try:
             # In a group of its own: otherwise Ctrl-C in a terminal would end it in the middle of a page.
             self.process = subprocess.Popen(
@@ -61,7 +80,9 @@ class Session:
                 start_new_session=True,
             )
         except OSError as error:
+            release(self.guard)
             raise Ended(f"the program cannot be started ({error.strerror}): {shown(program)}") from error
+        tell(self.guard, b"%d\n" % self.process.pid)
         self.scanned = False
 
     def fileno(self) -> int:
@@ -70,7 +91,7 @@ class Session:
 
     def has_ended(self) -> bool:
         """Whether the program has ended, or has said something that it was not asked: either way it is of no more use."""
-        return bool(select.select([self], [], [], 0)[0])
+        return bool(self.heard) or bool(select.select([self], [], [], 0)[0])
 
     def scan(self) -> Optional[Failed]:
         """Reads the whole folder. Returns nothing if that is done."""
@@ -118,11 +139,25 @@ class Session:
         return self.hear()
 
     def hear(self) -> str:
-        """The next reply."""
-        line = self.process.stdout.readline()
-        if not line.endswith(b"\n"):
-            raise Ended(self.how_it_ended())
-        return line[:-1].decode(errors="replace")
+        """The next reply. Raises Ended when the program has ended, or has to be ended."""
+        begun = time.monotonic()
+        while not self.heard:
+            if not select.select([self], [], [], BETWEEN_LOOKS)[0]:
+                self.lose_patience(time.monotonic() - begun)
+                continue
+            piece = os.read(self.fileno(), 1 << 16)
+            if not piece:
+                raise Ended(self.how_it_ended())
+            *whole, self.rest = (self.rest + piece).split(b"\n")
+            self.heard.extend(whole)
+        return self.heard.popleft().decode(errors="replace")
+
+    def lose_patience(self, seconds: float) -> None:
+        """Raises Ended when a reply that has taken so many seconds is not waited for any longer."""
+        if self.seconds is not None and seconds > self.seconds:
+            raise Ended(f"the program has not replied within {self.seconds:g} seconds")
+        if seconds > SLOW and self.is_overtaken():
+            raise Ended(f"something was saved, and the build before has taken {seconds:.0f} seconds and is not done")
 
     def how_it_ended(self) -> str:
         """A sentence about the process, which has closed its standard output."""
@@ -144,6 +179,7 @@ class Session:
                 break
             except subprocess.TimeoutExpired:
                 then()
+        release(self.guard)
 
 
 def split_why(reply: str) -> tuple[str, str]:

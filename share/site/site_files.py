@@ -15,7 +15,7 @@ from dataclasses import dataclass, field, replace
 from pathlib import Path
 from typing import BinaryIO, Iterator, Optional
 
-from calling import NotDone, call
+from calling import SECONDS, NotDone, call
 from faults import read_sentence
 from inside import OUTPUT, PASSED_OVER
 from scanned import entries_of
@@ -258,7 +258,7 @@ def read_values(program: str, texts: dict[str, str]) -> Values:
         values.faults[name] = Fault(name, 0, "the text is longer than 16 MiB", "F2")
         del sources[name]
     try:
-        with scratch() as folder, closing(Session(program, folder, [])) as session:
+        with scratch() as folder, closing(Session(program, folder, [], SECONDS)) as session:
             session.scan()
             session.put(ASKING, QUESTION)
             for names in builds_of(sources):
