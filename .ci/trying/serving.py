@@ -11,7 +11,7 @@ import time
 from pathlib import Path
 
 import chromium
-from running import PATIENCE, ROOT, URL, Events, Running, begin, expect, page, program, run, small_disk, until, write
+from running import PATIENCE, ROOT, URL, Events, Running, begin, expect, own_copy, page, program, run, small_disk, until, write
 
 
 def serve(room: Path) -> None:
@@ -273,6 +273,104 @@ def in_chromium(room: Path) -> None:
             # The server begins anew at the same port.
             browser.value("window.before = true")
             served.stop(signal.SIGTERM)
+            browser.wait_for(f"{panel} && {panel}.shadowRoot.textContent.includes('The server has ended')", PATIENCE)
             with Running("serve", room / "site", "--port", str(served.port)) as again:
                 again.said("built: ")
-                browser.wait_for("!window.before", 30)
+                browser.wait_for(f"!window.before && !{panel}", 30)
+
+
+def odd_addresses(room: Path) -> None:
+    """Addresses as curl sends them, and what is kept of one that is sent on."""
+    site = begin(room)
+    write(site / "grüße.html", page("Grüße"))
+    write(site / "à Å/index.html", page("deep"))
+    with Running("serve", site) as served:
+        served.said("built: ")
+        for path in ("/grüße", "/grüße.html", "/gr%C3%BC%C3%9Fe", "/à%20Å/"):
+            with socket.create_connection(("127.0.0.1", served.port), timeout=PATIENCE) as client:
+                client.sendall(f"GET {path} HTTP/1.1\r\nHost: localhost\r\nConnection: close\r\n\r\n".encode())
+                said = b"".join(iter(lambda: client.recv(65536), b""))
+            expect(said.startswith(b"HTTP/1.1 200 "), f"GET {path}: {said[:200]}")
+        for path, place in (("/notes?a=b&c=%20", "/notes/?a=b&c=%20"), ("/notes", "/notes/"), ("/%C3%A0%20%C3%85?%C3%BC", "/%C3%A0%20%C3%85/?%C3%BC")):
+            status, headers, _ = served.get(path)
+            expect((status, headers.get("Location")) == (302, place), f"{path} is sent to {headers.get('Location')}")
+        write(site / "_config.yml", "baseurl: /base\n")
+        served.said("/base/")
+        until(lambda: served.get("/?x=1")[1].get("Location") == "/base/?x=1", "the query of the front page is kept")
+
+
+def held_connections(room: Path) -> None:
+    """Clients that hold their connections keep nobody out, and a request that comes in small pieces is let go as a whole."""
+    site = begin(room)
+    script = own_copy(room / "copy", {})
+    path = room / "copy/share/site/serve.py"
+    path.write_text(path.read_text().replace("CLIENT_WAITS = 30", "CLIENT_WAITS = 3"))
+    with Running("serve", site, site=script) as served, contextlib.ExitStack() as held:
+        served.said("built: ")
+
+        def hold(said: bytes) -> socket.socket:
+            client = held.enter_context(socket.create_connection(("127.0.0.1", served.port), timeout=PATIENCE))
+            client.sendall(said)
+            return client
+
+        for said in (b"G", b"GET /.site/events HTTP/1.1\r\nHost: localhost\r\n\r\n"):
+            for _ in range(300):
+                hold(said)
+            for _ in range(5):
+                began = time.monotonic()
+                expect(served.get("/")[0] == 200, "a page beside clients that hold all connections")
+                expect(time.monotonic() - began < 2, f"a page took {time.monotonic() - began:.1f} s")
+        slow, began = hold(b"GET / HTTP/1.1\r\n"), time.monotonic()
+        with contextlib.suppress(ConnectionError):
+            while time.monotonic() - began < 20:
+                slow.sendall(b"a")
+                time.sleep(0.5)
+        expect(2 < time.monotonic() - began < 10, f"a head in small pieces was taken for {time.monotonic() - began:.1f} s")
+
+
+def faults_of_styles(room: Path) -> None:
+    """What is wrong with a style is shown as any other fault is."""
+    site = begin(room)
+    refusing = """from pathlib import Path
+
+def compile_styles(folder: Path, program: str) -> list[str]:
+    if "wrong" in (folder / "style.scss").read_text():
+        return ["style.scss:2: sassc refuses it: no mixin named a; the CSS stays as it is"]
+    return []
+"""
+    script = own_copy(room / "copy", {"sass.py": refusing})
+    write(site / "style.scss", "good")
+    with Running("serve", site, site=script) as served, Events(served) as events:
+        served.said("built: ")
+        first = events.next(lambda state: state["version"][-2:] != "-0")
+        expect(first["fault"] is None, f"a good style: {first}")
+        write(site / "style.scss", "a\nis wrong\n")
+        fault = events.next(lambda state: state["fault"])["fault"]
+        expect((fault["file"], fault["line"], fault["text"]) == ("style.scss", 2, "is wrong"), f"the fault of a style: {fault}")
+        expect("no mixin named a" in fault["sentence"], f"the fault of a style: {fault}")
+        write(site / "about.html", page("more"))
+        until(lambda: "more" in served.text("/about"), "a save beside a fault of a style")
+        expect(events.next(lambda state: True)["fault"], "a build takes the fault of a style away")
+        write(site / "style.scss", "good again")
+        events.next(lambda state: state["fault"] is None)
+
+
+def why_of_the_last_build(room: Path) -> None:
+    """The page about the last build tells of its own edits, whatever words their names have."""
+    site = begin(room)
+    names = ["a new page.md", "new.html", "b site title.html", "c source d.html"]
+    for name in names:
+        write(site / name, page("first"))
+    write(site / "b", "a file with the front of a name")
+    with Running("serve", site) as served:
+        at = served.said("built: ")
+        for name in names:
+            write(site / name, page(f"edited {name}"))
+            at = served.said("built: 1 written", at)
+            text = served.text("/.site/why")
+            expect(f"<h1>What an edit of {name} touches</h1>" in text, f"the page after an edit of {name}: {text}")
+            expect(f"<li>{name}: the text of {name}</li>" in text, f"the page after an edit of {name}: {text}")
+        write(site / "style.css", "b{}")
+        served.said("built: 1 written", at)
+        text = served.text("/.site/why")
+        expect("<h1>What an edit of style.css touches</h1>" in text and "0 of " in text and "about" not in text.split("<body>")[1], f"after a style: {text}")

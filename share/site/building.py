@@ -10,7 +10,7 @@ from pathlib import Path
 from typing import Callable, Optional
 
 import beside
-from faults import ANOTHER_RUN, Fault, explain, is_in_use
+from faults import ANOTHER_RUN, Fault, explain, fault_of_line, is_in_use
 from inside import OUTPUT
 from settings import CONFIGURATION
 from session import Built, Ended, Failed, LeftToScan, Session, can_be_told, read_source
@@ -82,9 +82,13 @@ class Builder:
         # The names that have to be in `_site` itself since the last build, and those of them that were gone right after it.
         self.names: set[str] = set()
         self.gone: set[str] = set()
-        # The last build that rendered something, for those who ask why.
+        # The last build that did something, and what was saved before it, for those who ask why.
         self.last: Optional[Built] = None
+        self.edited: set[str] = set()
+        # What was saved since then.
         self.saved: set[str] = set()
+        # What is wrong with the styles.
+        self.style_fault: Optional[Fault] = None
         # Before the first scan, so that no save is missed.
         self.watch = watch(folder, poll)
         if self.watch.says:
@@ -163,8 +167,10 @@ class Builder:
         return self.missed.unclear or any(not is_editors_own(path) for path in self.missed.paths)
 
     def make_styles(self) -> None:
-        for line in beside.styles(self.folder, self.program):
+        lines = beside.styles(self.folder, self.program)
+        for line in lines:
             say(line)
+        self.style_fault = next(filter(None, (fault_of_line(self.folder, line) for line in lines)), None)
 
     def follow(self, changes: Changes) -> None:
         """Does what changes ask for."""
@@ -174,7 +180,7 @@ class Builder:
             self.make_styles()
             changes.add(self.take_now())
         # Many editors save by a file of another name, which has gone by now.
-        self.saved = {path for path in changes.paths if os.path.lexists(self.folder / path)} or changes.paths
+        self.saved |= {path for path in changes.paths if os.path.lexists(self.folder / path)} or changes.paths
         if self.session and self.loss():
             self.begin_again(self.loss())
         elif changes.paths or changes.unclear:
@@ -307,12 +313,14 @@ class Builder:
         return ""
 
     def tell_built(self, built: Built) -> None:
-        if built.whys:
-            self.last = built
         changed = built.written + built.removed > 0
-        if changed or self.status.fault or self.status.count == 0:
+        if changed or built.whys or self.saved:
+            self.last, self.edited, self.saved = built, self.saved, set()
+        mended = self.status.fault is not None and self.status.fault != self.style_fault
+        if changed or mended or self.status.count == 0:
             say(f"built: {built.written} written, {built.removed} removed")
-        self.tell(changed, None)
+        # It was said when the styles were made.
+        self.status.end(changed, self.style_fault)
 
     def explain(self, failed: Failed) -> Fault:
         return explain(self.program, self.folder, self.options, failed)

@@ -109,6 +109,15 @@ def text_of(folder: Path, path: str, line: int) -> str:
     return lines[line - 1].decode(errors="replace") if line <= len(lines) else ""
 
 
+def fault_of_line(folder: Path, line: str) -> Optional[Fault]:
+    """The fault that a line `FILE:LINE: SENTENCE` or `FILE: SENTENCE` tells; nothing for any other line."""
+    place, found, sentence = line.partition(": ")
+    file, _, number = place.rpartition(":")
+    if not file or not number.isdecimal():
+        file, number = place, "0"
+    return Fault(sentence, "", file, int(number), text_of(folder, file, int(number))) if found else None
+
+
 def output_fault(failed: Failed) -> Fault:
     if not failed.marked:
         return Fault("_site cannot be listed, and nothing was written; check that it is a folder, and check its names and permissions", "status 4")

@@ -118,16 +118,17 @@ class Pages:
     def answer(self, address: str, host: str, version: str) -> Answer:
         """What is served for an address of the site."""
         base = unquote_to_bytes(self.settings.baseurl)
-        path = unquote_to_bytes(re.split(r"[?#]", address, maxsplit=1)[0])
+        place, _, query = address.partition("#")[0].partition("?")
+        path, rest = unquote_to_bytes(place), f"?{query}" if query else ""
         if base and path in (b"/", base):
-            return Answer(302, moved=quote(base) + "/")
+            return Answer(302, moved=quote(base) + "/" + rest)
         if not path.startswith(base + b"/"):
             return self.missing(host, version, f"The site is at {self.settings.baseurl}/, as its baseurl says.")
         segments = segments_of(path[len(base) :])
-        return self.find(segments, path, host, version) if segments else self.missing(host, version)
+        return self.find(segments, quote(path) + "/" + rest, host, version) if segments else self.missing(host, version)
 
-    def find(self, segments: list[bytes], path: bytes, host: str, version: str) -> Answer:
-        """The file of this name, the one with `.html` added, or the index of the folder."""
+    def find(self, segments: list[bytes], as_folder: str, host: str, version: str) -> Answer:
+        """The file of this name, the one with `.html` added, or the index of the folder, which is at an address of its own."""
         *folders, name = segments
         names = [name, name + b".html"] if name else [b"index.html"]
         for candidate in names:
@@ -139,7 +140,7 @@ class Pages:
                 return self.read(number, os.fsdecode(candidate), host, version)
             os.close(number)
             if kind == "folder" and not self.has([*folders, name + b".html"]) and self.has([*folders, name, b"index.html"]):
-                return Answer(302, moved=quote(path) + "/")
+                return Answer(302, moved=as_folder)
         return self.missing(host, version)
 
     def has(self, segments: list[bytes]) -> bool:

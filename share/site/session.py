@@ -3,6 +3,7 @@ from __future__ import annotations
 
 import errno
 import os
+import re
 import select
 import subprocess
 import time
@@ -59,6 +60,7 @@ class Session:
 
     def __init__(self, program: str, folder: Path, options: list[str], seconds: Optional[float] = None):
         """Starts it. Raises Ended when it cannot be started, and later when a reply takes more than so many seconds, if that is given."""
+        self.folder = folder
         self.seconds = seconds
         # Is asked when a reply takes longer than SLOW: whether it is of no more use.
         self.is_overtaken: Callable[[], bool] = lambda: False
@@ -112,7 +114,7 @@ class Session:
         self.done(b"time %d\n" % moment)
         reply, whys = self.ask(b"build\n"), []
         while reply.startswith("why "):
-            path, key = split_why(reply)
+            path, key = split_why(reply, self.folder)
             whys.append((path, key))
             reply = self.hear()
         if reply.startswith("built "):
@@ -182,17 +184,22 @@ class Session:
         release(self.guard)
 
 
-def split_why(reply: str) -> tuple[str, str]:
-    """The path and the key of a reply `why PATH KEY`. A path may hold spaces, so the key is looked for from its first word on."""
+def split_why(reply: str, folder: Path) -> tuple[str, str]:
+    """The path and the key of a reply `why PATH KEY`. A path may hold spaces, and words that a key begins with: the longest that is a file is meant."""
     words = reply[len("why ") :].split(" ")
-    for at in range(1, len(words)):
-        if words[at] in KEYS:
-            return " ".join(words[:at]), " ".join(words[at:])
-    return " ".join(words), ""
+    places = [at for at in range(1, len(words)) if words[at] in KEYS and (words[at] not in ALONE or at == len(words) - 1)]
+    if len(places) > 1:
+        files = [at for at in places if os.path.lexists(folder / PAGE.sub("", " ".join(words[:at])))]
+        places = files[-1:] or places
+    return (" ".join(words[: places[0]]), " ".join(words[places[0] :])) if places else (" ".join(words), "")
 
 
 # The first words of keys: docs/PROFILE.md, "Why an item is rendered".
 KEYS = {"new", "source", "content", "output", "var", "paginator", "site", "data", "layout", "include", "file", "link", "post", "moment"}
+# Those that nothing follows.
+ALONE = {"new", "moment"}
+# The number of a page that pagination has made.
+PAGE = re.compile(r"#\d+$")
 
 
 # What it means that a file cannot be opened: it has gone, or there or on the way is a link, a pipe, a socket or a device.

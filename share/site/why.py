@@ -176,5 +176,5 @@ def last_build(builder: Builder, version: str) -> bytes:
     """The page about the last build of a site that is served."""
     last = builder.last
     edits = [Edit("the last build", last.whys, last.rendered + last.reused, last.written)] if last else []
-    name = ", ".join(sorted(builder.saved)[:3]) or "the site"
+    name = ", ".join(sorted(builder.edited)[:3]) or "the site"
     return with_script(drawing.page(name, edits).encode(errors="backslashreplace"), version)
