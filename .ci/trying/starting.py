@@ -3,6 +3,7 @@ from __future__ import annotations
 
 import os
 import re
+import shlex
 import shutil
 import subprocess
 import sys
@@ -103,16 +104,29 @@ def new(room: Path) -> None:
         watch.said("built: 2 written")
 
 
+def clone_of(room: Path) -> Path:
+    """A clone, as far as `install` needs it."""
+    clone = room / "clone"
+    for name in ("bin", "share", ".ci", "install", "LICENSE-MIT", "LICENSE-APACHE", "release/NOTICES"):
+        (clone / name).parent.mkdir(parents=True, exist_ok=True)
+        (shutil.copytree if (ROOT / name).is_dir() else shutil.copy)(ROOT / name, clone / name)
+    return clone
+
+
+def install(clone: Path, *words, status: int = 0, mask: int = 0o022, **env: str) -> str:
+    """What `install` says, with nothing in the environment but a path, the program and these."""
+    env = {"PATH": os.environ["PATH"], "SITEBUILD": program(), **env}
+    shell = f"umask {mask:03o} && exec bash {shlex.quote(str(clone / 'install'))} \"$@\""
+    done = subprocess.run(["bash", "-c", shell, "bash", *words], env=env, stdin=subprocess.DEVNULL, stdout=subprocess.PIPE, stderr=subprocess.STDOUT, text=True, timeout=60)
+    expect(done.returncode == status, f"install {words}: status {done.returncode} and not {status}: {done.stdout}")
+    return done.stdout
+
+
 def installed(room: Path) -> None:
     """What `install` brings needs no clone."""
-    clone = room / "clone"
-    clone.mkdir()
-    for name in ("bin", "share", ".ci", "install"):
-        (shutil.copytree if (ROOT / name).is_dir() else shutil.copy)(ROOT / name, clone / name)
-    folder = room / "in here/bin"
-    env = {**os.environ, "HOME": str(room), "SITEBUILD": program()}
+    clone, folder = clone_of(room), room / "in here/bin"
     for _ in range(2):
-        subprocess.run(["bash", clone / "install", folder], env=env, check=True, stdout=subprocess.DEVNULL)
+        install(clone, folder, HOME=str(room))
     shutil.rmtree(clone)
     env = {name: value for name, value in os.environ.items() if name != "SITEBUILD"}
     env["PATH"] = f"{folder}:/usr/bin:/bin"
@@ -123,7 +137,39 @@ def installed(room: Path) -> None:
     (room / "linked").symlink_to(folder / "site")
     subprocess.run([room / "linked", "check", "blog"], cwd=room, env=env, check=True, stdout=subprocess.DEVNULL)
     expect(sorted(os.listdir(folder)) == ["site", "sitebuild"], f"what install left: {os.listdir(folder)}")
-    expect(os.listdir(room / "in here/share/sitebuild") == ["site"], "what install left beside")
+    expect(sorted(os.listdir(room / "in here/share/sitebuild")) == ["LICENSE-APACHE", "LICENSE-MIT", "NOTICES", "site"], "what install left beside")
+
+
+def installed_in_the_way(room: Path) -> None:
+    """`install` where something is in the way, where others may read nothing, and without a home."""
+    clone = clone_of(room)
+    said = install(clone, status=1)
+    expect(said == "install: HOME is not set, so name the folder: bash install FOLDER\n", f"without HOME: {said}")
+    # A folder of that name is not ours.
+    for name in ("site", "sitebuild"):
+        write(room / f"{name}-folder/{name}/mine", "mine")
+        said = install(clone, room / f"{name}-folder", status=1)
+        expect(f"{name}-folder/{name} is a folder; move it away" in said, f"{name} is a folder: {said}")
+        expect([str(path.relative_to(room / f"{name}-folder")) for path in sorted((room / f"{name}-folder").rglob("*"))] == [name, f"{name}/mine"], "something was put beside")
+    write(room / "parts/share/sitebuild/site/mine", "mine")
+    expect("is no earlier copy of the parts" in install(clone, room / "parts/bin", status=1), "another folder in the place of the parts")
+    expect((room / "parts/share/sitebuild/site/mine").read_text() == "mine", "a folder of somebody was removed")
+    # A link is replaced, and what it leads to stays.
+    write(room / "kept/main.py", "kept")
+    write(room / "kept.sh", "kept")
+    links = {"site": room / "kept", "sitebuild": room / "kept.sh", "share/sitebuild/site": room / "kept"}
+    for name, target in links.items():
+        (room / "linked" / name).parent.mkdir(parents=True, exist_ok=True)
+        (room / "linked" / name).symlink_to(target)
+    install(clone, room / "linked", mask=0o077)
+    expect(not any((room / "linked" / name).is_symlink() for name in links), "a link is not replaced")
+    expect(os.listdir(room / "kept") == ["main.py"] and (room / "kept.sh").read_text() == "kept", "what a link leads to was touched")
+    # Whoever may call it may read it.
+    install(clone, room / "masked/bin", mask=0o077)
+    for path in [room / "masked", *(room / "masked").rglob("*")]:
+        right = 0o755 if path.is_dir() or path.parent.name == "bin" else 0o444
+        expect(path.stat().st_mode & right == right, f"{path} cannot be read by others: {path.stat().st_mode:o}")
+        expect(not path.stat().st_mode & 0o022, f"{path} can be written by others")
 
 
 def chart(room: Path) -> None:
