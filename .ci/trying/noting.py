@@ -2,11 +2,13 @@
 from __future__ import annotations
 
 import os
+import random
 import shlex
 import shutil
 import signal
 import subprocess
 import time
+from concurrent.futures import ThreadPoolExecutor
 from pathlib import Path
 
 from running import SITE, Running, begin, expect, family, is_alive, own_copy, page, program, run, until, write
@@ -163,3 +165,53 @@ def many_faults(room: Path) -> None:
     expect("p1.html:4: no tag has this name" in said or CUT in said, f"a build: {said}")
     said = run("check", site, status=1)
     expect("faults of more files are not looked for: mend these 50 first" in said and said.count("no tag has this name") == 50, f"a check: {said}")
+
+
+# What texts by chance are made of.
+YAML_PARTS = [
+    "title", "date", "layout", "tags", "categories", "permalink", "published", "redirect_from", "excerpt", "x", ": ", ":", " ", "\n", "\n  ", "- ", "[", "]", "{", "}",
+    ", ", "'", '"', "#", "|", ">", "&a", "*a", "!x", "---\n", "...\n", "2024-01-01", "2023-02-29", "0000-01-01", "2024-01-01 25:61:61 +99:99", "1.50", "0x1F", "017", "1e9", "~",
+    "null", "true", "fALSE", "nO", "\t", "\r", "\r\n", "\0", "\u2028", "\ufeff", "é", "\udcff", "9" * 40, "/a/:title.html", "?", "%", "@", "`",
+]
+TABLE_PARTS = ["a", "b", ",", "\t", '"', '""', "\n", "\r", "\r\n", " ", "\0", "é", "\udcff", "1", "", "'", "x" * 3000, "\ufeff", ";", "{{"]
+TEXT_PARTS = [
+    "a", "word ", "\n", "\n\n", " ", "    ", "\t", "\r\n", "#", "# ", "- ", "* ", "1. ", "> ", "`", "```", "~~~", "~~", "**", "_", "[", "]", "(", ")", "](", "](#x)", "![", "<", ">",
+    "<b>", "</b>", "<!--", "-->", "<script>", "</script>", "<pre>", "&", "&amp;", "&foo;", "|", "|-|-|", "---", "--", "...", "'", '"', "$$", ":", ": x", "{:", "{: .a}", "{:toc}", "[^1]",
+    "[a]: b", "*[a]: b", "- [ ] ", "\\", "\0", "é", "\udcff", "{{ page.title }}", "{{ x | map: 'a' | join | split }}", "{% raw %}", "{% endraw %}", "{% assign a = 1 %}",
+    "{% if a %}", "{% endif %}", "{% tablerow i in (1..3) %}", "{% endtablerow %}", "{% highlight ruby %}", "{% endhighlight %}", "{{", "}}", "{%", "%}", "{{ a | sort: 'x' }}",
+]
+SITES_BY_CHANCE = 35
+TEXTS_OF_A_SITE = 20
+
+
+def by_chance(room: Path) -> None:
+    """Front matter, tables and Markdown by chance, 700 texts: no traceback, and no other status than the program's."""
+    chance = random.Random(60)
+
+    def text(parts: list[str], most: int) -> str:
+        return "".join(chance.choice(parts) for _ in range(chance.randrange(most)))
+
+    def check(number: int) -> None:
+        site = room / str(number)
+        own = subprocess.run([program(), "check"], cwd=site, stdin=subprocess.DEVNULL, capture_output=True, timeout=60).returncode
+        status, said = told("check", site)
+        expect(status == own and "Traceback" not in said, f"site {number} by chance: status {status}, and the program's {own}: {said}")
+        expect(NOTE in said and "is not known (" not in said, f"site {number} by chance: not all notes: {said}")
+
+    for number in range(SITES_BY_CHANCE):
+        files = {}
+        for at in range(TEXTS_OF_A_SITE):
+            kind = chance.randrange(4)
+            if kind == 0:
+                files[f"_posts/2024-01-01-p{at}.md"] = f"---\n{text(YAML_PARTS, 12)}\n---\n{text(TEXT_PARTS, 20)}"
+            elif kind == 1:
+                files[f"_data/d{at}.{chance.choice(['csv', 'tsv', 'yml', 'json'])}"] = text(TABLE_PARTS, 30)
+            elif kind == 2:
+                files[f"{chance.choice(['', '_layouts/', '_includes/', '_c/', '_drafts/'])}p{at}.{chance.choice(['md', 'html'])}"] = f"---\n---\n{text(TEXT_PARTS, 60)}"
+            else:
+                files[f"p{at}.md"] = "---\n" + "".join(f"{text(YAML_PARTS, 2)}: {text(YAML_PARTS, 3)}\n" for _ in range(chance.randrange(5))) + "---\n"
+        if number % 3 == 0:
+            files["_config.yml"] = f"collections: {{c: {{output: true}}}}\n{text(YAML_PARTS, 6)}"
+        write_site(room / str(number), files)
+    with ThreadPoolExecutor(2) as workers:
+        list(workers.map(check, range(SITES_BY_CHANCE)))
