@@ -379,11 +379,12 @@ def folders_that_become_links(room: Path) -> None:
 
 
 def texts_of(folder: Path) -> list[str]:
-    """The texts of the files below a folder, without those that go meanwhile."""
+    """The texts of the pages below a folder, without those that go meanwhile."""
     found = []
-    for path in folder.rglob("*.html"):
-        with contextlib.suppress(OSError):
-            found.append(path.read_text())
+    for at, _, names in os.walk(folder):
+        for name in names:
+            with contextlib.suppress(OSError):
+                found.append(Path(at, name).read_text(encoding="utf-8"))
     return found
 
 
@@ -447,3 +448,18 @@ def builds_without_end(room: Path) -> None:
         os.kill(served.process.pid, signal.SIGKILL)
         until(lambda: not any(map(is_alive, members)), "the program has ended with the script")
         served.process.wait()
+
+
+def styles_that_go(room: Path) -> None:
+    """Files of Sass that come and go while they are looked at, as when a branch is switched."""
+    site = begin(room)
+    with Running("watch", site) as watch:
+        watch.said("built: ")
+        end = time.monotonic() + 3
+        while time.monotonic() < end:
+            for number in range(60):
+                write(site / f"css/s{number}.scss", f"---\n---\na {{ b: {number} }}\n")
+            shutil.rmtree(site / "css")
+        write(site / "about.html", page("after the styles"))
+        until(lambda: "after the styles" in (site / "_site/about.html").read_text(), "a save after styles came and went")
+        expect("Traceback" not in "".join(watch.lines), f"it complains: {watch.lines}")

@@ -5,6 +5,13 @@ import sys
 if sys.version_info < (3, 9):
     sys.exit("site: python3 is version %d.%d here; 3.9 or later is needed" % sys.version_info[:2])
 
+import signal
+
+# Ctrl-C while modules are read ends this without a word, as it ends any program.
+IS_INTERRUPTED = signal.getsignal(signal.SIGINT) is signal.default_int_handler
+if IS_INTERRUPTED:
+    signal.signal(signal.SIGINT, signal.SIG_DFL)
+
 import importlib
 import os
 
@@ -51,6 +58,8 @@ def main():
     for stream in (sys.stdout, sys.stderr):
         stream.reconfigure(errors="backslashreplace", line_buffering=True)
     try:
+        if IS_INTERRUPTED:
+            signal.signal(signal.SIGINT, signal.default_int_handler)
         return run(program_place(sys.argv[1]), sys.argv[2:])
     except words.Refused as refused:
         print(f"site: {refused}", file=sys.stderr)
