@@ -16,6 +16,7 @@ CODE_ENDS = [
 ]
 FENCE = re.compile(r"^ {0,3}(`{3,}|~{3,})[ \t]*([^\s`]*)")
 TICKS = re.compile(r"`+")
+ONE_TICK = re.compile(r"`[^`]*`")
 CELL = re.compile(r":?-+:?")
 DEFINITION = re.compile(r" {0,3}\[[^\[\]\n]+\]:")
 # What has quotes and dashes of its own: tags and addresses.
@@ -74,7 +75,12 @@ def add(notes: Notes, path: str, text: str, start: int) -> None:
     if at is not None:
         notes.add(path, first + at, "a table is text", "write it in HTML")
     for form in FORMS:
-        found = form.pattern.search(body) if any(part in body for part in form.parts) else None
+        for part in form.parts:
+            if part in body:
+                break
+        else:
+            continue
+        found = form.pattern.search(body)
         if found:
             notes.add(path, first + line_at(body, found), form.what, form.remedy)
     for name, at in unknown_references(body).items():
@@ -164,6 +170,8 @@ def blank(found: re.Match) -> str:
 
 def without_code(line: str) -> str:
     """A line with spaces in the place of its code between backticks: a run of them ends at the next run of that length."""
+    if "``" not in line:
+        return ONE_TICK.sub(blank, line)
     runs = [found.span() for found in TICKS.finditer(line)]
     places: dict[int, list[int]] = {}
     for at, (start, end) in enumerate(runs):
