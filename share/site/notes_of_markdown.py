@@ -16,7 +16,7 @@ CODE_ENDS = [
 ]
 FENCE = re.compile(r"^ {0,3}(`{3,}|~{3,})[ \t]*([^\s`]*)")
 TICKS = re.compile(r"`+")
-ONE_TICK = re.compile(r"`[^`]*`")
+ONE_TICK = re.compile(r"`[^`\n]*`")
 CELL = re.compile(r":?-+:?")
 DEFINITION = re.compile(r" {0,3}\[[^\[\]\n]+\]:")
 # What has quotes and dashes of its own: tags and addresses.
@@ -194,8 +194,9 @@ def prose(text: str) -> tuple[str, list[int]]:
     for begin, end in CODE_ENDS:
         text = without(text, spans(text, begin, end))
     text = without(text, ((piece.start, piece.end) for piece in all_pieces(text)))
-    if not any(part in text for part in ("```", "~~~", "\n    ", "\n\t", "`")) and not text.startswith(("    ", "\t")):
-        return text, []
+    if not text.startswith(("    ", "\t")) and not any(part in text for part in ("``", "~~~", "\n    ", "\n\t")):
+        # The usual text: it has no lines of code, and goes through as a whole.
+        return ONE_TICK.sub(blank, text), []
     lines, fences, fence = text.split("\n"), [], ""
     for at, line in enumerate(lines):
         opened = FENCE.match(line) if "```" in line or "~~~" in line else None

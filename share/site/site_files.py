@@ -13,7 +13,7 @@ import tempfile
 from contextlib import closing, contextmanager
 from dataclasses import dataclass, field, replace
 from pathlib import Path
-from typing import BinaryIO, Iterator, Optional
+from typing import BinaryIO, Iterator, Optional, Union
 
 from calling import SECONDS, NotDone, call
 from faults import read_sentence
@@ -75,7 +75,7 @@ def name_fault(path: str) -> str:
         data = path.encode()
     except UnicodeEncodeError:
         return "its name is not UTF-8"
-    if any(byte < 32 or byte == 127 for byte in data):
+    if not path.isprintable() and any(byte < 32 or byte == 127 for byte in data):
         return "its name holds a control character"
     return "its path is longer than 1,024 bytes" if len(data) > MOST_PATH else ""
 
@@ -109,13 +109,13 @@ def sort_entry(folder: Path, found: Listing, left: list[str], below: str, entry:
             left.append(path)
     elif not entry.is_file(follow_symlinks=False):
         found.odd.append((path, "it is no file (a pipe, a socket or a device)"))
-    elif not os.access(folder / path, os.R_OK):
+    elif not os.access(os.path.join(folder, path), os.R_OK):
         found.odd.append((path, "it cannot be read (Permission denied)"))
     elif path != OUTPUT:
         found.files.append(path)
 
 
-def open_file(path: Path) -> BinaryIO:
+def open_file(path: Union[str, Path]) -> BinaryIO:
     """Opens a file. Raises OSError for what is none, and never waits, as opening a fifo would."""
     number = os.open(path, os.O_RDONLY | os.O_NOFOLLOW | os.O_NONBLOCK | os.O_CLOEXEC)
     if not stat.S_ISREG(os.fstat(number).st_mode):
@@ -170,7 +170,7 @@ def begins_with_mark(path: Path) -> bool:
     return read_marked(path) is not None
 
 
-def read_marked(path: Path, most: int = len(b"\xef\xbb\xbf---")) -> Optional[bytes]:
+def read_marked(path: Union[str, Path], most: int = len(b"\xef\xbb\xbf---")) -> Optional[bytes]:
     """The first bytes of a file that begins as front matter does; nothing of another. Raises OSError as opening and reading do."""
     with open_file(path) as file:
         front = file.read(6)

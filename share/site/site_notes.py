@@ -151,9 +151,9 @@ def read_part(folder: Path, path: str, begun: bool = False) -> Optional[str]:
     """The text of a file of the site, as much as a file may have; with `begun` nothing of one that does not begin as front matter does."""
     try:
         if begun:
-            data = read_marked(folder / path, MOST_BYTES)
+            data = read_marked(os.path.join(folder, path), MOST_BYTES)
         else:
-            with open_file(folder / path) as file:
+            with open_file(os.path.join(folder, path)) as file:
                 data = file.read(MOST_BYTES)
     except OSError:
         return None
