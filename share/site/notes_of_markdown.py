@@ -14,6 +14,8 @@ CODE_ENDS = [
     (re.compile(r"\{%-?\s*highlight\b"), re.compile(r"\{%-?\s*endhighlight\s*-?%\}")),
     *((re.compile(rf"<{name}\b"), re.compile(f"</{name}>")) for name in ("script", "style", "pre")),
 ]
+# What a line of code, or of its fence, begins with.
+FRONTS_OF_CODE = (" ", "\t", "`", "~")
 FENCE = re.compile(r"^ {0,3}(`{3,}|~{3,})[ \t]*([^\s`]*)")
 TICKS = re.compile(r"`+")
 ONE_TICK = re.compile(r"`[^`\n]*`")
@@ -71,9 +73,9 @@ def add(notes: Notes, path: str, text: str, start: int) -> None:
     body, fences = prose(text[start:])
     for at in fences[:1]:
         notes.add(path, first + at, "code comes out without colours", "colour it in the browser by the class language-..")
-    at = first_table(body)
-    if at is not None:
-        notes.add(path, first + at, "a table is text", "write it in HTML")
+    heading = first_table(body)
+    if heading is not None:
+        notes.add(path, first + heading, "a table is text", "write it in HTML")
     for form in FORMS:
         for part in form.parts:
             if part in body:
@@ -85,9 +87,9 @@ def add(notes: Notes, path: str, text: str, start: int) -> None:
             notes.add(path, first + line_at(body, found), form.what, form.remedy)
     for name, at in unknown_references(body).items():
         notes.add(path, first + body.count("\n", 0, at), f"&{name}; is text", "write the character")
-    at = straight_signs(body)
-    if at is not None:
-        notes.add(path, first + body.count("\n", 0, at), QUOTES_SAID, "write the signs themselves")
+    sign = straight_signs(body)
+    if sign is not None:
+        notes.add(path, first + body.count("\n", 0, sign), QUOTES_SAID, "write the signs themselves")
 
 
 def first_table(body: str) -> Optional[int]:
@@ -199,6 +201,8 @@ def prose(text: str) -> tuple[str, list[int]]:
         return ONE_TICK.sub(blank, text), []
     lines, fences, fence = text.split("\n"), [], ""
     for at, line in enumerate(lines):
+        if not fence and line[:1] not in FRONTS_OF_CODE and "`" not in line:
+            continue
         opened = FENCE.match(line) if "```" in line or "~~~" in line else None
         if fence:
             fence = "" if opened and opened[1].startswith(fence) and not opened[2] else fence

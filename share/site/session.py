@@ -102,7 +102,13 @@ class Session:
         return None if self.scanned else Failed(reply)
 
     def put(self, path: str, data: bytes) -> None:
-        self.done(b"put %s %d\n%s" % (path.encode(), len(data), data))
+        self.put_all({path: data})
+
+    def put_all(self, files: dict[str, bytes]) -> None:
+        """Puts files, some hundreds at most: all lines are given before the first reply is read, so that nobody waits for each."""
+        self.give(b"".join(b"put %s %d\n%s" % (path.encode(), len(data), data) for path, data in files.items()))
+        for _ in files:
+            self.expect_done(self.hear())
 
     def delete(self, path: str) -> None:
         self.done(b"delete %s\n" % path.encode())
@@ -126,11 +132,18 @@ class Session:
 
     def done(self, line: bytes) -> None:
         """Gives a line that changes what the session holds."""
-        reply = self.ask(line)
+        self.expect_done(self.ask(line))
+
+    def expect_done(self, reply: str) -> None:
+        """Raises Ended unless this is the reply to a line that was done."""
         if reply not in ("ok", "absent"):
             raise Ended(self.how_it_ended() if reply.startswith("script ") else f"the program replied {shown(reply)}")
 
     def ask(self, line: bytes) -> str:
+        self.give(line)
+        return self.hear()
+
+    def give(self, line: bytes) -> None:
         # Not by the stream's own buffer, which would have to be emptied into a process that may have stopped reading.
         left = memoryview(line)
         try:
@@ -138,7 +151,6 @@ class Session:
                 left = left[os.write(self.process.stdin.fileno(), left) :]
         except BrokenPipeError as error:
             raise Ended(self.how_it_ended()) from error
-        return self.hear()
 
     def hear(self) -> str:
         """The next reply. Raises Ended when the program has ended, or has to be ended."""

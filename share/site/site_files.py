@@ -17,7 +17,7 @@ from typing import BinaryIO, Iterator, Optional, Union
 
 from calling import SECONDS, NotDone, call
 from faults import read_sentence
-from inside import OUTPUT, PASSED_OVER
+from inside import OUTPUT, PASSED_OVER, READING
 from scanned import entries_of
 from session import MOST_BYTES, MOST_PATH, Ended, Failed, Session
 from words import shown
@@ -29,6 +29,8 @@ ALWAYS_EXCLUDED = [
     ".sass-cache", ".jekyll-cache", "gemfiles", "Gemfile", "Gemfile.lock", "node_modules",
     "vendor/bundle", "vendor/cache", "vendor/gems", "vendor/ruby",
 ]
+# So many bytes are read at once of a page.
+SHORT = 65_536
 # So many texts are read by one build, or so many bytes: after each fault among them it is asked for anew.
 TEXTS_OF_A_BUILD = 250
 BYTES_OF_A_BUILD = 67_108_864
@@ -115,13 +117,18 @@ def sort_entry(folder: Path, found: Listing, left: list[str], below: str, entry:
         found.files.append(path)
 
 
-def open_file(path: Union[str, Path]) -> BinaryIO:
-    """Opens a file. Raises OSError for what is none, and never waits, as opening a fifo would."""
-    number = os.open(path, os.O_RDONLY | os.O_NOFOLLOW | os.O_NONBLOCK | os.O_CLOEXEC)
+def open_number(path: Union[str, Path]) -> int:
+    """The number of a file that is opened to read. Raises OSError for what is none, and never waits, as opening a fifo would."""
+    number = os.open(path, READING)
     if not stat.S_ISREG(os.fstat(number).st_mode):
         os.close(number)
         raise OSError(errno.EINVAL, "it is no file", os.fspath(path))
-    return os.fdopen(number, "rb")
+    return number
+
+
+def open_file(path: Union[str, Path]) -> BinaryIO:
+    """Opens a file, as `open_number` does."""
+    return os.fdopen(open_number(path), "rb")
 
 
 def text_of(data: bytes) -> str:
@@ -167,16 +174,24 @@ def front_matter(text: str) -> Optional[re.Match]:
 
 def begins_with_mark(path: Path) -> bool:
     """Whether a file begins as front matter does."""
-    return read_marked(path) is not None
+    return read_marked(path, SHORT) is not None
 
 
-def read_marked(path: Union[str, Path], most: int = len(b"\xef\xbb\xbf---")) -> Optional[bytes]:
-    """The first bytes of a file that begins as front matter does; nothing of another. Raises OSError as opening and reading do."""
-    with open_file(path) as file:
-        front = file.read(6)
-        if not front.removeprefix(b"\xef\xbb\xbf").startswith(b"---"):
+def read_marked(path: Union[str, Path], most: int) -> Optional[bytes]:
+    """So many bytes of a file that begins as front matter does; nothing of another. Raises OSError as opening and reading do."""
+    number = open_number(path)
+    try:
+        parts = [os.read(number, SHORT)]
+        if not parts[0].removeprefix(b"\xef\xbb\xbf").startswith(b"---"):
             return None
-        return front + file.read(most - len(front))
+        left = most - len(parts[0])
+        # Most pages are read by now: less than was asked for means the end.
+        while left > 0 and len(parts[-1]) == SHORT:
+            parts.append(os.read(number, SHORT))
+            left -= len(parts[-1])
+        return b"".join(parts)[:most]
+    finally:
+        os.close(number)
 
 
 def line_of(text: str, at: int) -> int:
@@ -286,8 +301,7 @@ def builds_of(sources: dict[str, bytes]) -> Iterator[list[str]]:
 
 def read_some(session: Session, folder: Path, left: dict[str, str], sources: dict[str, bytes], values: Values) -> None:
     """Adds the values of some texts, which are data files of these paths. Those of an earlier build may still be there."""
-    for path, name in left.items():
-        session.put(path, sources[name])
+    session.put_all({path: sources[name] for path, name in left.items()})
     while True:
         # Nothing that is asked for depends on the moment.
         outcome = session.build(0)

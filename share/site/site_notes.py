@@ -130,7 +130,7 @@ def read_site(folder: Path, program: str) -> Site:
         part = read_part(folder, path, begun=not is_include and not is_layout)
         if part is None:
             continue
-        if is_include or is_layout and not begins_with_mark(part):
+        if is_include or is_layout and not is_marked(part):
             site.plain[path] = part
         elif not path.startswith("_data/"):
             begun[path] = part
@@ -160,5 +160,5 @@ def read_part(folder: Path, path: str, begun: bool = False) -> Optional[str]:
     return None if data is None else text_of(data)
 
 
-def begins_with_mark(text: str) -> bool:
+def is_marked(text: str) -> bool:
     return text.removeprefix("\ufeff").startswith("---")

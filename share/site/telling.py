@@ -11,9 +11,12 @@ import sys
 import threading
 import time
 from pathlib import Path
-from typing import NoReturn, Optional
+from typing import TYPE_CHECKING, NoReturn, Optional
 
 from words import shown
+
+if TYPE_CHECKING:
+    import notes
 
 # The notes have so many seconds, and their process so many more to say them and to end.
 SECONDS = 1.0
@@ -123,7 +126,7 @@ class Maker:
         self.begun, self.known = threading.Event(), threading.Event()
         self.faulty = False
         # What was found up to now, once something is looked for.
-        self.found = None
+        self.found: Optional[notes.Said] = None
 
     def run(self) -> NoReturn:
         """Makes the notes, says them, and ends."""
@@ -148,8 +151,8 @@ class Maker:
 
         # Otherwise the program may find its files while it reads the site.
         site_files.scratch_outside(self.folder)
-        self.found = notes.Said()
-        notes.look(self.found, self.folder, self.program, self.has_fault)
+        found = self.found = notes.Said()
+        notes.look(found, self.folder, self.program, self.has_fault)
         self.say([])
 
     def has_fault(self) -> bool:
