@@ -107,7 +107,7 @@ class Builder:
 
     def begin_notes(self) -> None:
         """Has the notes made and said while other things are done."""
-        self.teller = threading.Thread(target=self.say_notes, args=(self.status.fault is not None,), daemon=True)
+        self.teller = threading.Thread(target=self.say_notes, args=(self.status.fault not in (None, self.style_fault),), daemon=True)
         self.teller.start()
 
     def say_notes(self, faulty: bool) -> None:

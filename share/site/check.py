@@ -28,8 +28,8 @@ def run(word: str, arguments: list[str], program: str, jobs: bool, styles: bool)
     reader = words.parser(word)
     words.add_site(reader, jobs=jobs)
     given = reader.parse_args(arguments)
-    for line in beside.styles(given.folder, program) if styles else []:
-        print(line)
+    if styles:
+        tell(beside.styles(given.folder, program))
     with closing(Telling(given.folder, program)) as telling:
         telling.begin()
         try:

@@ -4,11 +4,13 @@ The program tells one fault. In a scratch copy the faulty part is taken out, in 
 """
 from __future__ import annotations
 
+import contextlib
+import os
 from dataclasses import replace
 from pathlib import Path
 
 from configuration import Settings
-from site_files import Fault, NotRead, begins_with_mark, first_fault, front_matter, list_files, read_text, run, scratch, write_text
+from site_files import Fault, NotRead, begins_with_mark, first_fault, front_matter, list_files, open_file, read_text, run, scratch, write_text
 
 CONFIG = "_config.yml"
 # Each fault is looked for by a check of the whole site.
@@ -41,6 +43,12 @@ def further_faults(folder: Path, program: str) -> list[str]:
     found = all_faults(folder, program)
     told = found[1:] if found and found[0].key == "" else found
     return [*map(str, told), *more_faults(found)]
+
+
+def fault_lines(folder: Path, program: str) -> list[str]:
+    """The lines for all faults that are looked for."""
+    found = all_faults(folder, program)
+    return [*map(str, found), *more_faults(found)]
 
 
 def more_faults(found: list[Fault]) -> list[str]:
@@ -96,17 +104,20 @@ def with_key(fault: Fault, room: Path, program: str) -> Fault:
 
 def copy(folder: Path, room: Path) -> None:
     for path in list_files(folder).files:
-        source, target = folder / path, room / path
-        size = source.stat().st_size
-        if size <= WHOLE or path.startswith(TEXTS):
-            write_plain(target, source.read_bytes())
-            continue
-        if begins_with_mark(source):
-            write_plain(target, source.read_bytes())
-        else:
-            write_plain(target, b"")
-            with open(target, "r+b") as file:
-                file.truncate(size)
+        # What goes meanwhile is no part of the site.
+        with contextlib.suppress(FileNotFoundError):
+            copy_file(folder / path, room / path, path.startswith(TEXTS))
+
+
+def copy_file(source: Path, target: Path, is_text: bool) -> None:
+    """Copies a file; of a long one that is neither a text for all pages nor a page the size alone."""
+    with open_file(source) as file:
+        size = os.fstat(file.fileno()).st_size
+        if is_text or size <= WHOLE or begins_with_mark(source):
+            write_plain(target, file.read())
+            return
+    write_plain(target, b"")
+    os.truncate(target, size)
 
 
 def write_plain(path: Path, data: bytes) -> None:
