@@ -6,6 +6,8 @@ import errno
 import http.client
 import json
 import os
+import pty
+import shutil
 import signal
 import socket
 import subprocess
@@ -17,6 +19,7 @@ from pathlib import Path
 ROOT = Path(__file__).resolve().parent.parent
 SITE = ROOT / "bin/site"
 PATIENCE = 15.0
+URL = "https://example.org"
 
 
 class Failure(Exception):
@@ -56,6 +59,59 @@ def page(text: str, title: str = "Page") -> str:
     return f"---\ntitle: {title}\n---\n{text}\n"
 
 
+def begin(room: Path) -> Path:
+    """A small site."""
+    site = room / "site"
+    write(site / "_config.yml", f"title: T\nurl: {URL}\n")
+    write(site / "index.html", page('<a href="{{ "/about" | absolute_url }}">{{ site.title }}</a> https://example.organ'))
+    write(site / "about.html", page("about"))
+    write(site / "notes/index.html", page("notes"))
+    write(site / "style.css", "a{}")
+    return site
+
+
+def on_a_terminal(*words) -> str:
+    """What `site` says on a terminal of its own."""
+    process, terminal = pty.fork()
+    if process == 0:
+        os.execv(SITE, [str(SITE), *map(str, words)])
+    said = b""
+    # A terminal whose last writer has ended gives an error.
+    with contextlib.suppress(OSError):
+        while piece := os.read(terminal, 65536):
+            said += piece
+    os.close(terminal)
+    os.waitpid(process, 0)
+    return said.decode()
+
+
+@contextlib.contextmanager
+def small_disk(at: Path, size: str):
+    """A disk with little room; gives whether one can be had."""
+    at.mkdir(parents=True)
+    had = subprocess.run(["mount", "-t", "tmpfs", "-o", f"size={size}", "tmpfs", at], capture_output=True).returncode == 0
+    try:
+        yield had
+    finally:
+        if had:
+            subprocess.run(["umount", "--lazy", at], check=True)
+
+
+def program() -> str:
+    if "SITEBUILD" not in os.environ:
+        os.environ["SITEBUILD"] = subprocess.run(["bash", ROOT / ".ci/program"], check=True, stdout=subprocess.PIPE, text=True).stdout.strip()
+    return os.path.abspath(os.environ["SITEBUILD"])
+
+
+def own_copy(room: Path, parts: dict[str, str]) -> Path:
+    """A copy of the script with other parts."""
+    for name in ("bin", "share"):
+        shutil.copytree(ROOT / name, room / name)
+    for name, text in parts.items():
+        write(room / "share/site" / name, text)
+    return room / "bin/site"
+
+
 def free_port() -> int:
     with socket.socket() as probe:
         probe.bind(("127.0.0.1", 0))
@@ -84,6 +140,14 @@ def processes() -> dict[int, tuple[int, str]]:
                 fields = Path("/proc", entry, "stat").read_text(errors="replace").rpartition(")")[2].split()
                 found[int(entry)] = (int(fields[1]), fields[0])
     return found
+
+
+def command_of(number: int) -> bytes:
+    """The words that a process was started with, each with a zero byte after it; nothing of one that has gone."""
+    try:
+        return Path(f"/proc/{number}/cmdline").read_bytes()
+    except OSError:
+        return b""
 
 
 def family(first: int) -> set[int]:
@@ -140,7 +204,8 @@ class Running:
     def program(self) -> int:
         """The process of the program, which replies to the lines of the session."""
         children = [number for number, (parent, state) in processes().items() if parent == self.process.pid and state not in "ZX"]
-        return children[0] if children else 0
+        # Beside it there may be the process that makes the notes.
+        return next((number for number in children if b"\0session\0" in command_of(number)), 0)
 
     def stop(self, number: int, seconds: float = PATIENCE) -> None:
         """Ends it: no process is left, and its port is free."""

@@ -7,6 +7,7 @@ from pathlib import Path
 
 import calls
 import hostile
+import paths
 import plugins
 import proof
 import random_sites
@@ -22,10 +23,12 @@ def main() -> int:
     with tempfile.TemporaryDirectory() as name:
         work = Path(name)
         work.chmod(0o755)
-        for part in ("rows", "calls", "chance", "hostile", "proof", "plugins"):
+        for part in ("rows", "calls", "paths", "chance", "hostile", "proof", "plugins"):
             (work / part).mkdir()
         calls.try_all(work / "calls", failures)
         print("calls of other programs: within their limits, and ended with their caller")
+        paths.try_all(work / "paths", failures)
+        print("paths that lead out of a folder: nothing is read or written there")
         count = rows.try_rows(work / "rows", failures, jekyll)
         print(f"{count} sites that are read otherwise: " + ("here and there as listed" if jekyll else "here as listed; not tried by Jekyll, which is not installed"))
         if jekyll:

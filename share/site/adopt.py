@@ -12,7 +12,7 @@ from typing import Optional
 from adopt_files import adopt_templates, adopt_theme, mend_front_matter, write_feeds, write_redirects, write_sitemap, write_styles
 from adopt_settings import adopt_configuration
 from adoption import Adoption
-from first_faults import all_faults
+from first_faults import fault_lines
 from notes import differences
 from site_files import PASSED_OVER, NotRead, list_files, write_bytes
 from words import Refused, a_folder, parser, shown
@@ -57,7 +57,7 @@ def adopt(adoption: Adoption, theme: Optional[Path]) -> None:
     write_sitemap(adoption, config)
     write_redirects(adoption)
     write_styles(adoption)
-    adoption.left_lines += [str(fault) for fault in all_faults(adoption.folder, adoption.program)]
+    adoption.left_lines += fault_lines(adoption.folder, adoption.program)
     adoption.left_lines += differences(adoption.folder, adoption.program)
 
 

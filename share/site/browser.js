@@ -2,8 +2,11 @@
 (() => {
   const script = document.currentScript;
   const own = new URL(".", script.src);
+  // The server answers again within this time after it was begun anew.
+  const patience = 2000;
   let stream = null;
   let panel = null;
+  let alone = null;
 
   function element(name, text) {
     const made = document.createElement(name);
@@ -45,9 +48,23 @@
     document.documentElement.append(panel);
   }
 
+  // The browser asks again by itself, but for errors that it takes for the end.
+  function wait() {
+    alone ??= setTimeout(() => {
+      alone = null;
+      show({ sentence: "the server has ended, or does not answer; start `site serve` again", file: "", text: "" });
+      if (stream?.readyState === EventSource.CLOSED) {
+        attend();
+      }
+    }, patience);
+  }
+
   function listen() {
     stream = new EventSource(new URL("events", own));
+    stream.onerror = wait;
     stream.onmessage = (event) => {
+      clearTimeout(alone);
+      alone = null;
       const state = JSON.parse(event.data);
       if (state.version !== script.dataset.version) {
         location.reload();
@@ -63,6 +80,8 @@
   function attend() {
     stream?.close();
     stream = null;
+    clearTimeout(alone);
+    alone = null;
     if (document.visibilityState === "visible") {
       listen();
     }

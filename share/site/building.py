@@ -1,17 +1,23 @@
 """Keeps a site built: puts what was saved into a running session, and builds."""
 from __future__ import annotations
 
+import contextlib
 import os
+import sys
+import threading
 import time
 from pathlib import Path
 from typing import Callable, Optional
 
 import beside
-from faults import Fault, explain
+from faults import ANOTHER_RUN, Fault, explain, fault_of_line, is_in_use
+from inside import OUTPUT
 from settings import CONFIGURATION
 from session import Built, Ended, Failed, LeftToScan, Session, can_be_told, read_source
+from site_files import scratch_outside
 from status import Status
-from watching import OUTPUT, Changes, Looking, NotToBeHad, mark, watch
+from telling import Telling
+from watching import Changes, Looking, NotToBeHad, mark, watch
 from words import Refused, shown
 
 # An editor saves in several steps: a build waits until nothing has happened for so long, but no longer than so long in all.
@@ -30,7 +36,9 @@ EDITORS_OWN = (".swp", ".swo", ".swx", "~")
 
 
 def say(line: str) -> None:
-    print(f"{time.strftime('%H:%M:%S')}  {line}", flush=True)
+    # In one piece, since another thread may say something too.
+    sys.stdout.write(f"{time.strftime('%H:%M:%S')}  {line}\n")
+    sys.stdout.flush()
 
 
 def is_editors_own(path: str) -> bool:
@@ -50,6 +58,9 @@ class Builder:
     """One site, its watch and its session."""
 
     def __init__(self, program: str, folder: Path, options: list[str], poll: bool = False):
+        # A fork, so it comes before any thread.
+        self.telling = Telling(folder, program)
+        self.teller: Optional[threading.Thread] = None
         self.program = program
         self.folder = folder
         self.options = options
@@ -59,17 +70,25 @@ class Builder:
         self.session: Optional[Session] = None
         self.moment = 0
         self.making_sure = False
+        # What was noticed during a build that took long.
+        self.missed = Changes()
         self.next_scan = 0.0
         self.begun = 0.0
+        if not scratch_outside(folder):
+            raise Refused("no folder for temporary files is outside of the site; set TMPDIR to one that can be written to")
         # Which folders they are, to tell them from others of these names.
         self.place = mark(folder)
         self.output = mark(folder, OUTPUT)
         # The names that have to be in `_site` itself since the last build, and those of them that were gone right after it.
         self.names: set[str] = set()
         self.gone: set[str] = set()
-        # The last build that rendered something, for those who ask why.
+        # The last build that did something, and what was saved before it, for those who ask why.
         self.last: Optional[Built] = None
+        self.edited: set[str] = set()
+        # What was saved since then.
         self.saved: set[str] = set()
+        # What is wrong with the styles.
+        self.style_fault: Optional[Fault] = None
         # Before the first scan, so that no save is missed.
         self.watch = watch(folder, poll)
         if self.watch.says:
@@ -78,20 +97,35 @@ class Builder:
     def close(self) -> None:
         self.status.stop()
         self.watch.close()
+        self.telling.end()
         if self.session:
             self.session.close()
+        if self.teller:
+            self.teller.join()
+        else:
+            self.telling.close()
+
+    def begin_notes(self) -> None:
+        """Has the notes made and said while other things are done."""
+        self.teller = threading.Thread(target=self.say_notes, args=(self.status.fault not in (None, self.style_fault),), daemon=True)
+        self.teller.start()
+
+    def say_notes(self, faulty: bool) -> None:
+        self.telling.begin()
+        with contextlib.suppress(OSError):
+            for line in self.telling.lines(faulty, limited=True):
+                say(line)
 
     def run(self) -> None:
         """Builds the site, and then after each save, until the folder has gone."""
-        for line in beside.notes(self.folder, self.program):
-            say(line)
         self.make_styles()
         # The first scan finds what that has written.
         self.take_now()
         self.begin_session()
+        self.begin_notes()
         while True:
             others = [self.session] if self.session else []
-            noticed = self.watch.wait(min(self.next_scan - time.monotonic(), BETWEEN_CHECKS), *others)
+            noticed = self.missed or self.watch.wait(min(self.next_scan - time.monotonic(), BETWEEN_CHECKS), *others)
             if mark(self.folder) != self.place:
                 raise Refused(f"the folder is not there any more: {shown(os.fspath(self.folder))}")
             if noticed:
@@ -100,7 +134,7 @@ class Builder:
                 self.replace_ended(self.session.how_it_ended())
             elif self.session and self.loss():
                 self.begin_again(self.loss())
-            elif time.monotonic() >= self.next_scan:
+            elif time.monotonic() >= self.next_scan or self.status.fault == ANOTHER_RUN and not is_in_use(self.folder):
                 self.make_sure()
 
     # ---- what was noticed
@@ -108,7 +142,8 @@ class Builder:
     def gather(self) -> Changes:
         """What was noticed, until nothing more is for a moment."""
         until = time.monotonic() + LONGEST
-        changes = self.take()
+        changes, self.missed = self.missed, Changes()
+        changes.add(self.take())
         while time.monotonic() < until and self.watch.wait(QUIET):
             changes.add(self.take())
         return changes
@@ -126,9 +161,16 @@ class Builder:
         """What has happened up to now, even if that takes a look at the folder."""
         return self.take() if self.watch.wait(0) else Changes()
 
+    def is_overtaken(self) -> bool:
+        """Whether something was saved during a build."""
+        self.missed.add(self.take_now())
+        return self.missed.unclear or any(not is_editors_own(path) for path in self.missed.paths)
+
     def make_styles(self) -> None:
-        for line in beside.styles(self.folder, self.program):
+        lines = beside.styles(self.folder, self.program)
+        for line in lines:
             say(line)
+        self.style_fault = next(filter(None, (fault_of_line(self.folder, line) for line in lines)), None)
 
     def follow(self, changes: Changes) -> None:
         """Does what changes ask for."""
@@ -138,7 +180,7 @@ class Builder:
             self.make_styles()
             changes.add(self.take_now())
         # Many editors save by a file of another name, which has gone by now.
-        self.saved = {path for path in changes.paths if os.path.lexists(self.folder / path)} or changes.paths
+        self.saved |= {path for path in changes.paths if os.path.lexists(self.folder / path)} or changes.paths
         if self.session and self.loss():
             self.begin_again(self.loss())
         elif changes.paths or changes.unclear:
@@ -186,9 +228,12 @@ class Builder:
     def begin_session(self) -> None:
         """Starts a new session, which builds the whole site. If it ends at once, the next save tries again."""
         self.begun = time.monotonic()
+        # A scan reads all.
+        self.missed = Changes()
         self.on_configuration()
         try:
             self.session = Session(self.program, self.folder, self.options)
+            self.session.is_overtaken = self.is_overtaken
             self.next_scan = time.monotonic() + AFTER_ALL
             self.build(self.session.scan)
         except Ended as ended:
@@ -268,19 +313,21 @@ class Builder:
         return ""
 
     def tell_built(self, built: Built) -> None:
-        if built.whys:
-            self.last = built
         changed = built.written + built.removed > 0
-        if changed or self.status.fault or self.status.count == 0:
+        if changed or built.whys or self.saved:
+            self.last, self.edited, self.saved = built, self.saved, set()
+        mended = self.status.fault is not None and self.status.fault != self.style_fault
+        if changed or mended or self.status.count == 0:
             say(f"built: {built.written} written, {built.removed} removed")
-        self.tell(changed, None)
+        # It was said when the styles were made.
+        self.status.end(changed, self.style_fault)
 
     def explain(self, failed: Failed) -> Fault:
         return explain(self.program, self.folder, self.options, failed)
 
     def tell(self, changed: bool, fault: Optional[Fault]) -> None:
         """Tells those who are served, and says a fault: after each save, as long as it is there."""
-        if fault and not (self.making_sure and fault == self.status.fault):
+        if fault and not (fault == self.status.fault and (self.making_sure or fault == ANOTHER_RUN)):
             say(fault.told())
             if fault.text:
                 say(f"    {shown(fault.text.strip())}")

@@ -1,13 +1,15 @@
 """What is wrong with a site, as a person or a page in the browser is told."""
 from __future__ import annotations
 
+import fcntl
 import os
 import re
-import subprocess
 from dataclasses import dataclass
 from pathlib import Path
 from typing import Optional
 
+from calling import NotDone, call
+from inside import OUTPUT, open_below
 from session import Failed, LeftToScan, read_source
 from words import shown
 
@@ -34,17 +36,38 @@ class Fault:
         return f"{place}{shown(self.sentence)}{code}"
 
 
+ANOTHER_RUN = Fault(
+    "another run is using this site, perhaps a `site serve` or `site watch` in another window; this one builds when that has ended", "status 4"
+)
+
+
+def is_in_use(folder: Path) -> bool:
+    """Whether a run of the program holds `_site`: docs/PROFILE.md, "One run at a time"."""
+    try:
+        number = open_below(folder, [os.fsencode(OUTPUT)])
+    except OSError:
+        return False
+    try:
+        # A run takes it for itself alone.
+        fcntl.flock(number, fcntl.LOCK_SH | fcntl.LOCK_NB)
+        return False
+    except BlockingIOError:
+        return True
+    except OSError:
+        # This file system has no locks.
+        return False
+    finally:
+        os.close(number)
+
+
 def explain(program: str, folder: Path, options: list[str], failed: Failed) -> Fault:
     """What a reply means. The replies of a session have no sentences, so `check` is asked for them."""
     if failed.reply.startswith("out-fault"):
-        return output_fault(failed)
+        return ANOTHER_RUN if not failed.marked and is_in_use(folder) else output_fault(failed)
     options = [word for word in options if word in ("--drafts", "--future")]
     try:
-        check = subprocess.run(
-            [program, "check", *options], cwd=folder, stdin=subprocess.DEVNULL, stdout=subprocess.DEVNULL, stderr=subprocess.PIPE, start_new_session=True
-        )
-        said = check.stderr.decode(errors="replace").strip()
-    except OSError:
+        said = call([program, "check", *options], folder).stderr.decode(errors="replace").strip()
+    except NotDone:
         said = ""
     # `fault KIND LINE PATH`, or `scan-fault`
     parts = failed.reply.split(" ", 3)
@@ -84,6 +107,15 @@ def text_of(folder: Path, path: str, line: int) -> str:
         return ""
     lines = re.split(rb"\r\n|\n|\r", data)
     return lines[line - 1].decode(errors="replace") if line <= len(lines) else ""
+
+
+def fault_of_line(folder: Path, line: str) -> Optional[Fault]:
+    """The fault that a line `FILE:LINE: SENTENCE` or `FILE: SENTENCE` tells; nothing for any other line."""
+    place, found, sentence = line.partition(": ")
+    file, _, number = place.rpartition(":")
+    if not file or not number.isdecimal():
+        file, number = place, "0"
+    return Fault(sentence, "", file, int(number), text_of(folder, file, int(number))) if found else None
 
 
 def output_fault(failed: Failed) -> Fault:

@@ -4,13 +4,17 @@ The program tells one fault. In a scratch copy the faulty part is taken out, in 
 """
 from __future__ import annotations
 
+import contextlib
+import os
 from dataclasses import replace
 from pathlib import Path
 
 from configuration import Settings
-from site_files import Fault, NotRead, begins_with_mark, first_fault, front_matter, list_files, read_text, run, scratch, write_text
+from site_files import Fault, NotRead, begins_with_mark, first_fault, front_matter, list_files, open_file, read_text, run, scratch, write_text
 
 CONFIG = "_config.yml"
+# Each fault is looked for by a check of the whole site.
+MOST_FAULTS = 50
 # A file of more bytes that is no template has its size alone in the scratch copy.
 WHOLE = 1 << 20
 # The keys that have a form: docs/PROFILE.md, "The configuration".
@@ -34,14 +38,35 @@ REMEDIES = {
 TEXTS = ("_layouts/", "_includes/", "_data/", CONFIG)
 
 
+def further_faults(folder: Path, program: str) -> list[str]:
+    """The lines for the faults but the first, which a check tells. Of a setting it does not tell the key, so that one is told again."""
+    found = all_faults(folder, program)
+    told = found[1:] if found and found[0].key == "" else found
+    return [*map(str, told), *more_faults(found)]
+
+
+def fault_lines(folder: Path, program: str) -> list[str]:
+    """The lines for all faults that are looked for."""
+    found = all_faults(folder, program)
+    return [*map(str, found), *more_faults(found)]
+
+
+def more_faults(found: list[Fault]) -> list[str]:
+    """A line that says so, where faults were looked for no further."""
+    return [f"faults of more files are not looked for: mend these {MOST_FAULTS} first"] if len(found) == MOST_FAULTS else []
+
+
 def all_faults(folder: Path, program: str, *options: str) -> list[Fault]:
-    """The first fault of each file, and each faulty key of the configuration, in the order in which the program tells them."""
+    """The first fault of each file, and each faulty key of the configuration, in the order in which the program tells them: so many at most.
+
+    Raises NotRead when the program does not check the scratch copy, and OSError when that cannot be made.
+    """
     found: list[Fault] = []
     with scratch() as room:
         copy(folder, room)
         steps: dict[str, int] = {}
         # Each round takes something out for good, so this ends.
-        while True:
+        while len(found) < MOST_FAULTS:
             said = run(program, room, "check", *options)
             fault = first_fault(said)
             if fault is None:
@@ -55,6 +80,7 @@ def all_faults(folder: Path, program: str, *options: str) -> list[Fault]:
             steps[fault.path] = steps.get(fault.path, 0) + 1
             if not take_out(room, fault, steps[fault.path]):
                 return found
+    return found
 
 
 def with_key(fault: Fault, room: Path, program: str) -> Fault:
@@ -78,17 +104,20 @@ def with_key(fault: Fault, room: Path, program: str) -> Fault:
 
 def copy(folder: Path, room: Path) -> None:
     for path in list_files(folder).files:
-        source, target = folder / path, room / path
-        size = source.stat().st_size
-        if size <= WHOLE or path.startswith(TEXTS):
-            write_plain(target, source.read_bytes())
-            continue
-        if begins_with_mark(source):
-            write_plain(target, source.read_bytes())
-        else:
-            write_plain(target, b"")
-            with open(target, "r+b") as file:
-                file.truncate(size)
+        # What goes meanwhile is no part of the site.
+        with contextlib.suppress(FileNotFoundError):
+            copy_file(folder / path, room / path, path.startswith(TEXTS))
+
+
+def copy_file(source: Path, target: Path, is_text: bool) -> None:
+    """Copies a file; of a long one that is neither a text for all pages nor a page the size alone."""
+    with open_file(source) as file:
+        size = os.fstat(file.fileno()).st_size
+        if is_text or size <= WHOLE or begins_with_mark(source):
+            write_plain(target, file.read())
+            return
+    write_plain(target, b"")
+    os.truncate(target, size)
 
 
 def write_plain(path: Path, data: bytes) -> None:

@@ -5,6 +5,13 @@ import sys
 if sys.version_info < (3, 9):
     sys.exit("site: python3 is version %d.%d here; 3.9 or later is needed" % sys.version_info[:2])
 
+import signal
+
+# Ctrl-C while modules are read ends this without a word, as it ends any program.
+IS_INTERRUPTED = signal.getsignal(signal.SIGINT) is signal.default_int_handler
+if IS_INTERRUPTED:
+    signal.signal(signal.SIGINT, signal.SIG_DFL)
+
 import importlib
 import os
 
@@ -35,10 +42,24 @@ def program_place(program):
         raise words.Refused("the current folder is not there any more; go to another one first") from None
 
 
+def open_missing_streams():
+    """What is started without standard streams gets ones that lead nowhere: otherwise a file that is opened would be one of them."""
+    for number, name in enumerate(("stdin", "stdout", "stderr")):
+        try:
+            os.fstat(number)
+        except OSError:
+            # The lowest number that is free.
+            os.set_inheritable(os.open(os.devnull, os.O_RDWR), True)
+            setattr(sys, name, open(number, "r" if number == 0 else "w", encoding="utf-8", closefd=False))
+
+
 def main():
+    open_missing_streams()
     for stream in (sys.stdout, sys.stderr):
         stream.reconfigure(errors="backslashreplace", line_buffering=True)
     try:
+        if IS_INTERRUPTED:
+            signal.signal(signal.SIGINT, signal.default_int_handler)
         return run(program_place(sys.argv[1]), sys.argv[2:])
     except words.Refused as refused:
         print(f"site: {refused}", file=sys.stderr)
@@ -46,8 +67,7 @@ def main():
     except KeyboardInterrupt:
         return 130
     except BrokenPipeError:
-        # Whoever read what is said has gone. Python would fail once more when it flushes standard output.
-        os.dup2(os.open(os.devnull, os.O_WRONLY), sys.stdout.fileno())
+        words.say_no_more()
         return 1
 
 

@@ -1,44 +1,87 @@
 """What the program reads otherwise than Jekyll without a word: one line for each kind, with its first place."""
 from __future__ import annotations
 
+from dataclasses import dataclass, field
 from pathlib import Path
+from typing import Callable, Optional
 
 import notes_of_files
 import notes_of_markdown
 import notes_of_settings
 import notes_of_templates
-from first_faults import all_faults
-from site_files import TEMPLATES, NotRead, first_fault, run
-from site_notes import Notes, read_site
+from first_faults import further_faults
+from site_files import TEMPLATES, first_fault, run
+from site_notes import Notes, Site, read_site
+
+NOT_KNOWN = "what else there is to say of this site is not known"
+
+
+@dataclass
+class Said:
+    """What is found of a site, up to now."""
+
+    notes: Notes = field(default_factory=Notes)
+    # The first faults of further files.
+    faults: list[str] = field(default_factory=list)
+    # Why this is not all.
+    short: list[str] = field(default_factory=list)
+
+    def lines(self) -> list[str]:
+        return [*self.faults, *self.notes.lines(), *self.short]
 
 
 def silent_notes(folder: Path, program: str) -> list[str]:
     """What a check does not tell: the first fault of each further file, and what is read otherwise without a word."""
+    said = Said()
+    look(said, folder, program, lambda: first_fault(run(program, folder, "check")) is not None)
+    return said.lines()
+
+
+def look(said: Said, folder: Path, program: str, has_fault: Callable[[], bool]) -> None:
+    """Adds what there is to say of a site. Whether it has a fault is asked at last. Whatever else is met is a line."""
     try:
-        further = all_faults(folder, program) if first_fault(run(program, folder, "check")) else []
-        if further and further[0].key == "":
-            # The check has told it. Of a setting it does not tell the key.
-            further.pop(0)
-        return [*(str(fault) for fault in further), *differences(folder, program)]
-    except (OSError, NotRead) as error:
-        return [f"what else there is to say of this site is not known: {error}"]
+        add_differences(said.notes, folder, program)
+    except Exception as error:
+        said.short.append(f"{NOT_KNOWN}: {reason(error)}")
+    try:
+        if has_fault():
+            said.faults += further_faults(folder, program)
+    except Exception as error:
+        said.short.append(f"its further faults are not known: {reason(error)}")
+
+
+def reason(error: Exception) -> str:
+    """What was met, for a line."""
+    return str(error) or type(error).__name__
 
 
 def differences(folder: Path, program: str) -> list[str]:
-    """The lines for a site: `FILE:LINE: what is read otherwise; remedy`."""
-    site = read_site(folder, program)
+    """The lines for a site: `FILE:LINE: what is read otherwise; remedy`. Raises NotRead and OSError where the site cannot be read."""
     notes = Notes()
+    add_differences(notes, folder, program)
+    return notes.lines()
+
+
+def add_differences(notes: Notes, folder: Path, program: str) -> None:
+    """Adds what is read otherwise. Raises NotRead and OSError where the site cannot be read."""
+    site = read_site(folder, program)
     notes_of_settings.add(notes, site)
     notes_of_files.add(notes, site)
     ours = {path.read_text(encoding="utf-8") for path in TEMPLATES.iterdir()}
     for item in site.items:
-        if item.text[item.body :] in ours:
-            continue
-        notes_of_templates.add(notes, site, item.path, item.text, item.body)
-        if site.is_markdown(item.path):
-            notes_of_markdown.add(notes, item.path, item.text, item.body)
+        if item.text[item.body :] not in ours:
+            with notes.of(item.path):
+                add_text(notes, site, item.path, item.text, item.body)
     for path, text in site.plain.items():
         if text not in ours:
-            notes_of_templates.add(notes, site, path, text, 0)
-    notes_of_templates.add_counters(notes, site)
-    return notes.lines()
+            with notes.of(path):
+                notes_of_templates.add(notes, site, path, text, 0)
+    with notes.of("."):
+        notes_of_templates.add_counters(notes, site)
+
+
+def add_text(notes: Notes, site: Site, path: str, text: str, start: int) -> None:
+    """What the text of a page means otherwise."""
+    notes_of_templates.add(notes, site, path, text, start)
+    if site.is_markdown(path):
+        notes_of_markdown.add(notes, path, text, start)

@@ -6,10 +6,15 @@ import datetime
 import io
 import os
 import re
+from typing import Optional
 
 from kept_back import names
-from site_files import line_of, read_text
-from site_notes import Item, Notes, Site
+from session import MOST_BYTES
+from site_files import line_of
+from site_notes import Item, Notes, Site, read_part
+
+# A field may be as long as its file.
+csv.field_size_limit(MOST_BYTES)
 
 DATE = re.compile(r"(\d{4})-(\d{1,2})-(\d{1,2})-")
 # A key of YAML that is a number.
@@ -23,17 +28,21 @@ PAGES_OF_HTML = (".html", ".htm", ".xhtml")
 def add(notes: Notes, site: Site) -> None:
     for path in site.links:
         notes.add(path, 0, "links are passed over (Jekyll follows them)", "put the file itself there")
-    with_front_matter = {item.path for item in site.items}
+    items = {item.path: item for item in site.items}
     for path in site.looked_at:
-        add_name(notes, site, path, path in with_front_matter)
+        with notes.of(path):
+            add_name(notes, site, path, items.get(path))
     layouts = {os.path.splitext(path)[0][len("_layouts/") :] for path in site.files if path.startswith("_layouts/")}
     for entry in site.defaults():
-        add_layout(notes, "_config.yml", site.settings.line_with("defaults", f"{entry['values'].get('layout')}"), entry["values"].get("layout"), layouts)
+        layout = entry["values"].get("layout")
+        add_layout(notes, "_config.yml", site.settings.line_with("defaults", f"{layout}"), layout, layouts)
     for item in site.items:
-        add_layout(notes, item.path, item.line_of_key("layout"), item.values.get("layout"), layouts)
-        if not item.path.startswith("_layouts/"):
-            add_item(notes, site, item)
-    add_undated(notes, site)
+        with notes.of(item.path):
+            add_layout(notes, item.path, item.line_of_key("layout"), item.values.get("layout"), layouts)
+            if not item.path.startswith("_layouts/"):
+                add_item(notes, site, item)
+    with notes.of("."):
+        add_undated(notes, site)
 
 
 def add_layout(notes: Notes, path: str, line: int, layout: object, layouts: set[str]) -> None:
@@ -41,10 +50,10 @@ def add_layout(notes: Notes, path: str, line: int, layout: object, layouts: set[
         notes.add(path, line, f"there is no layout {layout}, so the page comes out without it", "put it into _layouts, or mend its name")
 
 
-def add_name(notes: Notes, site: Site, path: str, has_front_matter: bool) -> None:
-    """What a file's name or its first bytes mean otherwise."""
+def add_name(notes: Notes, site: Site, path: str, item: Optional[Item]) -> None:
+    """What a file's name or its first bytes mean otherwise. It is an item if it has front matter."""
     folders, name = path.split("/")[:-1], path.rpartition("/")[2]
-    ending = os.path.splitext(name)[1]
+    ending, has_front_matter = os.path.splitext(name)[1], item is not None
     if "_posts" in folders:
         add_post_name(notes, path, name, has_front_matter)
     if "_drafts" in folders[1:]:
@@ -57,18 +66,20 @@ def add_name(notes: Notes, site: Site, path: str, has_front_matter: bool) -> Non
     if path.startswith("_data/") and re.search(r"[^A-Za-z0-9_./-]", path):
         notes.add(path, 0, "the key of this data file is its name as it is (in Jekyll its spaces are _)", "call it with letters, digits and _")
     if path.startswith("_data/") and ending in (".csv", ".tsv"):
-        add_empty_field(notes, path, read_text(site.folder / path), "\t" if ending == ".tsv" else ",")
+        add_empty_field(notes, path, read_part(site.folder, path) or "", "\t" if ending == ".tsv" else ",")
     if has_front_matter and ending.lower() != ending and site.is_markdown(path[: -len(ending)] + ending.lower()):
         notes.add(path, 0, f"{ending} in capitals is no ending of Markdown, so it is not converted", "write it small")
     if has_front_matter and ending in (".scss", ".sass", ".coffee"):
         add_sass(notes, site, path)
     if has_front_matter and re.search(r"[^A-Za-z0-9._/-]", path):
         notes.add(path, 0, "its address has the signs of its name as they are (in Jekyll escaped)", "call it with letters, digits and -")
-    if has_front_matter and read_text(site.folder / path).startswith("\ufeff"):
+    if item and item.text.startswith("\ufeff"):
         notes.add(path, 1, "it begins with a byte-order mark: here its front matter is read, there it is copied", "save it without the mark")
 
 
 def add_empty_field(notes: Notes, path: str, text: str, separator: str) -> None:
+    """What an empty field of a table means otherwise. Python's reader takes no zero byte before 3.11, and no CR alone."""
+    text = text.replace("\r\n", "\n").replace("\r", "\n").replace("\0", " ")
     for number, record in enumerate(csv.reader(io.StringIO(text), delimiter=separator), 1):
         if "" in record:
             notes.add(path, number, "an empty field is an empty text (in Jekyll nil)", 'test it with == ""')
@@ -179,8 +190,10 @@ def add_date(notes: Notes, site: Site, item: Item, is_document: bool) -> None:
     moment = MOMENT.match(str(item.values.get("date", "")).strip())
     if not is_document or not moment:
         return
-    day = datetime.date.fromisoformat(moment[1]) if re.match(r"\d{4}-(0[1-9]|1[0-2])-(0[1-9]|[12]\d)", moment[1]) else None
-    if day is None:
+    try:
+        day = datetime.date.fromisoformat(moment[1])
+    except ValueError:
+        # It is no day, or of the year 0.
         return
     if moment[4] and moment[2] and not isinstance(site.config.get("timezone"), str):
         sign = -1 if moment[4][0] == "-" else 1

@@ -1,8 +1,10 @@
 """Notes of Markdown: what Kramdown has, and CommonMark lacks."""
 from __future__ import annotations
 
+import bisect
 import re
-from typing import Iterable, Iterator
+from dataclasses import dataclass
+from typing import Iterable, Iterator, Optional
 
 from site_notes import Notes
 from tags import all_pieces
@@ -12,27 +14,44 @@ CODE_ENDS = [
     (re.compile(r"\{%-?\s*highlight\b"), re.compile(r"\{%-?\s*endhighlight\s*-?%\}")),
     *((re.compile(rf"<{name}\b"), re.compile(f"</{name}>")) for name in ("script", "style", "pre")),
 ]
+# What a line of code, or of its fence, begins with.
+FRONTS_OF_CODE = (" ", "\t", "`", "~")
 FENCE = re.compile(r"^ {0,3}(`{3,}|~{3,})[ \t]*([^\s`]*)")
-CODE = re.compile(r"(`+)(?!`).*?(?<!`)\1(?!`)")
-# What has quotes and dashes of its own: tags, addresses, definitions of links, tables, and lines that are a rule.
-RULE_OF_TABLE = r"[ \t]*\|?[ \t]*:?-+:?[ \t]*(?:\|[ \t]*:?-+:?[ \t]*)*\|?[ \t]*$"
-TABLE = re.compile(rf"^{RULE_OF_TABLE}", re.M)
-MARKUP = re.compile(
-    rf"<[^<>]*>|\]\([^()\n]*\)|^ {{0,3}}\[[^\[\]\n]+\]:.*$|^{RULE_OF_TABLE}|^[ \t]*(?:[-*_][ \t]*){{3,}}$",
-    re.M,
-)
-# What is looked for outside of code; what it means here; the remedy.
+TICKS = re.compile(r"`+")
+ONE_TICK = re.compile(r"`[^`\n]*`")
+CELL = re.compile(r":?-+:?")
+DEFINITION = re.compile(r" {0,3}\[[^\[\]\n]+\]:")
+# What has quotes and dashes of its own: tags and addresses.
+MARKUP = re.compile(r"<[^<>]*>|\]\([^()\n]*\)")
+
+
+@dataclass(frozen=True)
+class Form:
+    """What is looked for outside of code; what it means here; the remedy. It is nowhere in a text that has none of the parts."""
+
+    parts: tuple[str, ...]
+    pattern: re.Pattern
+    what: str
+    remedy: str
+
+
 FORMS = [
-    (re.compile(r"\[\^[^\[\]\s]+\]"), "footnotes are text", "write them in HTML"),
-    (re.compile(r"\{:\s*toc\b|\{::?toc\}"), "a table of contents ({:toc}) is text", "write it in HTML"),
-    (re.compile(r"\{:(?!\s*toc\b)[^{}\n]*\}"), "attributes in braces ({: .class}) are text", "write the element in HTML"),
-    (re.compile(r"\]\(#[^()\s]+\)|\bhref=[\"']#[\w-]+"), "headings have no ids, so a link to one leads nowhere", "write the heading in HTML, with its id"),
-    (re.compile(r"~~[^~\s][^~\n]{0,999}~~"), "strikethrough is text", "write <del>"),
-    (re.compile(r"^[ \t]*[-*+] \[[ xX]\] ", re.M), "a task list is text", 'write <input type="checkbox" disabled>'),
-    (re.compile(r"\$\$"), "mathematics is text", "have it set in the browser, within HTML"),
-    (re.compile(r"\bmarkdown=[\"'](?:1|block|span)"), "Markdown within HTML is text", "put blank lines around it"),
-    (re.compile(r"(?<=\S\n)[ \t]{0,3}:[ \t]+\S"), "a definition list is text", "write <dl>"),
-    (re.compile(r"^\*\[[^\[\]\n]+\]:", re.M), "an abbreviation is text", "write <abbr>"),
+    Form(("[^",), re.compile(r"\[\^[^\[\]\s]+\]"), "footnotes are text", "write them in HTML"),
+    Form(("toc",), re.compile(r"\{:\s*toc\b|\{::?toc\}"), "a table of contents ({:toc}) is text", "write it in HTML"),
+    Form(("{:",), re.compile(r"\{:(?!\s*toc\b)[^{}\n]*\}"), "attributes in braces ({: .class}) are text", "write the element in HTML"),
+    Form(
+        ("](#", "href="), re.compile(r"\]\(#[^()\s]+\)|\bhref=[\"']#[\w-]+"),
+        "headings have no ids, so a link to one leads nowhere", "write the heading in HTML, with its id",
+    ),
+    Form(("~~",), re.compile(r"~~[^~\s][^~\n]{0,999}~~"), "strikethrough is text", "write <del>"),
+    Form(
+        ("[ ] ", "[x] ", "[X] "), re.compile(r"^[ \t]*[-*+] \[[ xX]\] ", re.M),
+        "a task list is text", 'write <input type="checkbox" disabled>',
+    ),
+    Form(("$$",), re.compile(r"\$\$"), "mathematics is text", "have it set in the browser, within HTML"),
+    Form(("markdown=",), re.compile(r"\bmarkdown=[\"'](?:1|block|span)"), "Markdown within HTML is text", "put blank lines around it"),
+    Form((": ", ":\t"), re.compile(r"\n(?<=\S\n)[ \t]{0,3}:[ \t]+\S"), "a definition list is text", "write <dl>"),
+    Form(("*[",), re.compile(r"^\*\[[^\[\]\n]+\]:", re.M), "an abbreviation is text", "write <abbr>"),
 ]
 REFERENCE = re.compile(r"&([A-Za-z]+);")
 KNOWN_REFERENCES = set(
@@ -44,6 +63,7 @@ KNOWN_REFERENCES = set(
     "uuml yacute thorn yuml".split()
 )
 QUOTES = re.compile(r"[\"']|(?<!-)--(?!-)|---|\.\.\.")
+NO_LINE_END = re.compile(r"[^\n]")
 QUOTES_SAID = "straight quotes, -- and ... stay as they are (in Jekyll they become “ ” ’ – …)"
 
 
@@ -53,19 +73,71 @@ def add(notes: Notes, path: str, text: str, start: int) -> None:
     body, fences = prose(text[start:])
     for at in fences[:1]:
         notes.add(path, first + at, "code comes out without colours", "colour it in the browser by the class language-..")
-    for found in TABLE.finditer(body):
-        if "|" in body[body.rfind("\n", 0, max(found.start() - 1, 0)) + 1 : max(found.start() - 1, 0)]:
-            notes.add(path, first + line_at(body, found) - 1, "a table is text", "write it in HTML")
-    for form, what, remedy in FORMS:
-        found = form.search(body)
+    heading = first_table(body)
+    if heading is not None:
+        notes.add(path, first + heading, "a table is text", "write it in HTML")
+    for form in FORMS:
+        for part in form.parts:
+            if part in body:
+                break
+        else:
+            continue
+        found = form.pattern.search(body)
         if found:
-            notes.add(path, first + line_at(body, found), what, remedy)
-    for found in REFERENCE.finditer(body):
-        if found[1] not in KNOWN_REFERENCES:
-            notes.add(path, first + line_at(body, found), f"&{found[1]}; is text", "write the character")
-    found = QUOTES.search(MARKUP.sub(spaces, body))
-    if found:
-        notes.add(path, first + line_at(body, found), QUOTES_SAID, "write the signs themselves")
+            notes.add(path, first + line_at(body, found), form.what, form.remedy)
+    for name, at in unknown_references(body).items():
+        notes.add(path, first + body.count("\n", 0, at), f"&{name}; is text", "write the character")
+    sign = straight_signs(body)
+    if sign is not None:
+        notes.add(path, first + body.count("\n", 0, sign), QUOTES_SAID, "write the signs themselves")
+
+
+def first_table(body: str) -> Optional[int]:
+    """The line of the heading of the first table, counted from 0: below it are dashes."""
+    if "|" not in body or "-" not in body:
+        return None
+    lines = body.split("\n")
+    return next((at - 1 for at in range(1, len(lines)) if "|" in lines[at - 1] and is_rule_of_table(lines[at])), None)
+
+
+def is_rule_of_table(line: str) -> bool:
+    """Whether a line is that of dashes below the heading of a table."""
+    if "-" not in line or line.strip(" \t\r|:-"):
+        return False
+    inner = line.strip().removeprefix("|").removesuffix("|")
+    return all(CELL.fullmatch(cell.strip()) for cell in inner.split("|"))
+
+
+def is_rule(line: str) -> bool:
+    """Whether a line of dashes, stars or underscores is a rule."""
+    signs = "".join(line.split())
+    return len(signs) >= 3 and not signs.strip("-*_")
+
+
+def unknown_references(body: str) -> dict[str, int]:
+    """The names of characters that are not known, and where each is first."""
+    found: dict[str, int] = {}
+    for reference in REFERENCE.finditer(body) if "&" in body else ():
+        if reference[1] not in KNOWN_REFERENCES:
+            found.setdefault(reference[1], reference.start())
+    return found
+
+
+def straight_signs(body: str) -> Optional[int]:
+    """Where the first quote or dash is that Kramdown makes another."""
+    if not any(sign in body for sign in ('"', "'", "--", "...")):
+        return None
+    if "<" in body or "](" in body:
+        body = MARKUP.sub(blank, body)
+    found = QUOTES.search(body)
+    while found:
+        end = body.find("\n", found.start())
+        end = len(body) if end < 0 else end
+        line = body[body.rfind("\n", 0, found.start()) + 1 : end]
+        if not (is_rule_of_table(line) or is_rule(line) or DEFINITION.match(line)):
+            return found.start()
+        found = QUOTES.search(body, end)
+    return None
 
 
 def spans(text: str, begin: re.Pattern, end: re.Pattern) -> Iterator[tuple[int, int]]:
@@ -93,9 +165,30 @@ def line_at(body: str, found: re.Match) -> int:
     return body.count("\n", 0, found.end() - len(found[0].lstrip("\n")))
 
 
-def spaces(found: re.Match) -> str:
+def blank(found: re.Match) -> str:
     """As many spaces, so that what is left has its place."""
-    return "".join(sign if sign == "\n" else " " for sign in found[0])
+    return " " * len(found[0]) if "\n" not in found[0] else NO_LINE_END.sub(" ", found[0])
+
+
+def without_code(line: str) -> str:
+    """A line with spaces in the place of its code between backticks: a run of them ends at the next run of that length."""
+    if "``" not in line:
+        return ONE_TICK.sub(blank, line)
+    runs = [found.span() for found in TICKS.finditer(line)]
+    places: dict[int, list[int]] = {}
+    for at, (start, end) in enumerate(runs):
+        places.setdefault(end - start, []).append(at)
+    kept, at, done = [], 0, 0
+    while at < len(runs):
+        start, end = runs[at]
+        same = places[end - start]
+        later = bisect.bisect_right(same, at)
+        if later < len(same):
+            at = same[later]
+            kept += [line[done:start], " " * (runs[at][1] - start)]
+            done = runs[at][1]
+        at += 1
+    return "".join([*kept, line[done:]])
 
 
 def prose(text: str) -> tuple[str, list[int]]:
@@ -103,8 +196,13 @@ def prose(text: str) -> tuple[str, list[int]]:
     for begin, end in CODE_ENDS:
         text = without(text, spans(text, begin, end))
     text = without(text, ((piece.start, piece.end) for piece in all_pieces(text)))
+    if not text.startswith(("    ", "\t")) and not any(part in text for part in ("``", "~~~", "\n    ", "\n\t")):
+        # The usual text: it has no lines of code, and goes through as a whole.
+        return ONE_TICK.sub(blank, text), []
     lines, fences, fence = text.split("\n"), [], ""
     for at, line in enumerate(lines):
+        if not fence and line[:1] not in FRONTS_OF_CODE and "`" not in line:
+            continue
         opened = FENCE.match(line) if "```" in line or "~~~" in line else None
         if fence:
             fence = "" if opened and opened[1].startswith(fence) and not opened[2] else fence
@@ -116,5 +214,6 @@ def prose(text: str) -> tuple[str, list[int]]:
                 fences.append(at)
         elif line.startswith(("    ", "\t")) and not (at and lines[at - 1].strip()):
             lines[at] = ""
-    text = "\n".join(lines)
-    return (CODE.sub(spaces, text) if "`" in text else text), fences
+        elif "`" in line:
+            lines[at] = without_code(line)
+    return "\n".join(lines), fences

@@ -46,6 +46,12 @@ WITHOUT_WORK = {
 
 
 def add(notes: Notes, site: Site) -> None:
+    for part in (add_keys, add_plugins, add_lists, add_kept, add_scopes, add_permalinks, add_collections):
+        with notes.of(CONFIG):
+            part(notes, site)
+
+
+def add_keys(notes: Notes, site: Site) -> None:
     config, settings = site.config, site.settings
     if not settings.lines:
         for other in ("_config.yaml", "_config.toml"):
@@ -54,12 +60,6 @@ def add(notes: Notes, site: Site) -> None:
     for key, said in WITHOUT_MEANING.items():
         if said and key in config and config[key] != USUAL.get(key, object()) and config[key] is not None:
             notes.add(CONFIG, settings.line(key), f"{key}: {said[0]}", said[1])
-    add_plugins(notes, site)
-    add_lists(notes, site)
-    add_kept(notes, site)
-    add_scopes(notes, site)
-    add_permalinks(notes, site)
-    add_collections(notes, site)
 
 
 def add_plugins(notes: Notes, site: Site) -> None:

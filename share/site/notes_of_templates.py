@@ -31,13 +31,12 @@ QUOTED = re.compile(r"\"[^\"]*\"|'[^']*'")
 FILTER = re.compile(r"\|\s*([A-Za-z_]\w*)")
 EMPTY_ON_THE_LEFT = re.compile(r"\bempty\s*(?:==|!=|<>)")
 BLANK = re.compile(r"(?:==|!=|<>)\s*blank\b|\bblank\s*(?:==|!=|<>)")
-LIST_OF_LISTS = re.compile(r"\bmap\s*:[^|]*\|\s*join\b[^|]*\|\s*split\b")
+MAP = re.compile(r"\bmap\s*:")
 SITE = re.compile(r"\bsite\.(html_files|source|destination|markdown|highlighter|encoding|kramdown|github|plugins_dir|safe)\b")
 STATIC = re.compile(r"\bsite\.static_files\s*\|\s*where(?:_exp)?\s*:\s*[\"'](\w+)[\"']")
 STATIC_HAS = ("path", "name", "basename", "extname")
 # What is looked for in each output and tag; what it means otherwise; the remedy.
 FORMS = [
-    (LIST_OF_LISTS, "a list in a list is one item, so map, join and split make one word of each list", "collect the words with concat in a loop"),
     (re.compile(r"\.relative_directory\b"), ".relative_directory is nil", "write the path"),
     (re.compile(r"\.modified_time\b"), ".modified_time is nil", "give a date"),
     (re.compile(r"\bcollection\.files\b"), "files of a collection is nil", "use site.static_files"),
@@ -73,6 +72,9 @@ def add_piece(notes: Notes, site: Site, path: str, line: int, piece: Piece) -> N
         notes.add(path, line, "empty is nil on the left of a comparison", "write it on the right")
     if BLANK.search(bare):
         notes.add(path, line, "blank is nil, false, and what is empty or white space (in Jekyll nothing equals it)", "write empty, or nil")
+    if joins_lists(bare):
+        what = "a list in a list is one item, so map, join and split make one word of each list"
+        notes.add(path, line, what, "collect the words with concat in a loop")
     for form, what, remedy in FORMS:
         if form.search(whole):
             notes.add(path, line, what, remedy)
@@ -87,6 +89,15 @@ def add_piece(notes: Notes, site: Site, path: str, line: int, piece: Piece) -> N
     add_names_of_items(notes, site, path, line, bare)
     add_lists(notes, site, path, line, bare)
     add_sorts(notes, site, path, line, whole)
+
+
+def joins_lists(text: str) -> bool:
+    """Whether three filters after one another are map, join and split."""
+    if "map" not in text or "split" not in text:
+        return False
+    parts = text.split("|")
+    filters = [part.split(":")[0].split()[:1] for part in parts]
+    return any(filters[at : at + 2] == [["join"], ["split"]] and MAP.search(parts[at - 1]) for at in range(1, len(parts)))
 
 
 def add_names_of_items(notes: Notes, site: Site, path: str, line: int, bare: str) -> None:

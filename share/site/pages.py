@@ -13,9 +13,9 @@ from pathlib import Path
 from typing import BinaryIO, Optional
 from urllib.parse import quote, unquote_to_bytes
 
+from inside import OUTPUT, open_below
 from settings import Settings
 from session import MOST_BYTES
-from watching import OUTPUT
 
 PARTS = Path(__file__).parent
 # Below this are the script's own files. No page has this address by itself, since a name with a dot in front is hidden.
@@ -89,20 +89,11 @@ def segments_of(path: bytes) -> Optional[list[bytes]]:
     return segments
 
 
-def open_below(folder: Path, segments: list[bytes]) -> Optional[int]:
-    """Opens what is at a path below a folder, a file or a folder, and follows no link on the way."""
-    number = None
+def open_page(folder: Path, segments: list[bytes]) -> Optional[int]:
+    """Opens what is at a path below a folder, a file or a folder; nothing where nothing is, or a link is on the way."""
     try:
-        number = os.open(folder, os.O_RDONLY | os.O_DIRECTORY | os.O_NOFOLLOW | os.O_CLOEXEC)
-        for segment in segments:
-            # Opening a fifo would otherwise wait.
-            inner = os.open(segment, os.O_RDONLY | os.O_NOFOLLOW | os.O_NONBLOCK | os.O_CLOEXEC, dir_fd=number)
-            os.close(number)
-            number = inner
-        return number
+        return open_below(folder, segments)
     except OSError as error:
-        if number is not None:
-            os.close(number)
         if error.errno in (errno.EMFILE, errno.ENFILE, errno.ENOMEM):
             raise
         return None
@@ -127,20 +118,21 @@ class Pages:
     def answer(self, address: str, host: str, version: str) -> Answer:
         """What is served for an address of the site."""
         base = unquote_to_bytes(self.settings.baseurl)
-        path = unquote_to_bytes(re.split(r"[?#]", address, maxsplit=1)[0])
+        place, _, query = address.partition("#")[0].partition("?")
+        path, rest = unquote_to_bytes(place), f"?{query}" if query else ""
         if base and path in (b"/", base):
-            return Answer(302, moved=quote(base) + "/")
+            return Answer(302, moved=quote(base) + "/" + rest)
         if not path.startswith(base + b"/"):
             return self.missing(host, version, f"The site is at {self.settings.baseurl}/, as its baseurl says.")
         segments = segments_of(path[len(base) :])
-        return self.find(segments, path, host, version) if segments else self.missing(host, version)
+        return self.find(segments, quote(path) + "/" + rest, host, version) if segments else self.missing(host, version)
 
-    def find(self, segments: list[bytes], path: bytes, host: str, version: str) -> Answer:
-        """The file of this name, the one with `.html` added, or the index of the folder."""
+    def find(self, segments: list[bytes], as_folder: str, host: str, version: str) -> Answer:
+        """The file of this name, the one with `.html` added, or the index of the folder, which is at an address of its own."""
         *folders, name = segments
         names = [name, name + b".html"] if name else [b"index.html"]
         for candidate in names:
-            number = open_below(self.output, [*folders, candidate])
+            number = open_page(self.output, [*folders, candidate])
             if number is None:
                 continue
             kind = kind_of(number)
@@ -148,11 +140,11 @@ class Pages:
                 return self.read(number, os.fsdecode(candidate), host, version)
             os.close(number)
             if kind == "folder" and not self.has([*folders, name + b".html"]) and self.has([*folders, name, b"index.html"]):
-                return Answer(302, moved=quote(path) + "/")
+                return Answer(302, moved=as_folder)
         return self.missing(host, version)
 
     def has(self, segments: list[bytes]) -> bool:
-        number = open_below(self.output, segments)
+        number = open_page(self.output, segments)
         if number is None:
             return False
         kind = kind_of(number)
@@ -161,7 +153,7 @@ class Pages:
 
     def missing(self, host: str, version: str, why: str = "") -> Answer:
         """The site's own page for what it does not have, or one that says so."""
-        number = None if why else open_below(self.output, [b"404.html"])
+        number = None if why else open_page(self.output, [b"404.html"])
         if number is not None and kind_of(number) == "file":
             answer = self.read(number, "404.html", host, version)
             answer.status = 404

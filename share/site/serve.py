@@ -1,11 +1,15 @@
 """`site serve`: keeps a site built, and shows it in the browser."""
 from __future__ import annotations
 
+import contextlib
 import errno
+import io
 import json
 import re
+import socket
 import sys
 import threading
+import time
 from contextlib import closing
 from dataclasses import asdict
 from http.server import BaseHTTPRequestHandler, ThreadingHTTPServer
@@ -19,11 +23,14 @@ from settings import read_settings
 from stopping import until_stopped
 
 ADDRESS = "127.0.0.1"
+NOT_ASCII = re.compile(rb"[\x80-\xff]")
 # A page of another host must not read this site through the browser of whoever writes it.
 OUR_HOSTS = re.compile(r"(localhost|127\.0\.0\.1|\[::1\])(:\d{1,5})?", re.IGNORECASE)
 MOST_PORTS = 100
+# More connections than these are not held: the one that is there longest makes room. Its thread may take a moment to end.
 MOST_CONNECTIONS = 256
-# A client that does not read, or says nothing more, is let go after so many seconds.
+MOST_THREADS = 2 * MOST_CONNECTIONS
+# A client that does not read is let go after so many seconds, and so is one whose request is not whole by then.
 CLIENT_WAITS = 30
 # So often a stream of events is written to, to learn whether somebody still reads it.
 BETWEEN_BEATS = 10.0
@@ -42,7 +49,10 @@ class Server(ThreadingHTTPServer):
         self.builder = builder
         self.pages = Pages(builder.folder)
         self.told = False
-        self.places = threading.BoundedSemaphore(MOST_CONNECTIONS)
+        self.places = threading.BoundedSemaphore(MOST_THREADS)
+        # The connections, the oldest first.
+        self.held: dict[socket.socket, None] = {}
+        self.holding = threading.Lock()
 
     def server_bind(self):
         # Not as an HTTPServer does it, which asks the name service for a name of the address, and may wait for it.
@@ -60,18 +70,37 @@ class Server(ThreadingHTTPServer):
         if not self.places.acquire(blocking=False):
             self.shutdown_request(request)
             return
+        self.hold(request)
         try:
             super().process_request(request, client_address)
         except RuntimeError:
             # The system has no thread for it.
-            self.places.release()
+            self.forget(request)
             self.shutdown_request(request)
 
     def process_request_thread(self, request, client_address):
         try:
             super().process_request_thread(request, client_address)
         finally:
-            self.places.release()
+            self.forget(request)
+
+    def hold(self, request: socket.socket) -> None:
+        """Adds a connection. Nobody keeps all of them: when there are too many, the oldest is let go."""
+        with self.holding:
+            self.held[request] = None
+            oldest = next(iter(self.held)) if len(self.held) > MOST_CONNECTIONS else None
+            if oldest is not None:
+                del self.held[oldest]
+        if oldest is not None:
+            # Whatever its thread waits for comes to its end.
+            with contextlib.suppress(OSError):
+                oldest.shutdown(socket.SHUT_RDWR)
+            self.builder.status.wake()
+
+    def forget(self, request: socket.socket) -> None:
+        with self.holding:
+            self.held.pop(request, None)
+        self.places.release()
 
     def handle_error(self, request, client_address):
         # A client that has gone, or does not read, is nobody's fault.
@@ -79,9 +108,26 @@ class Server(ThreadingHTTPServer):
             super().handle_error(request, client_address)
 
 
+class Incoming(io.RawIOBase):
+    """What a client sends, up to a moment."""
+
+    def __init__(self, connection: socket.socket):
+        self.connection = connection
+        self.until = 0.0
+
+    def readable(self) -> bool:
+        return True
+
+    def readinto(self, buffer) -> int:
+        left = self.until - time.monotonic()
+        if left <= 0:
+            raise socket.timeout("its request was not whole in time")
+        self.connection.settimeout(left)
+        return self.connection.recv_into(buffer)
+
+
 class Handler(BaseHTTPRequestHandler):
     protocol_version = "HTTP/1.1"
-    timeout = CLIENT_WAITS
     server_version = "site"
     sys_version = ""
     disable_nagle_algorithm = True
@@ -89,10 +135,26 @@ class Handler(BaseHTTPRequestHandler):
     def log_message(self, form, *values):
         pass
 
+    def setup(self):
+        super().setup()
+        self.incoming = Incoming(self.connection)
+        self.rfile = io.BufferedReader(self.incoming)
+
+    def handle_one_request(self):
+        # For the whole of its head, and not for each byte of it.
+        self.incoming.until = time.monotonic() + CLIENT_WAITS
+        super().handle_one_request()
+
+    def parse_request(self):
+        # An address as it is typed: python would take some of its bytes for spaces.
+        self.raw_requestline = NOT_ASCII.sub(lambda found: b"%%%02X" % found[0][0], self.raw_requestline)
+        return super().parse_request()
+
     def do_HEAD(self):
         self.do_GET()
 
     def do_GET(self):
+        self.connection.settimeout(CLIENT_WAITS)
         host = self.headers.get("Host", "")
         if not OUR_HOSTS.fullmatch(host):
             self.send(Answer(403, "text/plain; charset=utf-8", b"site serve is there for this machine alone: 127.0.0.1 or localhost\n"))
@@ -146,6 +208,9 @@ class Handler(BaseHTTPRequestHandler):
             self.wfile.write(part)
             left -= len(part)
 
+    def is_let_go(self) -> bool:
+        return self.connection not in self.server.held
+
     def send_events(self) -> None:
         """The state of the site, now and whenever it changes, for as long as somebody reads it."""
         self.close_connection = True
@@ -156,10 +221,12 @@ class Handler(BaseHTTPRequestHandler):
         self.end_headers()
         if self.command == "HEAD":
             return
+        # A browser asks again so many milliseconds after the end of the stream.
+        self.wfile.write(b"retry: 500\n\n")
         status, seen = self.server.builder.status, None
         while True:
-            state = status.next(seen, BETWEEN_BEATS)
-            if state.stopped:
+            state = status.next(seen, BETWEEN_BEATS, self.is_let_go)
+            if state.stopped or self.is_let_go():
                 return
             if state == seen:
                 self.wfile.write(b":\n\n")

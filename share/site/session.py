@@ -3,13 +3,17 @@ from __future__ import annotations
 
 import errno
 import os
+import re
 import select
-import stat
 import subprocess
+import time
+from collections import deque
 from dataclasses import dataclass, field
 from pathlib import Path
-from typing import Optional, Union
+from typing import Callable, Optional, Union
 
+from calling import release, start, tell
+from inside import read_below
 from words import shown
 
 # The limits of a line: docs/PROFILE.md, "The lines of a session".
@@ -17,6 +21,11 @@ MOST_BYTES = 16_777_216
 MOST_PATH = 1024
 # How long a session may take to end after it was told to.
 PATIENCE = 5.0
+# A build that takes longer is not waited for when something was saved since: a template can go on for years.
+SLOW = 60.0
+BETWEEN_LOOKS = 1.0
+# As calling.GUARD, but the program has time to end by itself: a kill could leave half a page.
+LATE_GUARD = f'read -r group && ! read -r _ && sleep {PATIENCE:g} && kill -KILL "-$group"'
 
 
 class Ended(Exception):
@@ -47,9 +56,21 @@ class Failed:
 
 
 class Session:
-    """One process of the program. Its standard input is closed when this process ends in any way, and then it ends too."""
+    """One process of the program. Its standard input is closed when this process ends in any way, and then it ends too, or is ended."""
 
-    def __init__(self, program: str, folder: Path, options: list[str]):
+    def __init__(self, program: str, folder: Path, options: list[str], seconds: Optional[float] = None):
+        """Starts it. Raises Ended when it cannot be started, and later when a reply takes more than so many seconds, if that is given."""
+        self.folder = folder
+        self.seconds = seconds
+        # Is asked when a reply takes longer than SLOW: whether it is of no more use.
+        self.is_overtaken: Callable[[], bool] = lambda: False
+        # The lines that were read and not taken yet, and the front of the next one.
+        self.heard: deque[bytes] = deque()
+        self.rest = b""
+        try:
+            self.guard = start(["bash", "-p", "-c", LATE_GUARD], Path("/"), subprocess.DEVNULL)
+        except OSError as error:
+            raise Ended(f"the program cannot be started ({error.strerror}): {shown(program)}") from error
         try:
             # In a group of its own: otherwise Ctrl-C in a terminal would end it in the middle of a page.
             self.process = subprocess.Popen(
@@ -61,7 +82,9 @@ class Session:
                 start_new_session=True,
             )
         except OSError as error:
+            release(self.guard)
             raise Ended(f"the program cannot be started ({error.strerror}): {shown(program)}") from error
+        tell(self.guard, b"%d\n" % self.process.pid)
         self.scanned = False
 
     def fileno(self) -> int:
@@ -70,7 +93,7 @@ class Session:
 
     def has_ended(self) -> bool:
         """Whether the program has ended, or has said something that it was not asked: either way it is of no more use."""
-        return bool(select.select([self], [], [], 0)[0])
+        return bool(self.heard) or bool(select.select([self], [], [], 0)[0])
 
     def scan(self) -> Optional[Failed]:
         """Reads the whole folder. Returns nothing if that is done."""
@@ -79,7 +102,13 @@ class Session:
         return None if self.scanned else Failed(reply)
 
     def put(self, path: str, data: bytes) -> None:
-        self.done(b"put %s %d\n%s" % (path.encode(), len(data), data))
+        self.put_all({path: data})
+
+    def put_all(self, files: dict[str, bytes]) -> None:
+        """Puts files, some hundreds at most: all lines are given before the first reply is read, so that nobody waits for each."""
+        self.give(b"".join(b"put %s %d\n%s" % (path.encode(), len(data), data) for path, data in files.items()))
+        for _ in files:
+            self.expect_done(self.hear())
 
     def delete(self, path: str) -> None:
         self.done(b"delete %s\n" % path.encode())
@@ -91,7 +120,7 @@ class Session:
         self.done(b"time %d\n" % moment)
         reply, whys = self.ask(b"build\n"), []
         while reply.startswith("why "):
-            path, key = split_why(reply)
+            path, key = split_why(reply, self.folder)
             whys.append((path, key))
             reply = self.hear()
         if reply.startswith("built "):
@@ -103,11 +132,18 @@ class Session:
 
     def done(self, line: bytes) -> None:
         """Gives a line that changes what the session holds."""
-        reply = self.ask(line)
+        self.expect_done(self.ask(line))
+
+    def expect_done(self, reply: str) -> None:
+        """Raises Ended unless this is the reply to a line that was done."""
         if reply not in ("ok", "absent"):
             raise Ended(self.how_it_ended() if reply.startswith("script ") else f"the program replied {shown(reply)}")
 
     def ask(self, line: bytes) -> str:
+        self.give(line)
+        return self.hear()
+
+    def give(self, line: bytes) -> None:
         # Not by the stream's own buffer, which would have to be emptied into a process that may have stopped reading.
         left = memoryview(line)
         try:
@@ -115,14 +151,27 @@ class Session:
                 left = left[os.write(self.process.stdin.fileno(), left) :]
         except BrokenPipeError as error:
             raise Ended(self.how_it_ended()) from error
-        return self.hear()
 
     def hear(self) -> str:
-        """The next reply."""
-        line = self.process.stdout.readline()
-        if not line.endswith(b"\n"):
-            raise Ended(self.how_it_ended())
-        return line[:-1].decode(errors="replace")
+        """The next reply. Raises Ended when the program has ended, or has to be ended."""
+        begun = time.monotonic()
+        while not self.heard:
+            if not select.select([self], [], [], BETWEEN_LOOKS)[0]:
+                self.lose_patience(time.monotonic() - begun)
+                continue
+            piece = os.read(self.fileno(), 1 << 16)
+            if not piece:
+                raise Ended(self.how_it_ended())
+            *whole, self.rest = (self.rest + piece).split(b"\n")
+            self.heard.extend(whole)
+        return self.heard.popleft().decode(errors="replace")
+
+    def lose_patience(self, seconds: float) -> None:
+        """Raises Ended when a reply that has taken so many seconds is not waited for any longer."""
+        if self.seconds is not None and seconds > self.seconds:
+            raise Ended(f"the program has not replied within {self.seconds:g} seconds")
+        if seconds > SLOW and self.is_overtaken():
+            raise Ended(f"something was saved, and the build before has taken {seconds:.0f} seconds and is not done")
 
     def how_it_ended(self) -> str:
         """A sentence about the process, which has closed its standard output."""
@@ -144,23 +193,29 @@ class Session:
                 break
             except subprocess.TimeoutExpired:
                 then()
+        release(self.guard)
 
 
-def split_why(reply: str) -> tuple[str, str]:
-    """The path and the key of a reply `why PATH KEY`. A path may hold spaces, so the key is looked for from its first word on."""
+def split_why(reply: str, folder: Path) -> tuple[str, str]:
+    """The path and the key of a reply `why PATH KEY`. A path may hold spaces, and words that a key begins with: the longest that is a file is meant."""
     words = reply[len("why ") :].split(" ")
-    for at in range(1, len(words)):
-        if words[at] in KEYS:
-            return " ".join(words[:at]), " ".join(words[at:])
-    return " ".join(words), ""
+    places = [at for at in range(1, len(words)) if words[at] in KEYS and (words[at] not in ALONE or at == len(words) - 1)]
+    if len(places) > 1:
+        files = [at for at in places if os.path.lexists(folder / PAGE.sub("", " ".join(words[:at])))]
+        places = files[-1:] or places
+    return (" ".join(words[: places[0]]), " ".join(words[places[0] :])) if places else (" ".join(words), "")
 
 
 # The first words of keys: docs/PROFILE.md, "Why an item is rendered".
 KEYS = {"new", "source", "content", "output", "var", "paginator", "site", "data", "layout", "include", "file", "link", "post", "moment"}
+# Those that nothing follows.
+ALONE = {"new", "moment"}
+# The number of a page that pagination has made.
+PAGE = re.compile(r"#\d+$")
 
 
-# What it means that a file cannot be opened: it has gone, or it is a link, a socket or a device.
-NO_FILE = {errno.ENOENT, errno.ENOTDIR, errno.ELOOP, errno.ENXIO, errno.ENODEV}
+# What it means that a file cannot be opened: it has gone, or there or on the way is a link, a pipe, a socket or a device.
+NO_FILE = {errno.ENOENT, errno.ENOTDIR, errno.ELOOP, errno.ENXIO, errno.ENODEV, errno.EINVAL}
 
 
 def can_be_told(path: str) -> bool:
@@ -173,22 +228,16 @@ def can_be_told(path: str) -> bool:
 
 
 def read_source(folder: Path, path: str) -> Optional[bytes]:
-    """The bytes of a file of the site; nothing if a scan would find no file there. Never waits, as opening a fifo would."""
+    """The bytes of a file of the site; nothing if a scan would find no file there. Follows no link, and never waits.
+
+    Raises LeftToScan for a file that cannot be read, or is too long for a line.
+    """
     try:
-        number = os.open(folder / path, os.O_RDONLY | os.O_NOFOLLOW | os.O_NONBLOCK | os.O_CLOEXEC)
+        data = read_below(folder, path, MOST_BYTES + 1)
     except OSError as error:
         if error.errno in NO_FILE:
             return None
         raise LeftToScan from error
-    try:
-        if not stat.S_ISREG(os.fstat(number).st_mode):
-            return None
-        with open(number, "rb", closefd=False) as file:
-            data = file.read(MOST_BYTES + 1)
-    except OSError as error:
-        raise LeftToScan from error
-    finally:
-        os.close(number)
     if len(data) > MOST_BYTES:
         raise LeftToScan
     return data

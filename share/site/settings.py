@@ -1,27 +1,16 @@
 """What the configuration of a site says of its address. The program reads it: nothing else reads YAML as it does."""
 from __future__ import annotations
 
-import json
 import re
-import subprocess
-import tempfile
 from dataclasses import dataclass
 from pathlib import Path
 from typing import Optional
 
 from session import LeftToScan, read_source
+from site_files import NotRead, read_values, text_of
 
 CONFIGURATION = "_config.yml"
 ADDRESS = re.compile(r"[A-Za-z][A-Za-z0-9+.-]*://[^/]")
-# A site of this page alone, below a name that no site excludes.
-PAGE = "settings-that-site-asks-for"
-QUESTION = f"""---
-permalink: /{PAGE}.json
-published: true
-layout: null
----
-{{"url": {{{{ site.url | jsonify }}}}, "baseurl": {{{{ site.baseurl | jsonify }}}}}}
-"""
 
 
 @dataclass(frozen=True)
@@ -34,18 +23,19 @@ class Settings:
 def read_settings(program: str, folder: Path) -> Optional[Settings]:
     """Returns nothing if the configuration cannot be read."""
     try:
-        configuration = read_source(folder, CONFIGURATION)
-    except LeftToScan:
+        text = text_of(read_source(folder, CONFIGURATION) or b"")
+        values = read_values(program, {CONFIGURATION: text})
+    except (LeftToScan, NotRead, OSError):
         return None
-    try:
-        with tempfile.TemporaryDirectory() as room:
-            if configuration is not None:
-                Path(room, CONFIGURATION).write_bytes(configuration)
-            Path(room, f"{PAGE}.json").write_text(QUESTION, encoding="utf-8")
-            subprocess.run([program, "once"], cwd=room, stdin=subprocess.DEVNULL, stdout=subprocess.DEVNULL, stderr=subprocess.DEVNULL)
-            answer = json.loads(Path(room, "_site", f"{PAGE}.json").read_bytes())
-    except (OSError, ValueError):
+    if values.faults:
         return None
-    baseurl, url = (answer["baseurl"] or "").strip("/"), (answer["url"] or "").rstrip("/")
+    given = values.of.get(CONFIGURATION)
+    baseurl, url = (text_under(given, key) for key in ("baseurl", "url"))
     # A text without a scheme is no address, and could be in any sentence.
-    return Settings(url if ADDRESS.match(url) else "", f"/{baseurl}" if baseurl else "")
+    return Settings(url.rstrip("/") if ADDRESS.match(url) else "", f"/{baseurl.strip('/')}" if baseurl.strip("/") else "")
+
+
+def text_under(values: object, key: str) -> str:
+    """The text that a key has; an empty one when it has another value, or none."""
+    value = values.get(key) if isinstance(values, dict) else None
+    return value if isinstance(value, str) else ""

@@ -3,14 +3,16 @@ from __future__ import annotations
 
 import os
 import re
+from contextlib import contextmanager
 from dataclasses import dataclass, field
 from pathlib import Path
-from typing import Optional
+from typing import Iterator, Optional
 
 from adopt_settings import collections_of, plugins_of, texts
 from configuration import Settings
 from kept_back import Program
-from site_files import begins_with_mark, front_matter, line_of, list_files, read_text, read_values
+from session import MOST_BYTES
+from site_files import front_matter, line_of, list_files, open_file, read_marked, read_values, text_of
 
 CONFIG = "_config.yml"
 DECIMAL = re.compile(r"^([\w-]+)[ \t]*:[ \t]*-?\d+\.\d+[ \t]*(?:#.*)?\r?$", re.M)
@@ -25,8 +27,17 @@ class Notes:
 
     def add(self, path: str, line: int, what: str, remedy: str) -> None:
         said = f"{what}; {remedy}"
-        self.first.setdefault(said, f"{path}:{line}" if line else path)
+        # What is in `first` is said, also when the time is over between these two.
         self.files.setdefault(said, set()).add(path)
+        self.first.setdefault(said, f"{path}:{line}" if line else path)
+
+    @contextmanager
+    def of(self, path: str) -> Iterator[None]:
+        """A time in which notes of a file are added. Whatever is met there ends these notes alone, and is told."""
+        try:
+            yield
+        except Exception as error:
+            self.add(path, 0, f"what else it means otherwise is not known ({type(error).__name__}: {error})", "report it, with this file")
 
     def lines(self) -> list[str]:
         told = []
@@ -101,26 +112,53 @@ class Site:
 
 
 def read_site(folder: Path, program: str) -> Site:
-    """Reads all that the notes look at. What has a fault is passed over: the program tells it."""
+    """Reads all that the notes look at. What has a fault is passed over: the program tells it. So is what has gone meanwhile.
+
+    Raises NotRead when the program does not read YAML.
+    """
     found = list_files(folder)
-    text = read_text(folder / CONFIG) if CONFIG in found.files else ""
+    text = (read_part(folder, CONFIG) if CONFIG in found.files else None) or ""
     config = read_values(program, {CONFIG: text}).of.get(CONFIG)
     site = Site(folder, found.files, [], found.links, config if isinstance(config, dict) else {}, Settings(text))
     begun: dict[str, str] = {}
     rules = Program(texts(site.config.get("include")), texts(site.config.get("exclude")))
     for path in found.files:
-        if not path.startswith(("_includes/", "_layouts/")) and rules.is_excluded(path):
+        is_include, is_layout = path.startswith("_includes/"), path.startswith("_layouts/")
+        if not (is_include or is_layout) and rules.is_excluded(path):
             continue
         site.looked_at.append(path)
-        has_mark = begins_with_mark(folder / path)
-        if path.startswith("_includes/") or path.startswith("_layouts/") and not has_mark:
-            site.plain[path] = read_text(folder / path)
-        elif has_mark and not path.startswith("_data/"):
-            begun[path] = read_text(folder / path)
+        part = read_part(folder, path, begun=not is_include and not is_layout)
+        if part is None:
+            continue
+        if is_include or is_layout and not is_marked(part):
+            site.plain[path] = part
+        elif not path.startswith("_data/"):
+            begun[path] = part
+    add_items(site, begun, program)
+    return site
+
+
+def add_items(site: Site, begun: dict[str, str], program: str) -> None:
+    """Adds those of the texts that have front matter, with its values."""
     heads = {path: match for path, match in ((path, front_matter(text)) for path, text in begun.items()) if match}
     values = read_values(program, {path: "---\n" + match[1] for path, match in heads.items()}).of
     for path, match in heads.items():
         value = values.get(path)
         site.items.append(Item(path, begun[path], value if isinstance(value, dict) else {}, match.end()))
-    return site
 
+
+def read_part(folder: Path, path: str, begun: bool = False) -> Optional[str]:
+    """The text of a file of the site, as much as a file may have; with `begun` nothing of one that does not begin as front matter does."""
+    try:
+        if begun:
+            data = read_marked(os.path.join(folder, path), MOST_BYTES)
+        else:
+            with open_file(os.path.join(folder, path)) as file:
+                data = file.read(MOST_BYTES)
+    except OSError:
+        return None
+    return None if data is None else text_of(data)
+
+
+def is_marked(text: str) -> bool:
+    return text.removeprefix("\ufeff").startswith("---")

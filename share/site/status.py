@@ -5,7 +5,7 @@ import threading
 import time
 from contextlib import contextmanager
 from dataclasses import dataclass
-from typing import Optional
+from typing import Callable, Optional
 
 from faults import Fault
 
@@ -76,8 +76,12 @@ class Status:
                 self.readers -= 1
                 self.changed.notify_all()
 
-    def next(self, seen: Optional[State], seconds: float) -> State:
-        """The state when it is no longer the one that was seen, or after so long."""
+    def next(self, seen: Optional[State], seconds: float, is_over: Callable[[], bool]) -> State:
+        """The state when it is no longer the one that was seen, or after so long, or when the wait is over: `wake` has that asked."""
         with self.changed:
-            self.changed.wait_for(lambda: self.state() != seen, seconds)
+            self.changed.wait_for(lambda: self.state() != seen or is_over(), seconds)
             return self.state()
+
+    def wake(self) -> None:
+        with self.changed:
+            self.changed.notify_all()

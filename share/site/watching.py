@@ -12,9 +12,9 @@ from dataclasses import dataclass, field
 from pathlib import Path
 from typing import Optional
 
-# What a scan passes over, wherever it is, and at the top: docs/PROFILE.md, "The folder".
-PASSED_OVER = {".git", ".svn", ".hg", ".jekyll-cache", ".sass-cache", "node_modules"}
-OUTPUT = "_site"
+from inside import OUTPUT
+from scanned import entries_of, is_entered, join
+
 # Seconds between two looks.
 BETWEEN_LOOKS = 0.2
 
@@ -43,10 +43,6 @@ class Changes:
         self.output |= later.output
 
 
-def join(folder: str, name: str) -> str:
-    return f"{folder}/{name}" if folder else name
-
-
 def mark(folder: str | Path, name: str = "") -> Optional[tuple[int, int]]:
     """Which file or folder has this name, to tell it from another of that name."""
     try:
@@ -54,11 +50,6 @@ def mark(folder: str | Path, name: str = "") -> Optional[tuple[int, int]]:
     except OSError:
         return None
     return status.st_dev, status.st_ino
-
-
-def is_entered(folder: str, name: str) -> bool:
-    """Whether a scan goes into a folder of this name."""
-    return name not in PASSED_OVER and not (folder == "" and name == OUTPUT)
 
 
 # ---- inotify: the numbers of <sys/inotify.h>
@@ -118,7 +109,7 @@ class Inotify:
             if not self.watch(folder):
                 continue
             try:
-                with os.scandir(os.path.join(self.top, folder)) as entries:
+                with entries_of(self.top, folder) as entries:
                     for entry in entries:
                         if not entry.is_dir(follow_symlinks=False):
                             files.add(join(folder, entry.name))
@@ -246,7 +237,7 @@ class Looking:
         while left:
             folder = left.pop()
             try:
-                with os.scandir(os.path.join(self.top, folder)) as entries:
+                with entries_of(self.top, folder) as entries:
                     for entry in entries:
                         path = join(folder, entry.name)
                         if entry.is_dir(follow_symlinks=False):

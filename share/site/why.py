@@ -17,9 +17,9 @@ from building import Builder
 from drawing import Edit
 from faults import explain
 from pages import with_script
+from scanned import entries_of, is_entered, join
 from session import Built, Ended, Failed, LeftToScan, Session, can_be_told, read_source
 from settings import CONFIGURATION
-from watching import is_entered, join
 
 MOST_EDITS = 16
 MOST_SHOWN = 100
@@ -27,7 +27,7 @@ NEWLINE = b"\n"
 YAML = (".yml", ".yaml")
 FRONT = re.compile(rb"\A(?:\xef\xbb\xbf)?---[ \t]*\r?\n(.*?)^(?:---|\.\.\.)[ \t]*$", re.DOTALL | re.MULTILINE)
 # A line of YAML whose value is a bare text that ends with a letter.
-VALUE = re.compile(rb"^[ \t]*(?:- +)?[A-Za-z0-9_-]+: +(?![\[{|>&*!'\"#])[^#\n]*[a-z]$|^[ \t]*- +[A-Za-z][^:#\n]*[a-z]$", re.MULTILINE)
+VALUE = re.compile(rb"^[ \t]*(?:- +)?[A-Za-z0-9_-]+: +(?![ \[{|>&*!'\"#])[^#\n]*[a-z]$|^[ \t]*- +[A-Za-z][^:#\n]*[a-z]$", re.MULTILINE)
 TRUTHS = (b"true", b"false", b"yes", b"no", b"on", b"off", b"null")
 TITLE = re.compile(rb"^title:.*$", re.MULTILINE)
 # The last letter of the last text of JSON, and of a field of a table.
@@ -77,8 +77,9 @@ def main(arguments: list[str], program: str) -> int:
     reader.add_argument("--to", type=Path, metavar="PAGE", help="writes the page to this new file")
     given = reader.parse_args(arguments)
     file = Path(os.path.abspath(given.file))
-    site = given.site or site_of(file)
-    path = os.path.relpath(file, site)
+    # From the site's folder on no link is followed.
+    site = (given.site or site_of(file)).resolve()
+    path = os.path.relpath(file.parent.resolve() / file.name, site)
     edits = try_edits(program, site, path)
     for edit in edits:
         print(edit.told())
@@ -152,7 +153,7 @@ def copy_sources(site: Path, room: Path) -> None:
     while left:
         folder = left.pop()
         (room / folder).mkdir(exist_ok=True)
-        with os.scandir(site / folder) as entries:
+        with entries_of(site, folder) as entries:
             for entry in entries:
                 path = join(folder, entry.name)
                 if entry.is_dir(follow_symlinks=False):
@@ -175,5 +176,5 @@ def last_build(builder: Builder, version: str) -> bytes:
     """The page about the last build of a site that is served."""
     last = builder.last
     edits = [Edit("the last build", last.whys, last.rendered + last.reused, last.written)] if last else []
-    name = ", ".join(sorted(builder.saved)[:3]) or "the site"
+    name = ", ".join(sorted(builder.edited)[:3]) or "the site"
     return with_script(drawing.page(name, edits).encode(errors="backslashreplace"), version)

@@ -3,6 +3,8 @@ from __future__ import annotations
 
 import argparse
 import importlib.util
+import os
+import sys
 from dataclasses import dataclass
 from pathlib import Path
 from typing import NoReturn
@@ -67,6 +69,11 @@ def is_here(word: str) -> bool:
 def shown(text: str) -> str:
     """A text from outside as it may be shown on a terminal: `?` for each character that could steer it."""
     return "".join(sign if sign.isprintable() else "?" for sign in text)
+
+
+def say_no_more() -> None:
+    """Whoever read what is said has gone, or cannot take it. Python would fail once more when it flushes standard output."""
+    os.dup2(os.open(os.devnull, os.O_WRONLY), sys.stdout.fileno())
 
 
 class Reader(argparse.ArgumentParser):
