@@ -11,7 +11,7 @@ import sys
 import time
 from pathlib import Path
 
-from common import PARTS, PROGRAM, Failures, adopt, has, read_files, run, write_files
+from common import PARTS, PROGRAM, Failures, adopt, expect_said, has, read_files, run, write_files
 import sass
 from adopt import write_into
 from adoption import Adoption
@@ -30,13 +30,6 @@ def try_all(work: Path, failures: Failures) -> None:
         folder = work / part.__name__
         folder.mkdir()
         part(folder, failures)
-
-
-def expect_said(what: str, done: subprocess.CompletedProcess, failures: Failures, status: int, *parts: str) -> None:
-    """The status, and what standard output and standard error have to hold."""
-    failures.expect(f"{what}: {done.stdout}{done.stderr}: status", done.returncode, status)
-    for part in parts:
-        failures.expect(f"{what}: says {part!r}: {done.stdout}{done.stderr}", part in done.stdout + done.stderr, True)
 
 
 def nothing_to_do(work: Path, failures: Failures) -> None:

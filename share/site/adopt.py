@@ -7,14 +7,15 @@ import shutil
 import sys
 import tempfile
 from pathlib import Path
-from typing import Optional
+from typing import Iterator, Optional
 
-from adopt_files import adopt_templates, adopt_theme, mend_front_matter, write_feeds, write_redirects, write_sitemap, write_styles
-from adopt_settings import adopt_configuration
+from adopt_files import read_configuration, adopt_templates, adopt_theme, mend_front_matter, write_feeds, write_redirects, write_sitemap, write_styles
+from adopt_settings import CONFIG, adopt_configuration, collections_of, rules_of, texts
 from adoption import Adoption
 from first_faults import fault_lines
 from notes import differences
-from site_files import PASSED_OVER, NotRead, list_files, write_bytes
+from outcome import Question, ask
+from site_files import PASSED_OVER, NotRead, begins_with_mark, front_matter, list_files, read_text, write_bytes
 from words import Refused, a_folder, parser, shown
 
 # The limits of a site: docs/PROFILE.md.
@@ -57,8 +58,38 @@ def adopt(adoption: Adoption, theme: Optional[Path]) -> None:
     write_sitemap(adoption, config)
     write_redirects(adoption)
     write_styles(adoption)
+    refuse_leaks(adoption)
     adoption.left_lines += fault_lines(adoption.folder, adoption.program)
     adoption.left_lines += differences(adoption.folder, adoption.program)
+
+
+def refuse_leaks(adoption: Adoption) -> None:
+    """Nothing is made of a site when a file would come out that Jekyll leaves out. The program is asked, after all changes were made."""
+    _, config = read_configuration(adoption)
+    heads = dict(heads_of(adoption.folder, adoption.files()))
+    defaults = config.get("defaults")
+    question = Question(
+        rules_of(config).include, texts(config.get("exclude")), collections_of(config), defaults if isinstance(defaults, list) else [],
+        config.get("unpublished") is True,
+    )
+    outcome = ask(adoption.program, question, heads)
+    leaks = sorted(outcome.sources & adoption.left_out)
+    if leaks:
+        raise Refused(
+            f"{shown(leaks[0])}: it would come out, and Jekyll leaves it out{more(leaks)}; take it out of the folder, or write its path "
+            f"into exclude of {CONFIG}, and run this again. Nothing was done"
+        )
+
+
+def more(paths: list[str]) -> str:
+    return f" (and {len(paths) - 1} more)" if len(paths) > 1 else ""
+
+
+def heads_of(folder: Path, files: list[str]) -> Iterator[tuple[str, Optional[str]]]:
+    """The front matter of each file; nothing for one that has none."""
+    for path in files:
+        match = front_matter(read_text(folder / path)) if begins_with_mark(folder / path) else None
+        yield path, match[1] if match else None
 
 
 def copy_site(adoption: Adoption) -> None:

@@ -9,10 +9,11 @@ from pathlib import Path
 from typing import Optional
 
 import sass
-from adopt_settings import CONFIG, collections_of, plugins_of, read_mended, texts
+from adopt_settings import CONFIG, collections_of, plugins_of, read_mended, save, texts
 from adoption import Adoption
 from kept_back import Program
-from configuration import Settings, written
+from configuration import Settings, by_lines, is_in_braces, written
+from publication import is_published_as_written
 from site_files import TEMPLATES, begins_with_mark, front_matter, line_of, read_text, read_values, write_text
 from tags import Includes, rewrite
 from theme import find_gem, locked_version, missing_files
@@ -37,11 +38,8 @@ def read_configuration(adoption: Adoption) -> tuple[Settings, dict]:
     path = adoption.folder / CONFIG
     text = read_text(path) if path.is_file() else ""
     config = read_values(adoption.program, {CONFIG: text}).of.get(CONFIG)
-    return Settings(text), config if isinstance(config, dict) else {}
-
-
-def save(adoption: Adoption, settings: Settings) -> None:
-    write_text(adoption.folder / CONFIG, settings.text())
+    config = config if isinstance(config, dict) else {}
+    return Settings(by_lines(text, config) if is_in_braces(text) else text), config
 
 
 # ---- front matter
@@ -83,17 +81,24 @@ def mend_front_matter(adoption: Adoption) -> None:
 
 
 def mend_published(adoption: Adoption, path: str, text: str, value: object) -> None:
-    """Jekyll leaves out what has `published` without a value, and builds what has any other."""
+    """Writes `published` as a truth value: as Jekyll reads it, and false when it is no clear word."""
     match = front_matter(text)
-    line = re.compile(r"^(published[ \t]*:).*?(\r?)$", re.M)
-    found = line.search(match[1])
-    if not found:
+    settings = Settings(match[1])
+    place = settings.place("published")
+    if place is None:
+        # In braces it has no line of its own. The program refuses it, so nothing comes out until it is mended by hand.
         return
-    new = "false" if value is None else "true"
-    changed = line.sub(rf"\1 {new}\2", match[1])
-    write_text(adoption.folder / path, text[: match.start(1)] + changed + text[match.end(1) :])
-    why = "without a value Jekyll leaves it out" if value is None else "Jekyll builds it"
-    adoption.done(f"{path}:{line_of(text, match.start(1) + found.start())}", f"published is {new} now: {why}")
+    clear = is_published_as_written(value, match[1])
+    new = written(bool(clear))
+    settings.lines[place[0] : place[1]] = [f"{settings.indent}published: {new}"]
+    write_text(adoption.folder / path, text[: match.start(1)] + settings.text() + text[match.end(1) :])
+    line = f"{path}:{line_of(text, match.start(1)) + place[0]}"
+    if clear is None:
+        adoption.left(line, "published was no clear word, so it is false now; write true or false")
+    elif value is None:
+        adoption.done(line, "published is false now: without a value Jekyll leaves it out")
+    else:
+        adoption.done(line, f"published is {new} now: " + ("Jekyll builds it" if clear else "Jekyll leaves it out"))
 
 
 # ---- the theme
@@ -121,11 +126,13 @@ def adopt_theme(adoption: Adoption, config: dict, given: Optional[Path]) -> None
     if added:
         by_folder = ", ".join(f"{sum(path.startswith(top + '/') for path in added)} of {top}" for top in sorted({path.split("/")[0] for path in added}))
         adoption.done(place, f"{len(added)} files of the theme in {folder} are in the site now ({by_folder})")
+    before = list(settings.lines)
     adopt_theme_keys(adoption, settings, config, folder, place)
     if key:
         settings.comment_out(key, "its files are in the site now")
         config.pop(key)
-        save(adoption, settings)
+    if settings.lines != before:
+        save(adoption, settings, config)
 
 
 def adopt_theme_keys(adoption: Adoption, settings: Settings, config: dict, folder: Path, place: str) -> None:
@@ -199,7 +206,7 @@ def set_environment(adoption: Adoption) -> None:
             adoption.left(f"{CONFIG}:{settings.line('environment')}", "templates compare it with production now; give it a text")
         return
     settings.set("environment", "production")
-    save(adoption, settings)
+    save(adoption, settings, {**config, "environment": "production"})
     adoption.done(CONFIG, "environment is production now, which templates ask for in place of jekyll.environment")
 
 
@@ -329,5 +336,6 @@ def write_styles(adoption: Adoption) -> None:
     for style in made:
         adoption.done(style.source, f"sassc made {style.css} of it, and it is in exclude now; `site serve` and `site watch` make it anew")
     if made:
-        settings.set("exclude", texts(config.get("exclude")) + [style.source for style in made])
-        save(adoption, settings)
+        config["exclude"] = texts(config.get("exclude")) + [style.source for style in made]
+        settings.set("exclude", config["exclude"])
+        save(adoption, settings, config)

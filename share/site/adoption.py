@@ -17,6 +17,8 @@ class Adoption:
     original: Path
     # The files that were copied, and when each was saved last.
     copied: dict[str, int] = field(default_factory=dict)
+    # The files of the site that Jekyll leaves out.
+    left_out: set[str] = field(default_factory=set)
     done_lines: list[str] = field(default_factory=list)
     left_lines: list[str] = field(default_factory=list)
 

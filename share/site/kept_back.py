@@ -95,9 +95,11 @@ class Rules:
 class Jekyll:
     """What Jekyll lets come out."""
 
-    def __init__(self, rules: Rules, files: Iterable[str]):
+    def __init__(self, rules: Rules, files: Iterable[str], held: Iterable[str] = ()):
         self.rules = rules
         self.files = set(files)
+        # Those that are left out by a setting of another kind.
+        self.held = set(held)
         self.folders: dict[str, list[str]] = {"": []}
         for path in sorted(self.files):
             self.add(path)
@@ -143,7 +145,7 @@ class Jekyll:
                 found.update(path for path in inner if collection not in self.rules.hidden or "_posts" not in path.split("/"))
         whole = (posixpath.normpath(entry.lstrip("/") or ".") for entry in self.rules.include)
         found.update(path for path in whole if path in self.files)
-        return found
+        return found - self.held
 
     def walk(self, folder: str, found: set[str]) -> None:
         if self.rules.has_posts(folder):
@@ -160,7 +162,7 @@ class Jekyll:
     def drafts(self) -> set[str]:
         """The drafts that the program would take for such: those at the top."""
         inner = self.below("_drafts", dots=False) if self.rules.has_posts("") else []
-        return {path for path in inner if DRAFT.match(path[len("_drafts/") :])}
+        return {path for path in inner if DRAFT.match(path[len("_drafts/") :])} - self.held
 
     def below(self, folder: str, dots: bool) -> list[str]:
         """The files below a folder that is read whole."""
@@ -173,7 +175,7 @@ class Jekyll:
 
 
 class Program:
-    """What the program lets come out: docs/PROFILE.md, "What a file stands for"."""
+    """What the program is likely to let come out. Lists are looked for by this guess; what comes of them is asked of the program itself (outcome.py)."""
 
     def __init__(self, include: list[str], exclude: list[str]):
         self.include = include
@@ -238,9 +240,9 @@ class Lists:
     added: list[str]
 
 
-def lists_of_paths(rules: Rules, files: list[str]) -> Lists:
-    """What the lists are for the program, for the files that are there now."""
-    jekyll = Jekyll(rules, files)
+def lists_of_paths(rules: Rules, files: list[str], held: Iterable[str] = ()) -> Lists:
+    """What the lists are for the program, for the files that are there now. `held` are files that Jekyll leaves out by other settings."""
+    jekyll = Jekyll(rules, files, held)
     wanted = jekyll.comes_out()
     include = [entry for entry in rules.include if is_plain(entry) and brings_only(entry, wanted, files, rules.collections)]
     exclude = [entry for entry in rules.exclude if is_plain(entry.rstrip("/")) and entry.partition("/")[0] not in READ_FOLDERS]

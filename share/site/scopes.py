@@ -6,7 +6,9 @@ from dataclasses import dataclass, field
 from functools import lru_cache
 from typing import Optional
 
+from configuration import written
 from kept_back import ANY_NAME, names, shortened
+from publication import is_published
 
 OLD_TYPES = {"post": "posts", "page": "pages", "draft": "drafts"}
 
@@ -57,6 +59,8 @@ class Mended:
 
     defaults: list[object]
     differences: list[Difference] = field(default_factory=list)
+    # Whether a value of `published` is no clear word.
+    unclear: bool = False
 
     def tell(self, part: str, otherwise: str, now: str) -> None:
         self.differences.append(Difference(part, otherwise, now))
@@ -91,9 +95,8 @@ def mend_entry(values: dict, scope: dict, files: list[str], types: list[str], me
     if "published" in values and kind == "pages":
         mended.tell("published", "published of defaults says nothing of pages in Jekyll", "it is taken out")
         values = {key: value for key, value in values.items() if key != "published"}
-    elif "published" in values and values["published"] is None:
-        mended.tell("published", "published has no value, which Jekyll takes for false", "it is false now")
-        values = {**values, "published": False}
+    elif "published" in values and not isinstance(values["published"], bool):
+        values = {**values, "published": mend_published(values["published"], mended)}
     paths = paths_of(path, files)
     if paths != [path]:
         what = "is a glob" if "*" in path else "is the front of a path in Jekyll"
@@ -101,6 +104,18 @@ def mend_entry(values: dict, scope: dict, files: list[str], types: list[str], me
     return [
         {"scope": {"path": one, **({"type": kind} if kind is not None else {})}, "values": values} for one in paths
     ]
+
+
+def mend_published(value: object, mended: Mended) -> bool:
+    """`published` of defaults as a truth value. What is no clear word is not published."""
+    clear = is_published(value)
+    if clear is None:
+        mended.unclear = True
+        mended.tell("published", "published is no clear word", "it is false now")
+    else:
+        what = "has no value" if value is None else f"is {value}"
+        mended.tell("published", f"published {what}, which Jekyll takes for {written(clear)}", f"it is {written(clear)} now")
+    return bool(clear)
 
 
 def paths_of(scope: str, files: list[str]) -> list[str]:
@@ -135,7 +150,7 @@ def published_by_defaults(defaults: list, path: str, kind: Optional[str]) -> boo
             merged, before = merge(merged, entry["values"]), scope
         else:
             merged = merge(entry["values"], merged)
-    return bool(merged.get("published", True))
+    return bool(is_published(merged.get("published", True)))
 
 
 def path_of(scope: dict) -> str:
