@@ -2,20 +2,24 @@
 from __future__ import annotations
 
 import filecmp
+import glob
 import os
 import shutil
 import sys
 import tempfile
 from pathlib import Path
-from typing import Iterator, Optional
+from typing import Optional
 
-from adopt_files import read_configuration, adopt_templates, adopt_theme, mend_front_matter, write_feeds, write_redirects, write_sitemap, write_styles
-from adopt_settings import CONFIG, adopt_configuration, collections_of, rules_of, texts
+from adopt_files import (
+    adopt_templates, adopt_theme, coming_out, mend_front_matter, read_configuration, write_feeds, write_redirects, write_sitemap, write_styles,
+)
+from adopt_settings import CONFIG, adopt_configuration
 from adoption import Adoption
+from calling import NotDone
 from first_faults import fault_lines
 from notes import differences
-from outcome import Question, ask
-from site_files import PASSED_OVER, NotRead, begins_with_mark, front_matter, list_files, read_text, write_bytes
+from site_files import PASSED_OVER, NotRead, list_files, write_bytes
+from stopping import until_stopped
 from words import Refused, a_folder, parser, shown
 
 # The limits of a site: docs/PROFILE.md.
@@ -35,17 +39,35 @@ def main(arguments: list[str], program: str) -> int:
     if not folder.name:
         raise Refused("a site is in a folder that has a name")
     beside = folder.parent / f"{folder.name}-adopted"
+    tell_left_over(folder)
+    with until_stopped():
+        return make(folder, beside, given.write, given.theme, program)
+    raise Refused("it was told to end before it was done; nothing was made", 1)
+
+
+def make(folder: Path, beside: Path, in_place: bool, theme: Optional[Path], program: str) -> int:
+    """Adopts the site in a folder that is removed in the end, and puts what came of it in its place; the status."""
     try:
         # The copy that will stay is made where it will stay, so that it gets its name in one step.
-        with tempfile.TemporaryDirectory(prefix=f".{folder.name[:100]}-adopted.", dir=None if given.write else folder.parent) as room:
+        with tempfile.TemporaryDirectory(prefix=room_prefix(folder), dir=None if in_place else folder.parent) as room:
             adoption = Adoption(Path(room, "site"), program, folder)
             copy_site(adoption)
-            adopt(adoption, given.theme)
-            return finish(adoption, None if given.write else beside)
+            adopt(adoption, theme)
+            return finish(adoption, None if in_place else beside)
     except OSError as error:
         raise Refused(f"{shown(str(error.filename or folder))}: {error.strerror or error}") from error
-    except NotRead as error:
+    except (NotRead, NotDone) as error:
         raise Refused(str(error)) from error
+
+
+def room_prefix(folder: Path) -> str:
+    return f".{folder.name[:100]}-adopted."
+
+
+def tell_left_over(folder: Path) -> None:
+    """A run that was killed could not remove what it had made so far. Nothing but its name tells whose that is, so it stays."""
+    for path in sorted(folder.parent.glob(f"{glob.escape(room_prefix(folder))}*")):
+        print(f"left: {shown(str(path))}: a run that was killed has left it, or one that still goes on makes it; remove it when none does")
 
 
 def adopt(adoption: Adoption, theme: Optional[Path]) -> None:
@@ -66,14 +88,7 @@ def adopt(adoption: Adoption, theme: Optional[Path]) -> None:
 def refuse_leaks(adoption: Adoption) -> None:
     """Nothing is made of a site when a file would come out that Jekyll leaves out. The program is asked, after all changes were made."""
     _, config = read_configuration(adoption)
-    heads = dict(heads_of(adoption.folder, adoption.files()))
-    defaults = config.get("defaults")
-    question = Question(
-        rules_of(config).include, texts(config.get("exclude")), collections_of(config), defaults if isinstance(defaults, list) else [],
-        config.get("unpublished") is True,
-    )
-    outcome = ask(adoption.program, question, heads)
-    leaks = sorted(outcome.sources & adoption.left_out)
+    leaks = sorted(coming_out(adoption, config, adoption.files()) & adoption.left_out)
     if leaks:
         raise Refused(
             f"{shown(leaks[0])}: it would come out, and Jekyll leaves it out{more(leaks)}; take it out of the folder, or write its path "
@@ -83,13 +98,6 @@ def refuse_leaks(adoption: Adoption) -> None:
 
 def more(paths: list[str]) -> str:
     return f" (and {len(paths) - 1} more)" if len(paths) > 1 else ""
-
-
-def heads_of(folder: Path, files: list[str]) -> Iterator[tuple[str, Optional[str]]]:
-    """The front matter of each file; nothing for one that has none."""
-    for path in files:
-        match = front_matter(read_text(folder / path)) if begins_with_mark(folder / path) else None
-        yield path, match[1] if match else None
 
 
 def copy_site(adoption: Adoption) -> None:

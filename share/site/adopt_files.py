@@ -9,10 +9,10 @@ from pathlib import Path
 from typing import Optional
 
 import sass
-from adopt_settings import CONFIG, collections_of, plugins_of, read_mended, save, texts
+from adopt_settings import CONFIG, plugins_of, question_of, read_mended, save, texts
 from adoption import Adoption
-from kept_back import Program
 from configuration import Settings, by_lines, is_in_braces, written
+from outcome import ask
 from publication import is_published_as_written
 from site_files import TEMPLATES, begins_with_mark, front_matter, line_of, read_text, read_values, write_text
 from tags import Includes, rewrite
@@ -263,9 +263,10 @@ def write_redirects(adoption: Adoption) -> None:
     _, config = read_configuration(adoption)
     if "jekyll-redirect-from" not in plugins_of(config, adoption.original):
         return
-    program = Program(texts(config.get("include")), texts(config.get("exclude")))
-    items = {path: text for path, text in with_front_matter(adoption).items() if program.comes_out(path, collections_of(config))}
+    items = with_front_matter(adoption)
     asking = {path: text for path, text in items.items() if re.search(r"^redirect_(from|to|source)[ \t]*:", front_matter(text)[1], re.M)}
+    coming = coming_out(adoption, config, list(asking))
+    asking = {path: text for path, text in asking.items() if path in coming}
     values = read_values(adoption.program, {path: yaml_of(text) for path, text in asking.items()}).of
     layout = os.path.splitext(own_name(adoption, "_layouts", "redirect.html", template("redirect.html")))[0]
     used = False
@@ -317,22 +318,31 @@ def redirect_page(adoption: Adoption, path: str, text: str, layout: str) -> bool
     return True
 
 
+def coming_out(adoption: Adoption, config: dict, paths: list[str]) -> set[str]:
+    """Those of these files that come out of the site as it is now. The program is asked."""
+    heads = {}
+    for path in paths:
+        match = front_matter(read_text(adoption.folder / path)) if begins_with_mark(adoption.folder / path) else None
+        heads[path] = match[1] if match else None
+    return ask(adoption.program, question_of(config), heads).sources if heads else set()
+
+
 # ---- Sass
 
 
 def write_styles(adoption: Adoption) -> None:
     """The CSS of each page of Sass is put beside it, and the page into `exclude`."""
     settings, config = read_configuration(adoption)
-    sheets = sass.read_sheets(adoption.folder, adoption.program)
-    files = adoption.files()
-    styles = sass.published(sass.sass_pages(adoption.folder, files), sheets)
+    styles = sass.sass_pages(adoption.folder, adoption.files())
+    coming = coming_out(adoption, config, [style.source for style in styles])
+    styles = [style for style in styles if style.source in coming]
     if not styles:
         for line in sass.compile_styles(adoption.folder, adoption.program):
             adoption.left_lines.append(line)
         return
     said = sass.compile_all(adoption.folder, adoption.program, styles)
     adoption.left_lines += said
-    made = [style for style in styles if sass.is_ours(adoption.folder / style.css, style.source)]
+    made = [style for style in styles if sass.is_ours(adoption.folder, style)]
     for style in made:
         adoption.done(style.source, f"sassc made {style.css} of it, and it is in exclude now; `site serve` and `site watch` make it anew")
     if made:

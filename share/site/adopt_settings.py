@@ -13,6 +13,7 @@ from adoption import Adoption
 from configuration import Settings, by_lines, is_in_braces
 from kept_back import Jekyll, Program, Replaced, Rules, is_glob, lists_of_paths, names, shortened
 from kept_back import pattern as fnmatch
+from outcome import Question
 from publication import is_published_as_written
 from scopes import mend as mend_scopes
 from scopes import published_by_defaults
@@ -219,6 +220,15 @@ def lacks_pagination(config: dict, folder: Path) -> bool:
 def collections_of(config: dict) -> list[str]:
     given = config.get("collections")
     return [str(one) for one in given] if isinstance(given, (dict, list)) else []
+
+
+def question_of(config: dict) -> Question:
+    """The settings of which the program is asked what comes out by them."""
+    defaults = config.get("defaults")
+    return Question(
+        rules_of(config).include, texts(config.get("exclude")), collections_of(config), defaults if isinstance(defaults, list) else [],
+        config.get("unpublished") is True,
+    )
 
 
 def rules_of(config: dict) -> Rules:
