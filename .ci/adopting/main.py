@@ -12,6 +12,7 @@ import paths
 import plugins
 import proof
 import random_sites
+import rights
 import rows
 import sheets
 from common import GEMS, Failures, has
@@ -25,7 +26,7 @@ def main() -> int:
     with tempfile.TemporaryDirectory() as name:
         work = Path(name)
         work.chmod(0o755)
-        for part in ("rows", "calls", "paths", "held_back", "sheets", "chance", "hostile", "proof", "plugins"):
+        for part in ("rows", "calls", "paths", "held_back", "rights", "sheets", "chance", "hostile", "proof", "plugins"):
             (work / part).mkdir()
         calls.try_all(work / "calls", failures)
         print("calls of other programs: within their limits, and ended with their caller")
@@ -38,8 +39,10 @@ def main() -> int:
             print(f"{SITES_BY_CHANCE} sites by chance: nothing comes out that Jekyll leaves out")
         else:
             print("not tried: sites by chance, as jekyll is not installed")
-        held_back.try_all(work / "held_back", "sheets", failures)
+        held_back.try_all(work / "held_back", "rights", "sheets", failures)
         print("what Jekyll holds back: it stays back in all spellings, and nothing is made where a rule is wrong")
+        rights.try_all(work / "rights", failures)
+        print("what is copied: with no more rights than there were, through no link of gems, and with an end")
         sheets.try_all(work / "sheets", failures)
         print("Sass: it reads and writes the site's own files alone, and ends")
         hostile.try_all(work / "hostile", failures)

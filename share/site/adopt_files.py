@@ -4,14 +4,14 @@ from __future__ import annotations
 import itertools
 import os
 import re
-import shutil
 from pathlib import Path
 from typing import Optional
 
 import sass
 from adopt_settings import CONFIG, plugins_of, question_of, read_mended, save, texts
-from adoption import Adoption
+from adoption import Adoption, refuse_too_much
 from configuration import Settings, by_lines, is_in_braces, written
+from inside import is_of_site, read_below, write_below
 from outcome import ask
 from publication import is_published_as_written
 from site_files import TEMPLATES, begins_with_mark, front_matter, line_of, read_text, read_values, write_text
@@ -118,11 +118,11 @@ def adopt_theme(adoption: Adoption, config: dict, given: Optional[Path]) -> None
             how = "clone it" if key == "remote_theme" else "apt-get install, or gem install, it"
             adoption.left(place, f"the theme {shown(name)} is not on this machine; {how}, and run this again with --theme FOLDER")
         return
+    folder = folder.resolve()
     added = missing_files(folder, adoption.files())
+    refuse_too_much(folder, added)
     for path in added:
-        target = adoption.folder / path
-        target.parent.mkdir(parents=True, exist_ok=True)
-        shutil.copyfile(folder / path, target, follow_symlinks=False)
+        write_below(adoption.folder, path, read_below(folder, path))
     if added:
         by_folder = ", ".join(f"{sum(path.startswith(top + '/') for path in added)} of {top}" for top in sorted({path.split("/")[0] for path in added}))
         adoption.done(place, f"{len(added)} files of the theme in {folder} are in the site now ({by_folder})")

@@ -183,6 +183,7 @@ def move(adoption: Adoption, settings: Settings, key: str, old: str, new: str) -
             raise Refused(f"{place}: {shown(old)} has to be called {new}, where another {shown(target.name)} is; put them together. Nothing was done")
         target.parent.mkdir(parents=True, exist_ok=True)
         os.replace(source, target)
+        adoption.old_folders[os.path.dirname(f"{new}{path[len(old):]}")] = os.path.dirname(path)
     if (adoption.folder / new).is_dir():
         adoption.done(place, f"{old} is called {new} now; no other name is read ({key})")
     else:
