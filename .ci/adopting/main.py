@@ -1,6 +1,8 @@
 """The checks of `site adopt` and of the lines that `site check` says of a Jekyll site. usage: main.py, with the program in SITEBUILD"""
 from __future__ import annotations
 
+import os
+import shutil
 import sys
 import tempfile
 from pathlib import Path
@@ -8,7 +10,9 @@ from pathlib import Path
 import calls
 import held_back
 import hostile
+import odd_settings
 import paths
+import patterns
 import plugins
 import proof
 import random_sites
@@ -18,15 +22,24 @@ import sheets
 from common import GEMS, Failures, has
 
 SITES_BY_CHANCE = 100
+MEMORY = "/dev/shm"
+ROOM = 1 << 30
+
+
+def in_memory() -> None:
+    """Has all folders made in memory where there is room: thousands of small ones are made and removed."""
+    if os.access(MEMORY, os.W_OK) and shutil.disk_usage(MEMORY).free > ROOM:
+        os.environ["TMPDIR"] = tempfile.tempdir = MEMORY
 
 
 def main() -> int:
     failures = Failures()
     jekyll, minima = has("jekyll") and has("ruby"), any(GEMS.glob("minima-*"))
+    in_memory()
     with tempfile.TemporaryDirectory() as name:
         work = Path(name)
         work.chmod(0o755)
-        for part in ("rows", "calls", "paths", "held_back", "rights", "sheets", "chance", "hostile", "proof", "plugins"):
+        for part in ("rows", "calls", "paths", "patterns", "held_back", "odd_settings", "rights", "sheets", "chance", "hostile", "proof", "plugins"):
             (work / part).mkdir()
         calls.try_all(work / "calls", failures)
         print("calls of other programs: within their limits, and ended with their caller")
@@ -39,8 +52,12 @@ def main() -> int:
             print(f"{SITES_BY_CHANCE} sites by chance: nothing comes out that Jekyll leaves out")
         else:
             print("not tried: sites by chance, as jekyll is not installed")
-        held_back.try_all(work / "held_back", "rights", "sheets", failures)
+        held_back.try_all(work / "patterns", "held_back", "odd_settings", "rights", "sheets", failures)
         print("what Jekyll holds back: it stays back in all spellings, and nothing is made where a rule is wrong")
+        patterns.try_all(work / "patterns", failures)
+        print("patterns: they find what Ruby finds, in time")
+        odd_settings.try_all(work / "odd_settings", failures)
+        print("odd settings: each is adopted, or refused in words")
         rights.try_all(work / "rights", failures)
         print("what is copied: with no more rights than there were, through no link of gems, and with an end")
         sheets.try_all(work / "sheets", failures)

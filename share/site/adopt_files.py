@@ -14,7 +14,7 @@ from configuration import Settings, by_lines, is_in_braces, written
 from inside import is_of_site, read_below, write_below
 from outcome import ask
 from publication import is_published_as_written
-from site_files import TEMPLATES, begins_with_mark, front_matter, line_of, read_text, read_values, write_text
+from site_files import TEMPLATES, begins_with_mark, front_matter, line_of, name_fault, read_text, read_values, write_text
 from tags import Includes, rewrite
 from theme import find_gem, locked_version, missing_files
 from words import shown
@@ -27,6 +27,9 @@ JEKYLLS_OWN = set(
     "verbose defaults liquid kramdown".split()
 )
 REDIRECTS = "redirects"
+# The longest name of a file on most disks, with room for `.html`; and of a page of a redirect, before its number and its ending.
+MOST_NAME = 250
+MOST_STEM = 100
 
 
 def template(name: str) -> str:
@@ -225,11 +228,11 @@ def write_feeds(adoption: Adoption, config: dict) -> None:
     """The feeds of jekyll-feed, as templates."""
     if "jekyll-feed" not in plugins_of(config, adoption.original):
         return
-    given = config.get("feed") if isinstance(config.get("feed"), dict) else {}
+    given = mapping(config.get("feed"))
     collections = given.get("collections")
     if isinstance(collections, list):
         collections = {str(name): {} for name in collections}
-    collections = {name: dict(meta or {}) for name, meta in (collections or {}).items()} if isinstance(collections, dict) else {}
+    collections = {str(name): dict(mapping(meta)) for name, meta in mapping(collections).items()}
     posts = collections.setdefault("posts", {})
     posts["path"] = posts.get("path") or given.get("path")
     posts["categories"] = posts.get("categories") or given.get("categories")
@@ -244,11 +247,20 @@ def write_feeds(adoption: Adoption, config: dict) -> None:
         adoption.left(f"{CONFIG}:{settings.line('feed')}", "feeds by tag are not made; write one as feed.xml with its tag")
 
 
+def mapping(value: object) -> dict:
+    return value if isinstance(value, dict) else {}
+
+
 def write_feed(adoption: Adoption, path: str, keys: list[str]) -> None:
-    if ".." in path.split("/") or not path.endswith(".xml"):
+    if not can_be_written(path) or not path.endswith(".xml"):
         adoption.left(CONFIG, f"the feed {shown(path)} is not made; give it a path that ends with .xml")
         return
     write_page(adoption, path, keys, template("feed.xml"), "is new: what jekyll-feed makes, as a template")
+
+
+def can_be_written(path: str) -> bool:
+    """Whether a file of the site can have this path, which comes from a text of the site."""
+    return not name_fault(path) and is_of_site(path) and all(len(name.encode()) <= MOST_NAME for name in path.split("/"))
 
 
 def write_sitemap(adoption: Adoption, config: dict) -> None:
@@ -291,11 +303,11 @@ def write_redirect(adoption: Adoption, path: str, text: str, address: str, layou
         return True
     line = line_of(text, text.find("redirect_from"))
     ending = os.path.splitext(address)[1]
-    odd = not re.fullmatch(r"[^\s?#\x00-\x1f:\"\\]+", address) or ".." in address.split("/")
+    odd = not re.fullmatch(r"[^\s?#\x00-\x1f:\"\\]+", address) or not can_be_written(re.sub("/+", "/", address).strip("/") or "index.html")
     if odd or ending[1:] in ("markdown", "mkdown", "mkdn", "mkd", "md"):
         adoption.left(f"{path}:{line}", f"no page can be at the old address {shown(address)}; write one by hand")
         return False
-    stem = re.sub(r"[^A-Za-z0-9]+", "-", os.path.splitext(address)[0]).strip("-") or "index"
+    stem = re.sub(r"[^A-Za-z0-9]+", "-", os.path.splitext(address)[0]).strip("-")[:MOST_STEM] or "index"
     # An address keeps an ending of its own when the file has it.
     names = (f"{REDIRECTS}/{stem}{number or ''}{ending or '.html'}" for number in itertools.count())
     place = next(name for name in names if not (adoption.folder / name).exists())

@@ -11,12 +11,12 @@ from zoneinfo import ZoneInfo
 
 from adoption import Adoption
 from configuration import Settings, by_lines, is_in_braces
+from globs import fits
 from kept_back import Jekyll, Program, Replaced, Rules, is_glob, lists_of_paths, names, shortened
-from kept_back import pattern as fnmatch
 from outcome import Question
 from publication import is_published_as_written
+from scopes import Tree, published_by_defaults
 from scopes import mend as mend_scopes
-from scopes import published_by_defaults
 from site_files import OUTPUT, Fault, begins_with_mark, front_matter, list_files, read_text, read_values, write_text
 from words import Refused, shown
 
@@ -311,17 +311,18 @@ def dated_posts(adoption: Adoption, config: dict, files: list[str]) -> list[str]
     heads = {path: match[1] for path, match in ((path, front_matter(read_text(adoption.folder / path))) for path in found) if match}
     values = read_values(adoption.program, {path: f"---\n{head}" for path, head in heads.items()}).of
     now = datetime.datetime.now(datetime.timezone.utc)
+    tree = Tree(files)
     dated = []
     for path in found:
         value = values.get(path)
         own = value if isinstance(value, dict) else {}
         moment = moment_of(path, own)
-        if comes_out(path, own, heads.get(path, ""), config) and (moment <= now or config.get("future") is True):
+        if comes_out(path, own, heads.get(path, ""), config, tree) and (moment <= now or config.get("future") is True):
             dated.append((moment, path))
     return [path for _, path in sorted(dated)]
 
 
-def comes_out(path: str, own: dict, head: str, config: dict) -> bool:
+def comes_out(path: str, own: dict, head: str, config: dict, tree: Tree) -> bool:
     """Whether Jekyll builds an item with these values: by its own key `published`, else by the defaults, which do not reach pages."""
     if config.get("unpublished") is True:
         return True
@@ -329,7 +330,7 @@ def comes_out(path: str, own: dict, head: str, config: dict) -> bool:
         return bool(is_published_as_written(own["published"], head))
     kind = kind_of(path, collections_of(config))
     defaults = config.get("defaults") if isinstance(config.get("defaults"), list) else []
-    return kind is None or published_by_defaults(defaults, path, kind)
+    return kind is None or published_by_defaults(defaults, path, kind, tree)
 
 
 def kind_of(path: str, collections: list[str]) -> Optional[str]:
@@ -347,7 +348,8 @@ def unpublished_items(adoption: Adoption, config: dict, files: list[str]) -> lis
     heads = {path: match[1] for path, match in ((path, front_matter(read_text(adoption.folder / path))) for path in marked) if match}
     values = read_values(adoption.program, {path: f"---\n{head}" for path, head in heads.items()}).of
     own = {path: value if isinstance(value, dict) else {} for path, value in values.items()}
-    return [path for path in own if not comes_out(path, own[path], heads[path], config)]
+    tree = Tree(files)
+    return [path for path in own if not comes_out(path, own[path], heads[path], config, tree)]
 
 
 def unpublished_copies(folder: Path, config: dict, files: list[str]) -> list[str]:
@@ -361,13 +363,13 @@ def held_copies(folder: Path, config: dict, files: list[str]) -> list[str]:
     defaults = config.get("defaults")
     if not isinstance(defaults, list) or not any("published" in str(entry) for entry in defaults):
         return []
-    collections = collections_of(config)
+    collections, tree = collections_of(config), Tree(files)
     found = []
     for path in files:
         label = path.partition("/")[0][1:] if path.startswith("_") else ""
         kind = label if label in collections else None
         address = path[1:] if kind else path
-        if not published_by_defaults(defaults, address, kind) and not begins_with_mark(folder / path):
+        if not published_by_defaults(defaults, address, kind, tree) and not begins_with_mark(folder / path):
             found.append(path)
     return found
 
@@ -416,7 +418,7 @@ def kept_by_front(entries: list[str], output: Path) -> list[tuple[str, list[str]
     found = []
     for entry in entries:
         front = entry.strip("/")
-        paths = [path for path in left if front and (path.startswith(front) or fnmatch(front).fullmatch(path))]
+        paths = [path for path in left if front and (path.startswith(front) or fits(front, path))]
         left = [path for path in left if path not in paths]
         found.append((entry, paths))
     return found

@@ -112,9 +112,7 @@ class Settings:
     def put(self, key: str, lines: list[str]) -> None:
         place = self.place(key)
         if place is None:
-            # A line of three dots ends the text.
-            end = next((at for at, line in enumerate(self.lines) if line.rstrip() == "..."), len(self.lines))
-            self.lines[end:end] = lines
+            self.lines += lines
             return
         start, end = place
         old = [] if self.is_ours(key, start) else [BEFORE, *(f"#   {line}".rstrip() for line in self.lines[start:end])]

@@ -7,9 +7,9 @@ from __future__ import annotations
 import posixpath
 import re
 from dataclasses import dataclass, field
-from functools import lru_cache
 from typing import Callable, Iterable, Optional
 
+from globs import fits, is_glob
 from site_files import ALWAYS_EXCLUDED, NotRead
 
 SPECIAL = re.compile(r"[._#~]")
@@ -22,45 +22,11 @@ SAID_PATHS = 6
 ANY_NAME = "\u2400any"
 
 
-@lru_cache(maxsize=None)
-def pattern(glob: str) -> re.Pattern:
-    """Ruby's File.fnmatch without flags: a star and a question mark stand for slashes too."""
-    parts, at = [], 0
-    while at < len(glob):
-        sign = glob[at]
-        closed = glob.find("]", at + 1)
-        if sign == "\\" and at + 1 < len(glob):
-            at += 1
-            parts.append(re.escape(glob[at]))
-        elif sign == "*":
-            parts.append(".*")
-        elif sign == "?":
-            parts.append(".")
-        elif sign == "[" and closed > at:
-            parts.append(one_of(glob[at + 1 : closed]))
-            at = closed
-        else:
-            # A bracket that is never closed matches nothing.
-            parts.append("(?!)" if sign == "[" else re.escape(sign))
-        at += 1
-    return re.compile("".join(parts), re.S)
-
-
-def one_of(signs: str) -> str:
-    turned = signs[:1] in ("^", "!")
-    inner = re.sub(r"([\\\[\]^&~|])", r"\\\1", signs[1:] if turned else signs)
-    return f"[{'^' if turned else ''}{inner}]" if inner else "(?!)"
-
-
-def is_glob(entry: str) -> bool:
-    return any(sign in entry for sign in "*?[\\")
-
-
 def matches(entry: str, path: str, is_folder: bool) -> bool:
     """Whether an entry of Jekyll's lists names a path."""
     entry = "/" + entry.lstrip("/")
     path = "/" + path
-    return bool(pattern(entry).fullmatch(path)) or path.startswith(entry) or (is_folder and entry == path + "/")
+    return fits(entry, path) or path.startswith(entry) or (is_folder and entry == path + "/")
 
 
 def names(entry: str, path: str) -> bool:
