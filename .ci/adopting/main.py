@@ -21,7 +21,7 @@ import rows
 import sheets
 from common import GEMS, Failures, has
 
-SITES_BY_CHANCE = 100
+SITES_BY_CHANCE = 600
 MEMORY = "/dev/shm"
 ROOM = 1 << 30
 
@@ -48,8 +48,7 @@ def main() -> int:
         count = rows.try_rows(work / "rows", failures, jekyll)
         print(f"{count} sites that are read otherwise: " + ("here and there as listed" if jekyll else "here as listed; not tried by Jekyll, which is not installed"))
         if jekyll:
-            random_sites.try_sites(work / "chance", failures, SITES_BY_CHANCE)
-            print(f"{SITES_BY_CHANCE} sites by chance: nothing comes out that Jekyll leaves out")
+            print(random_sites.try_sites(work / "chance", failures, SITES_BY_CHANCE))
         else:
             print("not tried: sites by chance, as jekyll is not installed")
         held_back.try_all(work / "patterns", "held_back", "odd_settings", "rights", "sheets", failures)
