@@ -11,7 +11,7 @@ from concurrent.futures import ProcessPoolExecutor
 from dataclasses import dataclass
 from pathlib import Path
 
-from common import PROGRAM, Failures, run, write_files
+from common import PROGRAM, Failures, has, run, write_files
 import adopt as adopting
 from words import Refused
 
@@ -29,7 +29,7 @@ SCOPES = ("", "a", "se", "secret", "s*", "*", "**/*.md", "a/*", "*/*", "_posts",
 TYPES = ("posts", "pages", "drafts", "col", "hid", "post", "page", "none")
 SPELLINGS = ("true", "false", "yes", "no", "oFF", "fALSE", "nULL", "", "~", "on", '"false"', "maybe", "0", "[no]")
 COLLECTIONS = {"col": {"output": True}, "hid": {"output": False}}
-ENDINGS = (".md", ".html")
+COUNT = 600
 
 
 @dataclass(frozen=True)
@@ -103,6 +103,13 @@ def make_of(folder: Path) -> Made:
 def source_of(output: Path) -> str:
     """The path that an output's text tells."""
     return output.read_text(encoding="utf-8").partition("SOURCE:")[2].partition(":END")[0]
+
+
+def try_all(work: Path, failures: Failures) -> None:
+    if has("jekyll") and has("ruby"):
+        print(try_sites(work, failures, COUNT))
+    else:
+        print("not tried: sites by chance, as jekyll is not installed")
 
 
 def try_sites(work: Path, failures: Failures, count: int) -> str:
