@@ -157,5 +157,6 @@ def odd_sheets(work: Path, failures: Failures) -> None:
     os.mkfifo(copy / "a.css")
     failures.expect("a pipe and a folder in the place of CSS", sass.compile_styles(copy, PROGRAM), [])
     site = work / "a:b"
-    write_files(site, {"a.scss": "---\n---\n@import 'own';\n", "_sass/_own.scss": "i { top: 1px; }\n"})
-    expect_said("a folder with a colon", adopt(site), failures, 0, "sassc made a.css")
+    write_files(site, {"_config.yml": "sass: {sass_dir: 'c:d/_sass'}\n", "a.scss": "---\n---\n@import 'own';\n", "c:d/_sass/_own.scss": "i { top: 1px; }\n",
+                       "b.scss": "---\n---\n@import 'wrong';\n", "c:d/_sass/_wrong.scss": "i { top: $no; }\n"})
+    expect_said("folders with a colon", adopt(site), failures, 0, "sassc made a.css", "c:d/_sass/_wrong.scss:1: sassc refuses it: Undefined variable")

@@ -27,6 +27,8 @@ IMPORTED = (".scss", ".sass", ".css")
 # The folders for a run of sassc: the copy of the site's files, and one in which it runs, since it looks for imports there first.
 COPY = "site"
 EMPTY = "empty"
+# What a colon is in the copy: sassc takes it for the end of a folder for imports.
+COLON = "\ua789"
 # Where sassc says in its output which files it has read.
 MAP = re.compile(rb"\n/\*# sourceMappingURL=data:application/json;base64,([A-Za-z0-9+/=]*) \*/\s*\Z")
 ENDINGS = (".scss", ".sass")
@@ -150,13 +152,18 @@ def compile_all(folder: Path, program: str, styles: list[Style]) -> list[str]:
     return said
 
 
+def copied(path: str) -> str:
+    """The path in the copy of a file or folder of the site."""
+    return f"{COPY}/{path.replace(':', COLON)}"
+
+
 def copy_sources(folder: Path, room: Path) -> None:
     """Copies what an import may name. No link is copied or followed, so a path in the copy leads to no other file."""
     (room / EMPTY).mkdir()
     for path in list_files(folder).files:
         if path.endswith(IMPORTED):
             try:
-                write_below(room, f"{COPY}/{path}", read_below(folder, path))
+                write_below(room, copied(path), read_below(folder, path))
             except FileNotFoundError:
                 # It has gone meanwhile.
                 continue
@@ -208,7 +215,7 @@ def compile_one(folder: Path, style: Style, sheets: Sheets, sources: Path, sheet
     if style.source.endswith(".sass"):
         words.append("--sass")
     for path in sheets.load_paths():
-        words += ["--load-path", f"../{COPY}/{path}"]
+        words += ["--load-path", f"../{copied(path)}"]
     done = call(words, sources / EMPTY, sheet, SECONDS)
     if done.status:
         return [refusal(done.stderr.decode(errors="replace"), style, folder)]
@@ -253,7 +260,7 @@ def refusal(said: str, style: Style, folder: Path) -> str:
         return f"{style.source}: sassc refuses it: {why}; the CSS stays as it is"
     if place[2] == "stdin":
         return f"{style.source}:{int(place[1]) + style.body_line - 1}: sassc refuses it: {why}; the CSS stays as it is"
-    inside = [path for path in list_files(folder).files if f"/{place[2]}".endswith("/" + path)]
+    inside = [path for path in list_files(folder).files if f"/{place[2]}".endswith(copied(path)[len(COPY) :])]
     if not inside:
         return f"{style.source}: sassc refuses {place[2]}, which is no file of the site; the CSS stays as it is"
     return f"{max(inside, key=len)}:{place[1]}: sassc refuses it: {why}; the CSS stays as it is"
