@@ -1,6 +1,8 @@
 """What Jekyll holds back stays back: by `published` in all its spellings, by defaults, lists and limits together, and when a rule of ours is wrong."""
 from __future__ import annotations
 
+import contextlib
+import io
 import os
 from pathlib import Path
 from unittest import mock
@@ -26,7 +28,7 @@ asked: dict[Path, set[str]] = {}
 
 
 def try_all(work: Path, failures: Failures) -> None:
-    for part in (spellings, defaults, lists_and_defaults, limit, wrong_rule):
+    for part in (spellings, defaults, lists_and_defaults, limit, faulty_settings, wrong_rule):
         folder = work / part.__name__
         folder.mkdir()
         part(folder, failures)
@@ -111,6 +113,30 @@ def lists_and_defaults(work: Path, failures: Failures) -> None:
     expect_said("a part of an included folder", done, failures, 0, 'include "_pages"')
     failures.expect(f"a part of an included folder: {done.stdout}", outputs(work / "s-adopted"), wanted)
     expect_unchanged(work / "s-adopted", failures)
+
+
+def faulty_settings(work: Path, failures: Failures) -> None:
+    """What comes out is asked for also when the program refuses other settings, or the values of defaults."""
+    for number, (text, status) in enumerate((
+        ("future: maybe\nexclude: ['*.key']\n", 0), ("permalink: {a: 1}\nexclude: ['*.key']\n", 0), ("timezone: Mars/Port\nexclude: ['*.key']\n", 0),
+        ("exclude: ['*.key']\ndefaults:\n- scope: {path: ''}\n  values: {permalink: [a]}\n", 0),
+    )):
+        site = work / f"s{number}"
+        write_files(site, {"_config.yml": text, "a.key": "k", "index.html": ITEM})
+        done = adopt(site)
+        expect_said(f"{text!r}", done, failures, status, "a.key")
+        wrong = Lists([".htaccess"], [], [], [], [])
+        with mock.patch.object(adopt_settings, "lists_of_paths", lambda *given: wrong):
+            failures.expect(f"{text!r}, by a wrong rule", is_refused(work / f"s{number}", "--write"), True)
+
+
+def is_refused(site: Path, *words: str) -> bool:
+    with contextlib.redirect_stdout(io.StringIO()):
+        try:
+            adopting.main([os.fspath(site), *words], PROGRAM)
+        except Refused as refused:
+            return "it would come out, and Jekyll leaves it out" in str(refused)
+    return False
 
 
 def limit(work: Path, failures: Failures) -> None:

@@ -29,12 +29,12 @@ def rights(work: Path, failures: Failures) -> None:
     """A file that runs as its owner, folders that are closed to others, and one with a name of its own."""
     site = work / "s"
     write_files(site, {"_config.yml": SETTINGS + "layouts_dir: lay\n", "run.cgi": "x", "closed/a.txt": "a", "open/b.txt": "b", "lay/l.html": "{{ content }}", "lay/in/m.html": "m"})
-    for path, bits in (("run.cgi", 0o6755), ("closed", 0o700), ("closed/a.txt", 0o600), ("open", 0o2775), ("lay", 0o750), ("lay/in", 0o700), ("_config.yml", 0o640), ("", 0o711)):
+    for path, bits in (("run.cgi", 0o6755), ("closed", 0o700), ("closed/a.txt", 0o600), ("open", 0o2775), ("lay", 0o750), ("lay/in", 0o700), ("_config.yml", 0o640), ("", 0o511)):
         (site / path).chmod(bits)
     done = adopt(site)
     failures.expect(f"site adopt: {done.stderr}", done.returncode, 0)
     copy = work / "s-adopted"
-    for path, bits in (("run.cgi", 0o755), ("closed", 0o700), ("closed/a.txt", 0o600), ("open", 0o775), ("_layouts", 0o750), ("_layouts/in", 0o700), ("_config.yml", 0o640), ("", 0o711)):
+    for path, bits in (("run.cgi", 0o755), ("closed", 0o700), ("closed/a.txt", 0o600), ("open", 0o775), ("_layouts", 0o750), ("_layouts/in", 0o700), ("_config.yml", 0o640), ("", 0o511)):
         failures.expect(f"the rights of {path or 'the copy'}", oct(mode(copy / path)), oct(bits))
 
 

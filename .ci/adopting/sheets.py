@@ -124,6 +124,8 @@ def told_to_end(work: Path, failures: Failures) -> None:
         left = sorted(os.listdir(work))
         # Nobody can remove anything after SIGKILL.
         failures.expect(f"what stays after {number.name}", [name for name in left if number != signal.SIGKILL and name != "s"], [])
+    write_files(work / "s", {"a.scss": SHEET})
+    expect_said("after SIGKILL", adopt(work / "s"), failures, 0, ".s-adopted.", "a run that was killed has left it", "the site, adopted")
 
 
 def sassc_below(number: int) -> list[int]:

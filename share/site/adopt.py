@@ -155,17 +155,15 @@ def close_folders(adoption: Adoption) -> None:
     for inner, _, _ in os.walk(adoption.folder):
         path = os.path.relpath(inner, adoption.folder)
         old = adoption.original / adoption.old_folders.get(path, path)
-        if old.is_dir() and not old.is_symlink():
-            os.chmod(inner, old.stat().st_mode & RIGHTS)
-        else:
-            os.chmod(inner, os.stat(os.path.dirname(inner)).st_mode & RIGHTS)
+        like = old if old.is_dir() and not old.is_symlink() else Path(inner).parent
+        owners = stat.S_IRWXU if path == "." else 0
+        os.chmod(inner, like.stat().st_mode & RIGHTS | owners)
 
 
 def finish(adoption: Adoption, beside: Optional[Path]) -> int:
     """Puts the copy in its place, or what differs into the folder, and says what there is to say."""
     folder = adoption.original
     changed = not_the_same(adoption.folder, folder)
-    close_folders(adoption)
     for line in adoption.done_lines:
         print(f"done: {shown(line)}")
     for line in adoption.left_lines:
@@ -177,7 +175,10 @@ def finish(adoption: Adoption, beside: Optional[Path]) -> int:
         write_into(adoption, changed)
         print(f"{shown(str(folder))}: adopted in place ({counts})")
     elif not os.path.lexists(beside):
+        close_folders(adoption)
         os.rename(adoption.folder, beside)
+        # A folder that nobody may write into could not have been moved.
+        os.chmod(beside, folder.stat().st_mode & RIGHTS)
         print(f"{shown(str(beside))}: the site, adopted ({counts})")
     elif not not_the_same(adoption.folder, beside):
         print(f"{shown(str(beside))}: is there already, and nothing has changed since ({counts})")

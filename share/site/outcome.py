@@ -3,7 +3,7 @@ from __future__ import annotations
 
 import re
 import threading
-from dataclasses import dataclass, field
+from dataclasses import dataclass, field, replace
 from pathlib import Path
 from typing import Optional
 
@@ -70,19 +70,23 @@ def ask(program: str, question: Question, heads: dict[str, Optional[str]]) -> Ou
 
 def answer(session: Session, room: Path, question: Question, heads: dict[str, Optional[str]]) -> Outcome:
     outcome = Outcome()
-    paths = list(heads)
+    paths = [path for path in heads if path != CONFIG]
     numbers = {path: number for number, path in enumerate(paths)}
     session.scan()
     session.put(CONFIG, question.text().encode())
     for path in paths:
-        if path != CONFIG:
-            session.put(path, text_of(path, numbers[path], heads[path]).encode("utf-8", "surrogateescape"))
+        session.put(path, text_of(path, numbers[path], heads[path]).encode("utf-8", "surrogateescape"))
     while True:
         built = session.build(0)
         if not isinstance(built, Failed):
             break
         match = REPLY.fullmatch(built.reply)
         path = match[1] if match else ""
+        if path == CONFIG and question.defaults:
+            # Without them more comes out, so nothing is missed.
+            question = replace(question, defaults=[])
+            session.put(CONFIG, question.text().encode())
+            continue
         if path not in numbers or path in outcome.unread:
             raise NotRead(f"what comes out is not known, since a scratch site was not built: {built.reply}")
         outcome.unread.add(path)
