@@ -14,10 +14,20 @@ def is_glob(entry: str) -> bool:
     return any(sign in entry for sign in "*?[\\")
 
 
+@lru_cache(maxsize=None)
+def ends_of(pattern: str) -> tuple[str, str, bool]:
+    """The texts with which all begins and ends that fits a pattern, and whether it fits itself alone. Most paths are told apart by these."""
+    signs = [at for at, sign in enumerate(pattern) if sign in "*?[]\\"]
+    return (pattern[: signs[0]], pattern[signs[-1] + 1 :], False) if is_glob(pattern) else (pattern, pattern, True)
+
+
 def fits(pattern: str, text: str) -> bool:
     """Ruby's File.fnmatch without flags: a star and a question mark stand for slashes too, and a point in front has to be written."""
-    if not is_glob(pattern):
+    front, back, is_plain = ends_of(pattern)
+    if is_plain:
         return pattern == text
+    if not text.startswith(front) or not text.endswith(back):
+        return False
     if (len(pattern) - len(pattern.rstrip("\\"))) % 2:
         # A backslash at the end stands for nothing.
         pattern = pattern[:-1]
