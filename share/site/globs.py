@@ -58,7 +58,7 @@ def fits(pattern: str, text: str) -> bool:
 
 
 def after_one(pattern: str, at: int, sign: str) -> Optional[int]:
-    """The place in a pattern behind what stands for this sign; nothing when something else stands there."""
+    """The place in a pattern after what stands for this sign; nothing when something else stands there."""
     if at == len(pattern):
         return None
     if pattern[at] == "?":
@@ -71,7 +71,7 @@ def after_one(pattern: str, at: int, sign: str) -> Optional[int]:
 
 
 def after_bracket(pattern: str, at: int, sign: str) -> Optional[int]:
-    """The place behind a bracket in which this sign is; nothing when it is not, or the bracket is never closed."""
+    """The place after a bracket in which this sign is; nothing when it is not, or the bracket is never closed."""
     turned = pattern[at : at + 1] in ("!", "^")
     at += turned
     found = False
@@ -88,7 +88,7 @@ def after_bracket(pattern: str, at: int, sign: str) -> Optional[int]:
 
 
 def sign_at(pattern: str, at: int) -> tuple[str, int]:
-    """The sign at a place, and the place behind it. A backslash takes the next one as it is."""
+    """The sign at a place, and the place after it. A backslash takes the next one as it is."""
     at += pattern[at] == "\\" and at + 1 < len(pattern)
     return pattern[at], at + 1
 
@@ -141,7 +141,7 @@ def is_found(pattern: str, steps: list[str], is_folder: bool) -> bool:
     if pattern.endswith("/") and not is_folder:
         return False
     parts = [part for part in pattern.split("/") if part]
-    # How many steps may be behind what was matched so far.
+    # How many steps the parts so far may stand for.
     counts = {0}
     for number, part in enumerate(parts):
         if part == "**" and (number + 1 < len(parts) or pattern.endswith("/")):
