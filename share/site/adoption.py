@@ -1,6 +1,7 @@
 """A site that is made ready, and what there is to say of it."""
 from __future__ import annotations
 
+import os
 from dataclasses import dataclass, field
 from pathlib import Path
 
@@ -42,5 +43,5 @@ def refuse_too_much(folder: Path, files: list[str]) -> None:
     """What the program would refuse is not copied. A file to which several links lead counts for each."""
     if len(files) > MOST_FILES:
         raise Refused(f"{shown(str(folder))}: has more than {MOST_FILES:,} files, so it is no site; name the folder of the site")
-    if sum((folder / path).stat(follow_symlinks=False).st_size for path in files) > MOST_BYTES:
+    if sum(os.lstat(folder / path).st_size for path in files) > MOST_BYTES:
         raise Refused(f"{shown(str(folder))}: all files together are longer than 512 MiB; take long files out of the site first")
