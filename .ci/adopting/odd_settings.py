@@ -124,7 +124,7 @@ def values(work: Path, failures: Failures) -> None:
     for site in sites:
         write_files(site, {**SITE, "_config.yml": settings_by_chance(chance)})
     with ProcessPoolExecutor(WORKERS) as pool:
-        for site, wrong in zip(sites, pool.map(what_goes_wrong, sites, timeout=300)):
+        for site, wrong in zip(sites, pool.map(what_goes_wrong, sites, timeout=600)):
             failures.expect(f"{(site / '_config.yml').read_text(encoding='utf-8')} ends with", wrong, "")
 
 
