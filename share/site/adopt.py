@@ -41,7 +41,7 @@ def main(arguments: list[str], program: str) -> int:
     tell_left_over(folder)
     with until_stopped():
         return make(folder, beside, given.write, given.theme, program)
-    raise Refused("it was told to end before it was done; nothing was made", 1)
+    raise Refused("it was told to end before it was done; run it again")
 
 
 def make(folder: Path, beside: Path, in_place: bool, theme: Optional[Path], program: str) -> int:
