@@ -58,6 +58,13 @@ def adopt(folder: Path, *words: object, **environment: str) -> subprocess.Comple
     return run([sys.executable, "-B", "-X", "utf8", PARTS / "main.py", PROGRAM, "adopt", *words, "--", folder], folder.parent, **environment)
 
 
+def expect_said(what: str, done: subprocess.CompletedProcess, failures: Failures, status: int, *parts: str) -> None:
+    """The status, and what standard output and standard error have to hold."""
+    failures.expect(f"{what}: {done.stdout}{done.stderr}: status", done.returncode, status)
+    for part in parts:
+        failures.expect(f"{what}: says {part!r}: {done.stdout}{done.stderr}", part in done.stdout + done.stderr, True)
+
+
 def has(command: str) -> bool:
     return shutil.which(command) is not None
 

@@ -1,6 +1,7 @@
 """Bad sites and bad moments for `site adopt`: nothing of the user's is lost, and each is told in words."""
 from __future__ import annotations
 
+import itertools
 import os
 import resource
 import shutil
@@ -11,7 +12,7 @@ import sys
 import time
 from pathlib import Path
 
-from common import PARTS, PROGRAM, Failures, adopt, has, read_files, run, write_files
+from common import PARTS, PROGRAM, Failures, adopt, expect_said, has, read_files, run, write_files
 import sass
 from adopt import write_into
 from adoption import Adoption
@@ -30,13 +31,6 @@ def try_all(work: Path, failures: Failures) -> None:
         folder = work / part.__name__
         folder.mkdir()
         part(folder, failures)
-
-
-def expect_said(what: str, done: subprocess.CompletedProcess, failures: Failures, status: int, *parts: str) -> None:
-    """The status, and what standard output and standard error have to hold."""
-    failures.expect(f"{what}: {done.stdout}{done.stderr}: status", done.returncode, status)
-    for part in parts:
-        failures.expect(f"{what}: says {part!r}: {done.stdout}{done.stderr}", part in done.stdout + done.stderr, True)
 
 
 def nothing_to_do(work: Path, failures: Failures) -> None:
@@ -154,14 +148,18 @@ def cut_short(work: Path, failures: Failures) -> None:
     write_files(work / "whole", files)
     expect_said("in place", adopt(work / "whole", "--write", "--theme", theme), failures, 0, "adopted in place")
     whole = read_files(work / "whole")
-    for writes in range(len(whole)):
+    for writes in itertools.count():
         site = work / f"after{writes}"
         write_files(site, files)
-        patch = f"import sys; sys.path.insert(0, {str(PARTS)!r}); import adopt\nold, left = adopt.write_bytes, [{writes}]\n" + (
-            "def write(path, data):\n    left[0] -= 1\n    if left[0] < 0: raise OSError(28, 'No space left on device', str(path))\n    old(path, data)\n"
-            f"adopt.write_bytes = write\nadopt.main([{str(site)!r}, '--write', '--theme', {str(theme)!r}], {PROGRAM!r})"
+        patch = f"import sys; sys.path.insert(0, {str(PARTS)!r}); import adopt\nold, left = adopt.write_below, [{writes}]\n" + (
+            "def write(top, path, data):\n    left[0] -= 1\n    if left[0] < 0: raise OSError(28, 'No space left on device', path)\n    old(top, path, data)\n"
+            f"adopt.write_below = write\nadopt.main([{str(site)!r}, '--write', '--theme', {str(theme)!r}], {PROGRAM!r})"
         )
-        run([sys.executable, "-B", "-c", patch], work)
+        done = run([sys.executable, "-B", "-c", patch], work)
+        failures.expect(f"a run that has room for {writes} writes: {done.stderr}", done.returncode == 0 or "No space left" in done.stderr, True)
+        if done.returncode == 0:
+            failures.expect("the number of writes", writes > 5, True)
+            break
         adopt(site, "--write", "--theme", theme)
         failures.expect(f"a run that is cut short after {writes} writes", read_files(site), whole)
 

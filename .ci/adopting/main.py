@@ -1,58 +1,80 @@
-"""The checks of `site adopt` and of the lines that `site check` says of a Jekyll site. usage: main.py, with the program in SITEBUILD"""
+"""The checks of `site adopt` and of the lines that `site check` says of a Jekyll site. usage: main.py [PART ..], with the program in SITEBUILD"""
 from __future__ import annotations
 
+import contextlib
+import importlib
+import io
+import os
+import shutil
 import sys
 import tempfile
+import time
+import traceback
+from concurrent.futures import ProcessPoolExecutor
 from pathlib import Path
 
-import calls
-import hostile
-import paths
-import plugins
-import proof
-import random_sites
-import rows
-from common import GEMS, Failures, has
+from common import Failures
 
-SITES_BY_CHANCE = 100
+# By the module of a part, what it has found when nothing is wrong. The first ones take longest.
+SIDE_BY_SIDE = {
+    "hostile": "bad sites and bad moments: each told in words, and nothing lost",
+    "sheets": "Sass: it reads and writes the site's own files alone, and ends",
+    "rights": "what is copied: with no more rights than there were, through no link of gems, and with an end",
+    "rows": "",
+    "held_back": "what Jekyll holds back: it stays back in all spellings, and nothing is made where a rule is wrong",
+    "patterns": "patterns: they find what Ruby finds, in time",
+    "plugins": "",
+    "proof": "",
+    "calls": "calls of other programs: within their limits, and ended with their caller",
+    "paths": "paths that lead out of a folder: nothing is read or written there",
+}
+# These have processes of their own, one for each processor.
+ALONE = {"random_sites": "", "odd_settings": "odd settings: each is adopted, or refused in words"}
+MEMORY = "/dev/shm"
+ROOM = 1 << 30
 
 
-def main() -> int:
+def in_memory() -> None:
+    """Has all folders made in memory where there is room: thousands of small ones are made and removed."""
+    if os.access(MEMORY, os.W_OK) and shutil.disk_usage(MEMORY).free > ROOM:
+        os.environ["TMPDIR"] = tempfile.tempdir = MEMORY
+
+
+def try_part(name: str, sentence: str, work: Path) -> tuple[str, list[str]]:
+    """Tries a part in a folder of its own; what it says, and what it found wrong."""
     failures = Failures()
-    jekyll, minima = has("jekyll") and has("ruby"), any(GEMS.glob("minima-*"))
-    with tempfile.TemporaryDirectory() as name:
-        work = Path(name)
+    begun = time.monotonic()
+    with contextlib.redirect_stdout(io.StringIO()) as said:
+        try:
+            (work / name).mkdir()
+            importlib.import_module(name).try_all(work / name, failures)
+        except Exception:
+            failures.add(f"{name} ended: {traceback.format_exc()}")
+        if sentence and not failures.found:
+            print(sentence)
+    return f"{said.getvalue()}{name}: {time.monotonic() - begun:.0f} s\n", failures.found
+
+
+def main(chosen: list[str]) -> int:
+    in_memory()
+    wrong: list[str] = []
+    with tempfile.TemporaryDirectory() as folder:
+        work = Path(folder)
         work.chmod(0o755)
-        for part in ("rows", "calls", "paths", "chance", "hostile", "proof", "plugins"):
-            (work / part).mkdir()
-        calls.try_all(work / "calls", failures)
-        print("calls of other programs: within their limits, and ended with their caller")
-        paths.try_all(work / "paths", failures)
-        print("paths that lead out of a folder: nothing is read or written there")
-        count = rows.try_rows(work / "rows", failures, jekyll)
-        print(f"{count} sites that are read otherwise: " + ("here and there as listed" if jekyll else "here as listed; not tried by Jekyll, which is not installed"))
-        if jekyll:
-            random_sites.try_sites(work / "chance", failures, SITES_BY_CHANCE)
-            print(f"{SITES_BY_CHANCE} sites by chance: nothing comes out that Jekyll leaves out")
-        else:
-            print("not tried: sites by chance, as jekyll is not installed")
-        hostile.try_all(work / "hostile", failures)
-        print("bad sites and bad moments: each told in words, and nothing lost")
-        missing = [package for package, there in (("jekyll", jekyll), ("jekyll-theme-minima", minima), ("sassc", has("sassc"))) if not there]
-        if missing:
-            print(f"not tried: the site of jekyll new; it needs {', '.join(missing)}")
-        else:
-            seconds = proof.try_proof(work / "proof", failures)
-            print(f"the site of jekyll new, adopted and built in {seconds:.1f} s: the texts and links of Jekyll's own build")
-        if missing or not plugins.are_installed():
-            print(f"not tried: a site with plugins; it needs {', '.join('ruby-' + name for name in plugins.PLUGINS)} too")
-        else:
-            plugins.try_plugins(work / "plugins", failures)
-            print("a site with four plugins, adopted and built: the texts and links of Jekyll's own build")
-    if failures.found:
-        print(f"{len(failures.found)} wrong")
-    return 1 if failures.found else 0
+        for part, sentence in ALONE.items():
+            if not chosen or part in chosen:
+                said, found = try_part(part, sentence, work)
+                print(said, end="", flush=True)
+                wrong += found
+        parts = {part: sentence for part, sentence in SIDE_BY_SIDE.items() if not chosen or part in chosen}
+        with ProcessPoolExecutor(min(4, os.cpu_count() or 1)) as pool:
+            for said, found in pool.map(try_part, parts, parts.values(), [work] * len(parts)):
+                print(said, end="", flush=True)
+                wrong += found
+    if wrong:
+        print(f"{len(wrong)} wrong")
+    return 1 if wrong else 0
 
 
 if __name__ == "__main__":
-    sys.exit(main())
+    sys.exit(main(sys.argv[1:]))

@@ -63,6 +63,14 @@ def are_installed() -> bool:
     return subprocess.run(words, capture_output=True).returncode == 0
 
 
+def try_all(work: Path, failures: Failures) -> None:
+    if proof.missing_packages() or not are_installed():
+        print(f"not tried: a site with plugins; it needs {', '.join(['jekyll', 'jekyll-theme-minima', 'sassc', *(f'ruby-{name}' for name in PLUGINS)])}")
+    else:
+        try_plugins(work, failures)
+        print("a site with four plugins, adopted and built: the texts and links of Jekyll's own build")
+
+
 def try_plugins(work: Path, failures: Failures) -> None:
     site, adopted = work / "site", work / "site-adopted"
     write_files(site, SITE)

@@ -8,7 +8,7 @@ from pathlib import Path
 from typing import Optional
 from xml.etree import ElementTree
 
-from common import PROGRAM, Failures, adopt, read_files, run
+from common import GEMS, PROGRAM, Failures, adopt, has, read_files, run
 
 # Files that Jekyll makes and the adopted site has not: maps from CSS to Sass.
 NOT_MADE = {"assets/main.css.map"}
@@ -37,6 +37,21 @@ class Page(HTMLParser):
 
     def handle_data(self, data: str) -> None:
         self.text += data
+
+
+def missing_packages() -> list[str]:
+    """Debian's packages that this needs, and that are not here."""
+    there = {"jekyll": has("jekyll") and has("ruby"), "jekyll-theme-minima": any(GEMS.glob("minima-*")), "sassc": has("sassc")}
+    return [package for package, is_there in there.items() if not is_there]
+
+
+def try_all(work: Path, failures: Failures) -> None:
+    missing = missing_packages()
+    if missing:
+        print(f"not tried: the site of jekyll new; it needs {', '.join(missing)}")
+    else:
+        seconds = try_proof(work, failures)
+        print(f"the site of jekyll new, adopted and built in {seconds:.1f} s: the texts and links of Jekyll's own build")
 
 
 def try_proof(work: Path, failures: Failures) -> float:

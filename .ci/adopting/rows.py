@@ -8,7 +8,7 @@ from dataclasses import dataclass, field
 from pathlib import Path
 from typing import Optional
 
-from common import GEMS, PROGRAM, Failures, build_by_jekyll, run, write_files
+from common import GEMS, PROGRAM, Failures, build_by_jekyll, has, run, write_files
 import adopt
 import notes
 
@@ -92,6 +92,12 @@ def part_adder(row: Row, part: re.Match):
         texts[part[2]] = None
         return None
     return adder(texts, part[2])
+
+
+def try_all(work: Path, failures: Failures) -> None:
+    jekyll = has("jekyll") and has("ruby")
+    count = try_rows(work, failures, jekyll)
+    print(f"{count} sites that are read otherwise: " + ("here and there as listed" if jekyll else "here as listed; not tried by Jekyll, which is not installed"))
 
 
 def try_rows(work: Path, failures: Failures, jekyll: bool) -> int:

@@ -4,16 +4,17 @@ from __future__ import annotations
 import itertools
 import os
 import re
-import shutil
 from pathlib import Path
 from typing import Optional
 
 import sass
-from adopt_settings import CONFIG, collections_of, plugins_of, read_mended, texts
-from adoption import Adoption
-from kept_back import Program
-from configuration import Settings, written
-from site_files import TEMPLATES, begins_with_mark, front_matter, line_of, read_text, read_values, write_text
+from adopt_settings import CONFIG, plugins_of, question_of, read_mended, save, texts
+from adoption import Adoption, refuse_too_much
+from configuration import Settings, by_lines, is_in_braces, written
+from inside import is_of_site, read_below, write_below
+from outcome import ask
+from publication import is_published_as_written
+from site_files import TEMPLATES, begins_with_mark, front_matter, line_of, name_fault, read_text, read_values, write_text
 from tags import Includes, rewrite
 from theme import find_gem, locked_version, missing_files
 from words import shown
@@ -26,6 +27,9 @@ JEKYLLS_OWN = set(
     "verbose defaults liquid kramdown".split()
 )
 REDIRECTS = "redirects"
+# The longest name of a file on most disks, with room for `.html`; and of a page of a redirect, before its number and its ending.
+MOST_NAME = 250
+MOST_STEM = 100
 
 
 def template(name: str) -> str:
@@ -37,11 +41,8 @@ def read_configuration(adoption: Adoption) -> tuple[Settings, dict]:
     path = adoption.folder / CONFIG
     text = read_text(path) if path.is_file() else ""
     config = read_values(adoption.program, {CONFIG: text}).of.get(CONFIG)
-    return Settings(text), config if isinstance(config, dict) else {}
-
-
-def save(adoption: Adoption, settings: Settings) -> None:
-    write_text(adoption.folder / CONFIG, settings.text())
+    config = config if isinstance(config, dict) else {}
+    return Settings(by_lines(text, config) if is_in_braces(text) else text), config
 
 
 # ---- front matter
@@ -83,17 +84,24 @@ def mend_front_matter(adoption: Adoption) -> None:
 
 
 def mend_published(adoption: Adoption, path: str, text: str, value: object) -> None:
-    """Jekyll leaves out what has `published` without a value, and builds what has any other."""
+    """Writes `published` as a truth value: as Jekyll reads it, and false when it is no clear word."""
     match = front_matter(text)
-    line = re.compile(r"^(published[ \t]*:).*?(\r?)$", re.M)
-    found = line.search(match[1])
-    if not found:
+    settings = Settings(match[1])
+    place = settings.place("published")
+    if place is None:
+        # In braces it has no line of its own. The program refuses it, so nothing comes out until it is mended by hand.
         return
-    new = "false" if value is None else "true"
-    changed = line.sub(rf"\1 {new}\2", match[1])
-    write_text(adoption.folder / path, text[: match.start(1)] + changed + text[match.end(1) :])
-    why = "without a value Jekyll leaves it out" if value is None else "Jekyll builds it"
-    adoption.done(f"{path}:{line_of(text, match.start(1) + found.start())}", f"published is {new} now: {why}")
+    clear = is_published_as_written(value, match[1])
+    new = written(bool(clear))
+    settings.lines[place[0] : place[1]] = [f"{settings.indent}published: {new}"]
+    write_text(adoption.folder / path, text[: match.start(1)] + settings.text() + text[match.end(1) :])
+    line = f"{path}:{line_of(text, match.start(1)) + place[0]}"
+    if clear is None:
+        adoption.left(line, "published was no clear word, so it is false now; write true or false")
+    elif value is None:
+        adoption.done(line, "published is false now: without a value Jekyll leaves it out")
+    else:
+        adoption.done(line, f"published is {new} now: " + ("Jekyll builds it" if clear else "Jekyll leaves it out"))
 
 
 # ---- the theme
@@ -113,19 +121,21 @@ def adopt_theme(adoption: Adoption, config: dict, given: Optional[Path]) -> None
             how = "clone it" if key == "remote_theme" else "apt-get install, or gem install, it"
             adoption.left(place, f"the theme {shown(name)} is not on this machine; {how}, and run this again with --theme FOLDER")
         return
+    folder = folder.resolve()
     added = missing_files(folder, adoption.files())
+    refuse_too_much(folder, added)
     for path in added:
-        target = adoption.folder / path
-        target.parent.mkdir(parents=True, exist_ok=True)
-        shutil.copyfile(folder / path, target, follow_symlinks=False)
+        write_below(adoption.folder, path, read_below(folder, path))
     if added:
         by_folder = ", ".join(f"{sum(path.startswith(top + '/') for path in added)} of {top}" for top in sorted({path.split("/")[0] for path in added}))
         adoption.done(place, f"{len(added)} files of the theme in {folder} are in the site now ({by_folder})")
+    before = list(settings.lines)
     adopt_theme_keys(adoption, settings, config, folder, place)
     if key:
         settings.comment_out(key, "its files are in the site now")
         config.pop(key)
-        save(adoption, settings)
+    if settings.lines != before:
+        save(adoption, settings, config)
 
 
 def adopt_theme_keys(adoption: Adoption, settings: Settings, config: dict, folder: Path, place: str) -> None:
@@ -199,7 +209,7 @@ def set_environment(adoption: Adoption) -> None:
             adoption.left(f"{CONFIG}:{settings.line('environment')}", "templates compare it with production now; give it a text")
         return
     settings.set("environment", "production")
-    save(adoption, settings)
+    save(adoption, settings, {**config, "environment": "production"})
     adoption.done(CONFIG, "environment is production now, which templates ask for in place of jekyll.environment")
 
 
@@ -218,11 +228,11 @@ def write_feeds(adoption: Adoption, config: dict) -> None:
     """The feeds of jekyll-feed, as templates."""
     if "jekyll-feed" not in plugins_of(config, adoption.original):
         return
-    given = config.get("feed") if isinstance(config.get("feed"), dict) else {}
+    given = mapping(config.get("feed"))
     collections = given.get("collections")
     if isinstance(collections, list):
         collections = {str(name): {} for name in collections}
-    collections = {name: dict(meta or {}) for name, meta in (collections or {}).items()} if isinstance(collections, dict) else {}
+    collections = {str(name): dict(mapping(meta)) for name, meta in mapping(collections).items()}
     posts = collections.setdefault("posts", {})
     posts["path"] = posts.get("path") or given.get("path")
     posts["categories"] = posts.get("categories") or given.get("categories")
@@ -237,11 +247,20 @@ def write_feeds(adoption: Adoption, config: dict) -> None:
         adoption.left(f"{CONFIG}:{settings.line('feed')}", "feeds by tag are not made; write one as feed.xml with its tag")
 
 
+def mapping(value: object) -> dict:
+    return value if isinstance(value, dict) else {}
+
+
 def write_feed(adoption: Adoption, path: str, keys: list[str]) -> None:
-    if ".." in path.split("/") or not path.endswith(".xml"):
+    if not can_be_written(path) or not path.endswith(".xml"):
         adoption.left(CONFIG, f"the feed {shown(path)} is not made; give it a path that ends with .xml")
         return
     write_page(adoption, path, keys, template("feed.xml"), "is new: what jekyll-feed makes, as a template")
+
+
+def can_be_written(path: str) -> bool:
+    """Whether a file of the site can have this path, which comes from a text of the site."""
+    return not name_fault(path) and is_of_site(path) and all(len(name.encode()) <= MOST_NAME for name in path.split("/"))
 
 
 def write_sitemap(adoption: Adoption, config: dict) -> None:
@@ -256,9 +275,10 @@ def write_redirects(adoption: Adoption) -> None:
     _, config = read_configuration(adoption)
     if "jekyll-redirect-from" not in plugins_of(config, adoption.original):
         return
-    program = Program(texts(config.get("include")), texts(config.get("exclude")))
-    items = {path: text for path, text in with_front_matter(adoption).items() if program.comes_out(path, collections_of(config))}
+    items = with_front_matter(adoption)
     asking = {path: text for path, text in items.items() if re.search(r"^redirect_(from|to|source)[ \t]*:", front_matter(text)[1], re.M)}
+    coming = coming_out(adoption, config, list(asking))
+    asking = {path: text for path, text in asking.items() if path in coming}
     values = read_values(adoption.program, {path: yaml_of(text) for path, text in asking.items()}).of
     layout = os.path.splitext(own_name(adoption, "_layouts", "redirect.html", template("redirect.html")))[0]
     used = False
@@ -283,11 +303,11 @@ def write_redirect(adoption: Adoption, path: str, text: str, address: str, layou
         return True
     line = line_of(text, text.find("redirect_from"))
     ending = os.path.splitext(address)[1]
-    odd = not re.fullmatch(r"[^\s?#\x00-\x1f:\"\\]+", address) or ".." in address.split("/")
+    odd = not re.fullmatch(r"[^\s?#\x00-\x1f:\"\\]+", address) or not can_be_written(re.sub("/+", "/", address).strip("/") or "index.html")
     if odd or ending[1:] in ("markdown", "mkdown", "mkdn", "mkd", "md"):
         adoption.left(f"{path}:{line}", f"no page can be at the old address {shown(address)}; write one by hand")
         return False
-    stem = re.sub(r"[^A-Za-z0-9]+", "-", os.path.splitext(address)[0]).strip("-") or "index"
+    stem = re.sub(r"[^A-Za-z0-9]+", "-", os.path.splitext(address)[0]).strip("-")[:MOST_STEM] or "index"
     # An address keeps an ending of its own when the file has it.
     names = (f"{REDIRECTS}/{stem}{number or ''}{ending or '.html'}" for number in itertools.count())
     place = next(name for name in names if not (adoption.folder / name).exists())
@@ -310,24 +330,34 @@ def redirect_page(adoption: Adoption, path: str, text: str, layout: str) -> bool
     return True
 
 
+def coming_out(adoption: Adoption, config: dict, paths: list[str]) -> set[str]:
+    """Those of these files that come out of the site as it is now. The program is asked."""
+    heads = {}
+    for path in paths:
+        match = front_matter(read_text(adoption.folder / path)) if begins_with_mark(adoption.folder / path) else None
+        heads[path] = match[1] if match else None
+    return ask(adoption.program, question_of(config), heads).sources if heads else set()
+
+
 # ---- Sass
 
 
 def write_styles(adoption: Adoption) -> None:
     """The CSS of each page of Sass is put beside it, and the page into `exclude`."""
     settings, config = read_configuration(adoption)
-    sheets = sass.read_sheets(adoption.folder, adoption.program)
-    files = adoption.files()
-    styles = sass.published(sass.sass_pages(adoption.folder, files), sheets)
+    styles = sass.sass_pages(adoption.folder, adoption.files())
+    coming = coming_out(adoption, config, [style.source for style in styles])
+    styles = [style for style in styles if style.source in coming]
     if not styles:
         for line in sass.compile_styles(adoption.folder, adoption.program):
             adoption.left_lines.append(line)
         return
     said = sass.compile_all(adoption.folder, adoption.program, styles)
     adoption.left_lines += said
-    made = [style for style in styles if sass.is_ours(adoption.folder / style.css, style.source)]
+    made = [style for style in styles if sass.is_ours(adoption.folder, style)]
     for style in made:
         adoption.done(style.source, f"sassc made {style.css} of it, and it is in exclude now; `site serve` and `site watch` make it anew")
     if made:
-        settings.set("exclude", texts(config.get("exclude")) + [style.source for style in made])
-        save(adoption, settings)
+        config["exclude"] = texts(config.get("exclude")) + [style.source for style in made]
+        settings.set("exclude", config["exclude"])
+        save(adoption, settings, config)

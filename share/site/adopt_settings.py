@@ -10,11 +10,13 @@ from typing import Optional
 from zoneinfo import ZoneInfo
 
 from adoption import Adoption
-from configuration import Settings
+from configuration import Settings, by_lines, is_in_braces
+from globs import fits
 from kept_back import Jekyll, Program, Replaced, Rules, is_glob, lists_of_paths, names, shortened
-from kept_back import pattern as fnmatch
+from outcome import Question
+from publication import is_published_as_written
+from scopes import Tree, published_by_defaults
 from scopes import mend as mend_scopes
-from scopes import published_by_defaults
 from site_files import OUTPUT, Fault, begins_with_mark, front_matter, list_files, read_text, read_values, write_text
 from words import Refused, shown
 
@@ -33,21 +35,40 @@ def adopt_configuration(adoption: Adoption) -> dict:
     """Mends the configuration; what it says in the end."""
     find_configuration(adoption)
     path = adoption.folder / CONFIG
-    before = read_text(path) if path.is_file() else ""
-    text, config = readable(adoption, before)
+    old = read_text(path) if path.is_file() else ""
+    text, config = readable(adoption, old)
     settings = Settings(text)
+    unchanged = list(settings.lines)
     refuse_other_source(config)
     moved = rename_folders(adoption, settings, config)
     files = adoption.files()
-    mend_lists(adoption, settings, config, files, moved)
-    mend_limit(adoption, settings, config, files)
-    mend_copied(adoption, settings, config, files)
+    rules = rules_with_globs(config, moved)
+    older = older_posts(adoption, config, files)
+    copies = held_copies(adoption.folder, config, files)
+    before = texts(config.get("exclude"))
+    adoption.left_out = set(files) - let_out(Jekyll(rules, files, [*older, *copies, *unpublished_items(adoption, config, files)]))
+    mend_lists(adoption, settings, config, files, rules, {*older, *copies})
+    added = [path for path in texts(config.get("exclude")) if path not in before]
+    mend_limit(adoption, settings, config, [path for path in older if path in added])
+    tell_copies(adoption, settings, [path for path in copies if path in added])
     mend_kept(adoption, settings, config)
     mend_defaults(adoption, settings, config, files)
     mend_values(adoption, settings, config)
-    if settings.lines != Settings(before).lines:
-        write_text(path, settings.text())
+    if settings.lines != unchanged and is_in_braces(old):
+        adoption.done(CONFIG, "its mapping in braces has a line for each key now")
+    if settings.lines != unchanged or not is_in_braces(old) and text != old:
+        save(adoption, settings, config)
     return config
+
+
+def save(adoption: Adoption, settings: Settings, config: dict) -> None:
+    """Writes the configuration. It has to say what is wanted: a text that is laid out in an odd way may not bear the edits."""
+    text = settings.text()
+    values = read_values(adoption.program, {CONFIG: text})
+    if CONFIG in values.faults or (values.of.get(CONFIG) or {}) != config:
+        why = str(values.faults[CONFIG]) if CONFIG in values.faults else "the keys are not as they were"
+        raise Refused(f"{CONFIG}: it cannot be edited as it is laid out ({shown(why)}); begin each key at the front of a line, and run this again. Nothing was done")
+    write_text(adoption.folder / CONFIG, text)
 
 
 def find_configuration(adoption: Adoption) -> None:
@@ -98,7 +119,7 @@ def readable(adoption: Adoption, text: str) -> tuple[str, dict]:
         adoption.done(f"{CONFIG}:{line}", "the bracket is moved in: at its key's indent it is not read")
     if config is not None and not isinstance(config, dict):
         raise Refused(f"{CONFIG}: it is no mapping; write key: value. Nothing was done")
-    return text, config or {}
+    return by_lines(text, config) if config and is_in_braces(text) else text, config or {}
 
 
 def tell_faults(program: str, text: str, fault: Optional[Fault]) -> None:
@@ -162,6 +183,7 @@ def move(adoption: Adoption, settings: Settings, key: str, old: str, new: str) -
             raise Refused(f"{place}: {shown(old)} has to be called {new}, where another {shown(target.name)} is; put them together. Nothing was done")
         target.parent.mkdir(parents=True, exist_ok=True)
         os.replace(source, target)
+        adoption.old_folders[os.path.dirname(f"{new}{path[len(old):]}")] = os.path.dirname(path)
     if (adoption.folder / new).is_dir():
         adoption.done(place, f"{old} is called {new} now; no other name is read ({key})")
     else:
@@ -201,6 +223,15 @@ def collections_of(config: dict) -> list[str]:
     return [str(one) for one in given] if isinstance(given, (dict, list)) else []
 
 
+def question_of(config: dict) -> Question:
+    """The settings of which the program is asked what comes out by them."""
+    defaults = config.get("defaults")
+    return Question(
+        rules_of(config).include, texts(config.get("exclude")), collections_of(config), defaults if isinstance(defaults, list) else [],
+        config.get("unpublished") is True,
+    )
+
+
 def rules_of(config: dict) -> Rules:
     rules = Rules(exclude=texts(config.get("exclude")), collections=collections_of(config))
     if config.get("include") is not None:
@@ -214,19 +245,29 @@ def rules_of(config: dict) -> Rules:
     return rules
 
 
-def mend_lists(adoption: Adoption, settings: Settings, config: dict, files: list[str], moved: bool) -> None:
-    """`exclude` and `include` get the paths that they name now. The globs stay in a key of their own, for new files."""
+def rules_with_globs(config: dict, moved: bool) -> Rules:
+    """The rules, with the globs that stood in `exclude` once. `moved` says whether collections were moved to the top."""
     rules = rules_of(config)
     rules.collections_in = "" if moved else None
-    excluded, globs = rules.exclude, texts(config.get("exclude_globs"))
-    rules.exclude = excluded + [glob for glob in globs if glob not in excluded]
-    lists = lists_of_paths(rules, files)
+    rules.exclude += [glob for glob in texts(config.get("exclude_globs")) if glob not in rules.exclude]
+    return rules
+
+
+def let_out(jekyll: Jekyll) -> set[str]:
+    return jekyll.comes_out() | jekyll.drafts()
+
+
+def mend_lists(adoption: Adoption, settings: Settings, config: dict, files: list[str], rules: Rules, held: set[str]) -> None:
+    """`exclude` and `include` get the paths that they name now, and those that are held back by others. The globs stay in a key of their own, for new files."""
+    excluded, globs = texts(config.get("exclude")), texts(config.get("exclude_globs"))
+    lists = lists_of_paths(rules, files, held)
     told = [one for one in lists.replaced_excludes if one.paths or one.entry in excluded]
     tell(adoption, settings, "exclude", told)
     tell(adoption, settings, "include", lists.replaced_includes)
     line = settings.line("destination") if rules.destination else settings.line("exclude")
     for path in lists.added:
-        adoption.done(f"{CONFIG}:{line}", f"{path} is in exclude now, since Jekyll leaves it out")
+        if path not in held:
+            adoption.done(f"{CONFIG}:{line}", f"{path} is in exclude now, since Jekyll leaves it out")
     globs += [one.entry for one in told if is_glob(one.entry) and one.entry not in globs]
     for key, value in (("exclude", lists.exclude), ("include", lists.include), ("exclude_globs", globs)):
         if value != (rules.include if key == "include" else texts(config.get(key))):
@@ -234,65 +275,101 @@ def mend_lists(adoption: Adoption, settings: Settings, config: dict, files: list
             config[key] = value
 
 
-def mend_limit(adoption: Adoption, settings: Settings, config: dict, files: list[str]) -> None:
-    """`limit_posts`: the older posts go into `exclude`."""
+def mend_limit(adoption: Adoption, settings: Settings, config: dict, older: list[str]) -> None:
+    """`limit_posts`: says that the older posts are in `exclude`."""
     limit = config.get("limit_posts")
     if not isinstance(limit, int) or limit <= 0:
         return
-    program = Program(rules_of(config).include, texts(config.get("exclude")))
-    posts = dated_posts(adoption, config, files)
-    older = [path for path in posts[: max(len(posts) - limit, 0)] if program.comes_out(path, collections_of(config)) or program.is_draft(path)]
-    place = f"{CONFIG}:{settings.line('limit_posts')}"
     if older:
+        place = f"{CONFIG}:{settings.line('limit_posts')}"
         adoption.done(place, f"the posts past the newest {limit} are in exclude now: {shortened(older)}")
-        config["exclude"] = texts(config.get("exclude")) + older
-        settings.set("exclude", config["exclude"])
     settings.comment_out("limit_posts", "the older posts are in exclude now")
     config.pop("limit_posts")
+
+
+def tell_copies(adoption: Adoption, settings: Settings, copies: list[str]) -> None:
+    """Says which copied files are in `exclude` since `defaults` hold them back."""
+    if copies:
+        place = f"{CONFIG}:{settings.line_with('defaults', 'published')}"
+        adoption.done(place, f"published of defaults does not reach copied files, so they are in exclude now: {shortened(copies)}")
+
+
+def older_posts(adoption: Adoption, config: dict, files: list[str]) -> list[str]:
+    """The posts past the newest ones that `limit_posts` lets come out."""
+    limit = config.get("limit_posts")
+    if not isinstance(limit, int) or limit <= 0:
+        return []
+    posts = dated_posts(adoption, config, files)
+    return posts[: max(len(posts) - limit, 0)]
 
 
 def dated_posts(adoption: Adoption, config: dict, files: list[str]) -> list[str]:
     """The posts that Jekyll makes now, the oldest first; the drafts too where they are built."""
     jekyll = Jekyll(rules_of(config), files)
     wanted = jekyll.comes_out() | (jekyll.drafts() if config.get("show_drafts") is True else set())
-    found = [path for path in wanted if {"_posts", "_drafts"} & set(path.split("/")) and path.partition("/")[0][1:] not in collections_of(config)]
-    heads = {path: front_matter(read_text(adoption.folder / path)) for path in found}
-    values = read_values(adoption.program, {path: "---\n" + match[1] for path, match in heads.items() if match}).of
+    found = [path for path in wanted if kind_of(path, []) == "posts" and path.partition("/")[0][1:] not in collections_of(config)]
+    heads = {path: match[1] for path, match in ((path, front_matter(read_text(adoption.folder / path))) for path in found) if match}
+    values = read_values(adoption.program, {path: f"---\n{head}" for path, head in heads.items()}).of
     now = datetime.datetime.now(datetime.timezone.utc)
+    tree = Tree(files)
     dated = []
     for path in found:
-        own = values.get(path) if isinstance(values.get(path), dict) else {}
-        defaults = config.get("defaults") if isinstance(config.get("defaults"), list) else []
-        published = bool(own["published"]) if "published" in own else published_by_defaults(defaults, path, "posts")
+        value = values.get(path)
+        own = value if isinstance(value, dict) else {}
         moment = moment_of(path, own)
-        if (published or config.get("unpublished") is True) and (moment <= now or config.get("future") is True):
+        if comes_out(path, own, heads.get(path, ""), config, tree) and (moment <= now or config.get("future") is True):
             dated.append((moment, path))
     return [path for _, path in sorted(dated)]
 
 
-def mend_copied(adoption: Adoption, settings: Settings, config: dict, files: list[str]) -> None:
-    """Copied files that have `published: false` of `defaults` go into `exclude`."""
-    hidden = unpublished_copies(adoption.folder, config, files)
-    if hidden:
-        place = f"{CONFIG}:{settings.line_with('defaults', 'published')}"
-        adoption.done(place, f"published of defaults does not reach copied files, so they are in exclude now: {shortened(hidden)}")
-        config["exclude"] = texts(config.get("exclude")) + hidden
-        settings.set("exclude", config["exclude"])
+def comes_out(path: str, own: dict, head: str, config: dict, tree: Tree) -> bool:
+    """Whether Jekyll builds an item with these values: by its own key `published`, else by the defaults, which do not reach pages."""
+    if config.get("unpublished") is True:
+        return True
+    if "published" in own:
+        return bool(is_published_as_written(own["published"], head))
+    kind = kind_of(path, collections_of(config))
+    defaults = config.get("defaults") if isinstance(config.get("defaults"), list) else []
+    return kind is None or published_by_defaults(defaults, path, kind, tree)
+
+
+def kind_of(path: str, collections: list[str]) -> Optional[str]:
+    """The collection that a file is a document of; nothing for a page."""
+    folders = path.split("/")[:-1]
+    if {"_posts", "_drafts"} & set(folders):
+        return "posts"
+    label = folders[0][1:] if folders and folders[0].startswith("_") else ""
+    return label if label in collections else None
+
+
+def unpublished_items(adoption: Adoption, config: dict, files: list[str]) -> list[str]:
+    """The files with front matter that Jekyll leaves out. What is not read is none of them: it is a fault, until somebody mends it."""
+    marked = [path for path in files if not path.startswith(("_data/", "_includes/", "_layouts/")) and begins_with_mark(adoption.folder / path)]
+    heads = {path: match[1] for path, match in ((path, front_matter(read_text(adoption.folder / path))) for path in marked) if match}
+    values = read_values(adoption.program, {path: f"---\n{head}" for path, head in heads.items()}).of
+    own = {path: value if isinstance(value, dict) else {} for path, value in values.items()}
+    tree = Tree(files)
+    return [path for path in own if not comes_out(path, own[path], heads[path], config, tree)]
 
 
 def unpublished_copies(folder: Path, config: dict, files: list[str]) -> list[str]:
-    """The copied files that come out here, and that Jekyll leaves out by its defaults."""
+    """The copied files that are likely to come out here, and that Jekyll leaves out by its defaults."""
+    program = Program(rules_of(config).include, texts(config.get("exclude")))
+    return [path for path in held_copies(folder, config, files) if program.comes_out(path, collections_of(config))]
+
+
+def held_copies(folder: Path, config: dict, files: list[str]) -> list[str]:
+    """The files without front matter that Jekyll leaves out by its defaults."""
     defaults = config.get("defaults")
     if not isinstance(defaults, list) or not any("published" in str(entry) for entry in defaults):
         return []
-    program = Program(rules_of(config).include, texts(config.get("exclude")))
-    collections = collections_of(config)
+    collections, tree = collections_of(config), Tree(files)
     found = []
     for path in files:
         label = path.partition("/")[0][1:] if path.startswith("_") else ""
         kind = label if label in collections else None
         address = path[1:] if kind else path
-        if program.comes_out(path, collections) and not published_by_defaults(defaults, address, kind) and not begins_with_mark(folder / path):
+        if not published_by_defaults(defaults, address, kind, tree) and not begins_with_mark(folder / path):
             found.append(path)
     return found
 
@@ -341,7 +418,7 @@ def kept_by_front(entries: list[str], output: Path) -> list[tuple[str, list[str]
     found = []
     for entry in entries:
         front = entry.strip("/")
-        paths = [path for path in left if front and (path.startswith(front) or fnmatch(front).fullmatch(path))]
+        paths = [path for path in left if front and (path.startswith(front) or fits(front, path))]
         left = [path for path in left if path not in paths]
         found.append((entry, paths))
     return found
@@ -354,6 +431,9 @@ def mend_defaults(adoption: Adoption, settings: Settings, config: dict, files: l
     mended = mend_scopes(given, files, ["posts", "drafts", "pages", *collections_of(config)])
     for one in mended.differences:
         adoption.done(f"{CONFIG}:{settings.line_with('defaults', one.part)}", f"{one.otherwise}; {one.now}")
+    if mended.unclear:
+        place = f"{CONFIG}:{settings.line_with('defaults', 'published')}"
+        adoption.left(place, "published of defaults was no clear word, so what it is for is not published; write true or false there")
     if mended.differences:
         settings.set("defaults", mended.defaults)
         config["defaults"] = mended.defaults

@@ -5,7 +5,9 @@ import json
 import re
 from typing import Optional
 
-KEY = re.compile(r"""^(?P<quote>["']?)(?P<key>[^\s#"'\[\]{},:-][^"':#]*?)(?P=quote)[ \t]*:(?=\s|$)""")
+KEY = re.compile(r"""^(?P<indent> *)(?P<quote>["']?)(?P<key>[^\s#"'\[\]{},:-](?:[^"':#]*[^"':# \t])?)(?P=quote)[ \t]*:(?=\s|$)""")
+# The ends of lines in YAML. Other signs that end lines elsewhere may stand in a value.
+LINE_END = re.compile(r"\r\n|\r|\n")
 # What YAML reads as this text, and as nothing else.
 BARE = re.compile(r"[A-Za-z_./][A-Za-z0-9_./-]*")
 OTHER_VALUES = {"null", "true", "false", "yes", "no", "on", "off"}
@@ -30,20 +32,44 @@ def lines_of(key: str, value: object) -> list[str]:
     return [f"{written(key)}: {written(value)}"]
 
 
+def is_in_braces(text: str) -> bool:
+    """Whether a text is a mapping in braces, whose keys have no lines of their own."""
+    for line in LINE_END.split(text.lstrip("\ufeff")):
+        words = line.strip()
+        if words and not words.startswith("#") and words != "---":
+            return words.startswith("{")
+    return False
+
+
+def by_lines(text: str, values: dict) -> str:
+    """A configuration in braces, written with a line for each key, below the old text as a comment."""
+    old = [f"#   {line}".rstrip() for line in LINE_END.split(text.lstrip("\ufeff").rstrip())]
+    return "".join(f"{line}\n" for line in [BEFORE, *old, *(line for key, value in values.items() for line in lines_of(key, value))])
+
+
 class Settings:
     """The text of a configuration, by its keys."""
 
     def __init__(self, text: str):
         self.end = "\r\n" if "\r\n" in text else "\n"
-        self.lines = text.splitlines()
+        self.lines = LINE_END.split(text)
+        if self.lines[-1] == "":
+            self.lines.pop()
+        first = next((match for match in map(self.key_of, self.lines) if match), None)
+        # All keys of a mapping begin in one column.
+        self.indent = first["indent"] if first else ""
 
     def text(self) -> str:
         return "".join(line + self.end for line in self.lines)
 
     def keys(self) -> list[tuple[str, int]]:
         """Each key and its line, counted from 0."""
-        found = ((KEY.match(line.lstrip("\ufeff")), at) for at, line in enumerate(self.lines))
-        return [(match["key"], at) for match, at in found if match]
+        found = ((self.key_of(line), at) for at, line in enumerate(self.lines))
+        return [(match["key"], at) for match, at in found if match and match["indent"] == self.indent]
+
+    @staticmethod
+    def key_of(line: str) -> Optional[re.Match]:
+        return KEY.match(line.lstrip("\ufeff"))
 
     def place(self, key: str) -> Optional[tuple[int, int]]:
         """The first line of the last block of this key, which counts, and the line after the block."""
@@ -78,7 +104,7 @@ class Settings:
 
     def set(self, key: str, value: object) -> None:
         """Gives a key this value. What is in its place now stays as a comment."""
-        self.put(key, lines_of(key, value))
+        self.put(key, [self.indent + line for line in lines_of(key, value)])
 
     def comment_out(self, key: str, why: str) -> None:
         self.put(key, [f"# {why}"])
@@ -97,7 +123,7 @@ class Settings:
         above = start
         while above and self.lines[above - 1].startswith("#   "):
             above -= 1
-        first = KEY.match(self.lines[above][len("#   ") :]) if above < start else None
+        first = self.key_of(self.lines[above][len("#   ") :]) if above < start else None
         return bool(first) and first["key"] == key and self.lines[above - 1] == BEFORE
 
     def remove(self, key: str) -> None:

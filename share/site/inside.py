@@ -135,6 +135,13 @@ def write_below(top: Path, path: str, data: bytes) -> None:
             raise
 
 
+def create_below(top: Path, path: str, data: bytes) -> None:
+    """Makes a new file, and the folders on the way. Raises OSError when something of that name is there, or a link is on the way."""
+    with folder_of(top, path, make=True) as (folder, name):
+        with open(os.open(name, CREATING, 0o666, dir_fd=folder), "wb") as file:
+            file.write(data)
+
+
 def rights_of(folder: int, name: bytes) -> Optional[int]:
     """The rights of a file in an open folder; nothing when there is no file."""
     try:

@@ -7,9 +7,9 @@ from __future__ import annotations
 import posixpath
 import re
 from dataclasses import dataclass, field
-from functools import lru_cache
 from typing import Callable, Iterable, Optional
 
+from globs import fits, is_glob
 from site_files import ALWAYS_EXCLUDED, NotRead
 
 SPECIAL = re.compile(r"[._#~]")
@@ -22,45 +22,11 @@ SAID_PATHS = 6
 ANY_NAME = "\u2400any"
 
 
-@lru_cache(maxsize=None)
-def pattern(glob: str) -> re.Pattern:
-    """Ruby's File.fnmatch without flags: a star and a question mark stand for slashes too."""
-    parts, at = [], 0
-    while at < len(glob):
-        sign = glob[at]
-        closed = glob.find("]", at + 1)
-        if sign == "\\" and at + 1 < len(glob):
-            at += 1
-            parts.append(re.escape(glob[at]))
-        elif sign == "*":
-            parts.append(".*")
-        elif sign == "?":
-            parts.append(".")
-        elif sign == "[" and closed > at:
-            parts.append(one_of(glob[at + 1 : closed]))
-            at = closed
-        else:
-            # A bracket that is never closed matches nothing.
-            parts.append("(?!)" if sign == "[" else re.escape(sign))
-        at += 1
-    return re.compile("".join(parts), re.S)
-
-
-def one_of(signs: str) -> str:
-    turned = signs[:1] in ("^", "!")
-    inner = re.sub(r"([\\\[\]^&~|])", r"\\\1", signs[1:] if turned else signs)
-    return f"[{'^' if turned else ''}{inner}]" if inner else "(?!)"
-
-
-def is_glob(entry: str) -> bool:
-    return any(sign in entry for sign in "*?[\\")
-
-
 def matches(entry: str, path: str, is_folder: bool) -> bool:
     """Whether an entry of Jekyll's lists names a path."""
     entry = "/" + entry.lstrip("/")
     path = "/" + path
-    return bool(pattern(entry).fullmatch(path)) or path.startswith(entry) or (is_folder and entry == path + "/")
+    return fits(entry, path) or path.startswith(entry) or (is_folder and entry == path + "/")
 
 
 def names(entry: str, path: str) -> bool:
@@ -95,9 +61,11 @@ class Rules:
 class Jekyll:
     """What Jekyll lets come out."""
 
-    def __init__(self, rules: Rules, files: Iterable[str]):
+    def __init__(self, rules: Rules, files: Iterable[str], held: Iterable[str] = ()):
         self.rules = rules
         self.files = set(files)
+        # Those that are left out by a setting of another kind.
+        self.held = set(held)
         self.folders: dict[str, list[str]] = {"": []}
         for path in sorted(self.files):
             self.add(path)
@@ -143,7 +111,7 @@ class Jekyll:
                 found.update(path for path in inner if collection not in self.rules.hidden or "_posts" not in path.split("/"))
         whole = (posixpath.normpath(entry.lstrip("/") or ".") for entry in self.rules.include)
         found.update(path for path in whole if path in self.files)
-        return found
+        return found - self.held
 
     def walk(self, folder: str, found: set[str]) -> None:
         if self.rules.has_posts(folder):
@@ -160,7 +128,7 @@ class Jekyll:
     def drafts(self) -> set[str]:
         """The drafts that the program would take for such: those at the top."""
         inner = self.below("_drafts", dots=False) if self.rules.has_posts("") else []
-        return {path for path in inner if DRAFT.match(path[len("_drafts/") :])}
+        return {path for path in inner if DRAFT.match(path[len("_drafts/") :])} - self.held
 
     def below(self, folder: str, dots: bool) -> list[str]:
         """The files below a folder that is read whole."""
@@ -173,7 +141,7 @@ class Jekyll:
 
 
 class Program:
-    """What the program lets come out: docs/PROFILE.md, "What a file stands for"."""
+    """What the program is likely to let come out. Lists are looked for by this guess; what comes of them is asked of the program itself (outcome.py)."""
 
     def __init__(self, include: list[str], exclude: list[str]):
         self.include = include
@@ -238,9 +206,9 @@ class Lists:
     added: list[str]
 
 
-def lists_of_paths(rules: Rules, files: list[str]) -> Lists:
-    """What the lists are for the program, for the files that are there now."""
-    jekyll = Jekyll(rules, files)
+def lists_of_paths(rules: Rules, files: list[str], held: Iterable[str] = ()) -> Lists:
+    """What the lists are for the program, for the files that are there now. `held` are files that Jekyll leaves out by other settings."""
+    jekyll = Jekyll(rules, files, held)
     wanted = jekyll.comes_out()
     include = [entry for entry in rules.include if is_plain(entry) and brings_only(entry, wanted, files, rules.collections)]
     exclude = [entry for entry in rules.exclude if is_plain(entry.rstrip("/")) and entry.partition("/")[0] not in READ_FOLDERS]

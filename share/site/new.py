@@ -6,6 +6,7 @@ from datetime import datetime, timezone
 from pathlib import Path
 
 import words
+from inside import create_below
 
 STARTER = Path(__file__).parent / "starter"
 # In the name of a post this is the day on which the site begins.
@@ -46,11 +47,10 @@ def copy(folder: Path) -> int:
     # The day in UTC, as the site's own clock has it: a post of a later day would be left out.
     today = datetime.now(timezone.utc).date().isoformat()
     for path in files:
-        goal = folder / path.relative_to(STARTER).with_name(path.name.replace(TODAY, today))
+        name = os.fspath(path.relative_to(STARTER).with_name(path.name.replace(TODAY, today)))
         try:
-            goal.parent.mkdir(parents=True, exist_ok=True)
-            with open(goal, "xb") as file:
-                file.write(path.read_bytes())
+            folder.mkdir(parents=True, exist_ok=True)
+            create_below(folder.resolve(), name, path.read_bytes())
         except OSError as error:
-            raise words.Refused(f"{words.shown(os.fspath(goal))} cannot be written: {error.strerror}; the site is not whole") from error
+            raise words.Refused(f"{words.shown(os.fspath(folder / name))} cannot be written: {error.strerror}; the site is not whole") from error
     return len(files)

@@ -6,8 +6,12 @@ import re
 from pathlib import Path
 from typing import Optional
 
+from inside import read_below
+from session import MOST_BYTES
 from site_files import list_files
 
+# A name of a gem.
+NAME = re.compile(r"[a-z0-9][a-z0-9_.-]*")
 FOLDERS = ("_layouts", "_includes", "_sass", "assets", "_data")
 # Where Debian and RubyGems put gems. A star stands for one name.
 PLACES = (
@@ -25,7 +29,7 @@ PLACES = (
 
 
 def gem_folders(site: Path) -> list[Path]:
-    """The folders that hold gems, those of the site first."""
+    """The folders that hold gems, those of the site first. A link in the site is passed over: it could lead to anything."""
     places = [os.path.join(site, os.path.expanduser(place)) for place in PLACES]
     for variable in ("GEM_HOME", "GEM_PATH"):
         places += [os.path.join(one, "gems") for one in os.environ.get(variable, "").split(":") if one]
@@ -36,31 +40,34 @@ def gem_folders(site: Path) -> list[Path]:
             found.append(Path(place))
         else:
             found += sorted(Path(top).glob("*" + rest)) if Path(top).is_dir() else []
-    return [folder for folder in found if folder.is_dir()]
+    return [folder for folder in found if is_folder(folder, site)]
+
+
+def is_folder(folder: Path, site: Path) -> bool:
+    """Whether this is a folder, and no link of the site leads there."""
+    return folder.is_dir() and (site not in folder.parents or folder.resolve() == folder)
 
 
 def find_gem(name: str, site: Path, locked: str = "") -> Optional[Path]:
-    """The folder of a gem: that of the version that is locked, else the newest."""
+    """The folder of a gem: that of the version that is locked, else the newest; nothing when there is none, or this is no name of one."""
     name = name.strip().lower()
+    if not NAME.fullmatch(name):
+        return None
     found: list[tuple[list[int], Path]] = []
     for folder in gem_folders(site):
-        for gem in folder.glob(f"{glob_safe(name)}-*"):
+        for gem in folder.glob(f"{name}-*"):
             version = gem.name[len(name) + 1 :]
-            if re.fullmatch(r"[0-9]+(\.[0-9A-Za-z]+)*", version) and gem.is_dir():
+            if re.fullmatch(r"[0-9]+(\.[0-9A-Za-z]+)*", version) and is_folder(gem, site):
                 if version == locked:
                     return gem
                 found.append(([int(part) for part in re.findall(r"\d+", version)], gem))
     return max(found, key=lambda one: one[0])[1] if found else None
 
 
-def glob_safe(name: str) -> str:
-    return re.sub(r"([*?\[])", r"[\1]", name)
-
-
 def locked_version(site: Path, name: str) -> str:
     """The version that Gemfile.lock of the site names."""
     try:
-        text = (site / "Gemfile.lock").read_text(encoding="utf-8", errors="replace")
+        text = read_below(site, "Gemfile.lock", MOST_BYTES).decode(errors="replace")
     except OSError:
         return ""
     match = re.search(rf"^    {re.escape(name)} \(([^)]+)\)$", text, re.M)
