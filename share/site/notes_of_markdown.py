@@ -6,6 +6,7 @@ import re
 from dataclasses import dataclass
 from typing import Iterable, Iterator, Optional
 
+import notes_of_tables
 from site_notes import Notes
 from tags import all_pieces
 
@@ -19,7 +20,6 @@ FRONTS_OF_CODE = (" ", "\t", "`", "~")
 FENCE = re.compile(r"^ {0,3}(`{3,}|~{3,})[ \t]*([^\s`]*)")
 TICKS = re.compile(r"`+")
 ONE_TICK = re.compile(r"`[^`\n]*`")
-CELL = re.compile(r":?-+:?")
 DEFINITION = re.compile(r" {0,3}\[[^\[\]\n]+\]:")
 # What has quotes and dashes of its own: tags and addresses.
 MARKUP = re.compile(r"<[^<>]*>|\]\([^()\n]*\)")
@@ -73,9 +73,9 @@ def add(notes: Notes, path: str, text: str, start: int) -> None:
     body, fences = prose(text[start:])
     for at in fences[:1]:
         notes.add(path, first + at, "code comes out without colours", "colour it in the browser by the class language-..")
-    heading = first_table(body)
-    if heading is not None:
-        notes.add(path, first + heading, "a table is text", "write it in HTML")
+    if "|" in body:
+        texts = without_templates(text[start:]).split("\n")
+        notes_of_tables.add(lambda at, what, how: notes.add(path, first + at, what, how), texts, body.split("\n"))
     for form in FORMS:
         for part in form.parts:
             if part in body:
@@ -90,22 +90,6 @@ def add(notes: Notes, path: str, text: str, start: int) -> None:
     sign = straight_signs(body)
     if sign is not None:
         notes.add(path, first + body.count("\n", 0, sign), QUOTES_SAID, "write the signs themselves")
-
-
-def first_table(body: str) -> Optional[int]:
-    """The line of the heading of the first table, counted from 0: below it are dashes."""
-    if "|" not in body or "-" not in body:
-        return None
-    lines = body.split("\n")
-    return next((at - 1 for at in range(1, len(lines)) if "|" in lines[at - 1] and is_rule_of_table(lines[at])), None)
-
-
-def is_rule_of_table(line: str) -> bool:
-    """Whether a line is that of dashes below the heading of a table."""
-    if "-" not in line or line.strip(" \t\r|:-"):
-        return False
-    inner = line.strip().removeprefix("|").removesuffix("|")
-    return all(CELL.fullmatch(cell.strip()) for cell in inner.split("|"))
 
 
 def is_rule(line: str) -> bool:
@@ -134,7 +118,7 @@ def straight_signs(body: str) -> Optional[int]:
         end = body.find("\n", found.start())
         end = len(body) if end < 0 else end
         line = body[body.rfind("\n", 0, found.start()) + 1 : end]
-        if not (is_rule_of_table(line) or is_rule(line) or DEFINITION.match(line)):
+        if not (notes_of_tables.is_line_of_signs(line.lstrip(" >")) or is_rule(line) or DEFINITION.match(line)):
             return found.start()
         found = QUOTES.search(body, end)
     return None
@@ -191,11 +175,16 @@ def without_code(line: str) -> str:
     return "".join([*kept, line[done:]])
 
 
-def prose(text: str) -> tuple[str, list[int]]:
-    """The text with its lines in their places, and nothing in the place of code, outputs and tags; and the lines of fences with a language."""
+def without_templates(text: str) -> str:
+    """The text with nothing but line ends in the place of outputs, tags, and what has its own ends around its code."""
     for begin, end in CODE_ENDS:
         text = without(text, spans(text, begin, end))
-    text = without(text, ((piece.start, piece.end) for piece in all_pieces(text)))
+    return without(text, ((piece.start, piece.end) for piece in all_pieces(text)))
+
+
+def prose(text: str) -> tuple[str, list[int]]:
+    """The text with its lines in their places, and nothing in the place of code, outputs and tags; and the lines of fences with a language."""
+    text = without_templates(text)
     if not text.startswith(("    ", "\t")) and not any(part in text for part in ("``", "~~~", "\n    ", "\n\t")):
         # The usual text: it has no lines of code, and goes through as a whole.
         return ONE_TICK.sub(blank, text), []
