@@ -1,11 +1,14 @@
 """What the checks of `site adopt` share."""
 from __future__ import annotations
 
+import ctypes
 import os
 import shutil
+import signal
 import subprocess
 import sys
 import time
+from concurrent.futures import ProcessPoolExecutor
 from dataclasses import dataclass, field
 from pathlib import Path
 from typing import Callable
@@ -15,6 +18,8 @@ PARTS = TOP / "share" / "site"
 PROGRAM = os.environ["SITEBUILD"]
 # Where Debian puts the themes and plugins that it packs.
 GEMS = Path("/usr/share/rubygems-integration/all/gems")
+# A number of <sys/prctl.h>.
+PR_SET_PDEATHSIG = 1
 sys.path.insert(0, str(PARTS))
 
 
@@ -63,6 +68,16 @@ def expect_said(what: str, done: subprocess.CompletedProcess, failures: Failures
     failures.expect(f"{what}: {done.stdout}{done.stderr}: status", done.returncode, status)
     for part in parts:
         failures.expect(f"{what}: says {part!r}: {done.stdout}{done.stderr}", part in done.stdout + done.stderr, True)
+
+
+def workers() -> ProcessPoolExecutor:
+    """Processes for parts that run side by side, at most one for each of four processors. They end with the process that asks for them."""
+    return ProcessPoolExecutor(min(4, os.cpu_count() or 1), initializer=end_with_parent)
+
+
+def end_with_parent() -> None:
+    """Has the system kill this process when the thread ends that has started it: the first one of its parent."""
+    ctypes.CDLL(None).prctl(PR_SET_PDEATHSIG, signal.SIGKILL)
 
 
 def has(command: str) -> bool:

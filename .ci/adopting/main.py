@@ -10,10 +10,9 @@ import sys
 import tempfile
 import time
 import traceback
-from concurrent.futures import ProcessPoolExecutor
 from pathlib import Path
 
-from common import Failures
+from common import Failures, workers
 
 # By the module of a part, what it has found when nothing is wrong. The first ones take longest.
 SIDE_BY_SIDE = {
@@ -67,7 +66,7 @@ def main(chosen: list[str]) -> int:
                 print(said, end="", flush=True)
                 wrong += found
         parts = {part: sentence for part, sentence in SIDE_BY_SIDE.items() if not chosen or part in chosen}
-        with ProcessPoolExecutor(min(4, os.cpu_count() or 1)) as pool:
+        with workers() as pool:
             for said, found in pool.map(try_part, parts, parts.values(), [work] * len(parts)):
                 print(said, end="", flush=True)
                 wrong += found

@@ -4,13 +4,11 @@ from __future__ import annotations
 import contextlib
 import io
 import json
-import os
 import random
 import traceback
-from concurrent.futures import ProcessPoolExecutor
 from pathlib import Path
 
-from common import PROGRAM, Failures, adopt, expect_said, read_files, run, write_files
+from common import PROGRAM, Failures, adopt, expect_said, read_files, run, workers, write_files
 import adopt as adopting
 from words import Refused
 
@@ -18,9 +16,8 @@ ITEM = "---\n---\nx\n"
 FILES = {"a.key": "k", "index.html": "---\n---\n{{ site.title }} {{ site.environment }} {{ jekyll.environment }}\n", "old.html": "---\nredirect_from: /was.html\n---\no\n"}
 
 SITE = {"index.html": ITEM, "_posts/2020-01-01-p.html": ITEM, "x/a.txt": "a", "_site/b.txt": "b", "_c/d.html": ITEM, "s.scss": "---\n---\nb { top: 0; }\n"}
-# How many configurations by chance are tried, and by how many processes at once.
+# How many configurations by chance are tried.
 COUNT = 700
-WORKERS = min(4, os.cpu_count() or 1)
 KEYS = (
     "exclude", "include", "keep_files", "collections", "defaults", "limit_posts", "paginate", "timezone", "excerpt_separator", "plugins", "gems", "theme", "remote_theme", "source", "destination",
     "collections_dir", "layouts_dir", "data_dir", "includes_dir", "sass", "feed", "environment", "exclude_globs", "unpublished", "future", "show_drafts", "permalink", "markdown_ext", "ignore_theme_config",
@@ -123,7 +120,7 @@ def values(work: Path, failures: Failures) -> None:
     sites = [work / f"s{number}" for number in range(COUNT)]
     for site in sites:
         write_files(site, {**SITE, "_config.yml": settings_by_chance(chance)})
-    with ProcessPoolExecutor(WORKERS) as pool:
+    with workers() as pool:
         for site, wrong in zip(sites, pool.map(what_goes_wrong, sites, timeout=600)):
             failures.expect(f"{(site / '_config.yml').read_text(encoding='utf-8')} ends with", wrong, "")
 

@@ -4,14 +4,12 @@ from __future__ import annotations
 import contextlib
 import io
 import json
-import os
 import random
 import subprocess
-from concurrent.futures import ProcessPoolExecutor
 from dataclasses import dataclass
 from pathlib import Path
 
-from common import PROGRAM, Failures, has, run, write_files
+from common import PROGRAM, Failures, has, run, workers, write_files
 import adopt as adopting
 from words import Refused
 
@@ -122,7 +120,7 @@ def try_sites(work: Path, failures: Failures, count: int) -> str:
     write_files(work, {"folders": "".join(f"{folder}\n" for folder in folders)})
     with open(work / "folders", encoding="utf-8") as given, open(work / "listed", "w", encoding="utf-8") as listed:
         asked = subprocess.Popen(["ruby", str(Path(__file__).with_name("jekyll_sources.rb"))], stdin=given, stdout=listed, stderr=subprocess.DEVNULL)
-    with ProcessPoolExecutor(min(4, os.cpu_count() or 1)) as pool:
+    with workers() as pool:
         made = pool.map(make_of, folders, timeout=600)
         found = list(zip(folders, made))
     failures.expect("Jekyll's status", asked.wait(timeout=600), 0)
