@@ -41,7 +41,8 @@ def unwritten(room: Room) -> None:
 @case("tables: the same in markdownify", SECONDS, in_memory=True)
 def unwritten_in_a_filter(room: Room) -> None:
     text = "{% capture t %}" + UNWRITTEN + "{% endcapture %}{{ t | markdownify }}\n"
-    line = (FRONT.decode() + text).count("\n", 0, (FRONT.decode() + text).index("{{")) + 1
+    # A reply counts the lines behind the front matter.
+    line = text.count("\n", 0, text.index("{{")) + 1
     refused_soon(room, FRONT + text.encode(), "a.html", f"fault F20 {line} a.html")
 
 

@@ -41,6 +41,8 @@ mod spans;
 #[cfg(test)]
 mod starts;
 #[cfg(test)]
+mod tables;
+#[cfg(test)]
 mod templates;
 #[cfg(test)]
 mod traces;
