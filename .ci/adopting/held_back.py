@@ -8,9 +8,9 @@ from pathlib import Path
 from unittest import mock
 
 from common import PROGRAM, Failures, adopt, build_by_jekyll, expect_said, has, read_files, run, write_files
-import adopt as adopting
-import adopt_settings
-from kept_back import Lists
+import adopt as word
+import adopting.settings
+from adopting.kept_back import Lists
 from words import Refused
 
 ITEM = "---\n---\nx\n"
@@ -126,14 +126,14 @@ def faulty_settings(work: Path, failures: Failures) -> None:
         done = adopt(site)
         expect_said(f"{text!r}", done, failures, status, "a.key")
         wrong = Lists([".htaccess"], [], [], [], [])
-        with mock.patch.object(adopt_settings, "lists_of_paths", lambda *given: wrong):
+        with mock.patch.object(adopting.settings, "lists_of_paths", lambda *given: wrong):
             failures.expect(f"{text!r}, by a wrong rule", is_refused(work / f"s{number}", "--write"), True)
 
 
 def is_refused(site: Path, *words: str) -> bool:
     with contextlib.redirect_stdout(io.StringIO()):
         try:
-            adopting.main([os.fspath(site), *words], PROGRAM)
+            word.main([os.fspath(site), *words], PROGRAM)
         except Refused as refused:
             return "it would come out, and Jekyll leaves it out" in str(refused)
     return False
@@ -158,9 +158,9 @@ def wrong_rule(work: Path, failures: Failures) -> None:
         write_files(site, {"_config.yml": "exclude: ['*.key']\n", "a.key": "k", "_hidden/b.html": ITEM, "index.html": ITEM})
         before = read_files(site)
         wrong = Lists([".htaccess", "_hidden"], [], [], [], [])
-        with mock.patch.object(adopt_settings, "lists_of_paths", lambda *given: wrong):
+        with mock.patch.object(adopting.settings, "lists_of_paths", lambda *given: wrong):
             try:
-                adopting.main([os.fspath(site), *words], PROGRAM)
+                word.main([os.fspath(site), *words], PROGRAM)
                 failures.add("a site was adopted from which files come out that Jekyll leaves out")
             except Refused as refused:
                 failures.expect(f"what is said: {refused}", str(refused).startswith("_hidden/b.html: it would come out") and "(and 1 more)" in str(refused), True)

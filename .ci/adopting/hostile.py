@@ -14,8 +14,8 @@ from pathlib import Path
 
 from common import PARTS, PROGRAM, Failures, adopt, expect_said, has, read_files, run, write_files
 import sass
-from adopt import write_into
-from adoption import Adoption
+from adopting.adoption import Adoption
+from adopting.placing import write_into
 from words import Refused
 
 ITEM = "---\n---\nx\n"
@@ -151,9 +151,9 @@ def cut_short(work: Path, failures: Failures) -> None:
     for writes in itertools.count():
         site = work / f"after{writes}"
         write_files(site, files)
-        patch = f"import sys; sys.path.insert(0, {str(PARTS)!r}); import adopt\nold, left = adopt.write_below, [{writes}]\n" + (
+        patch = f"import sys; sys.path.insert(0, {str(PARTS)!r}); import adopt\nfrom adopting import placing\nold, left = placing.write_below, [{writes}]\n" + (
             "def write(top, path, data):\n    left[0] -= 1\n    if left[0] < 0: raise OSError(28, 'No space left on device', path)\n    old(top, path, data)\n"
-            f"adopt.write_below = write\nadopt.main([{str(site)!r}, '--write', '--theme', {str(theme)!r}], {PROGRAM!r})"
+            f"placing.write_below = write\nadopt.main([{str(site)!r}, '--write', '--theme', {str(theme)!r}], {PROGRAM!r})"
         )
         done = run([sys.executable, "-B", "-c", patch], work)
         failures.expect(f"a run that has room for {writes} writes: {done.stderr}", done.returncode == 0 or "No space left" in done.stderr, True)

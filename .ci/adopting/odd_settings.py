@@ -9,7 +9,7 @@ import traceback
 from pathlib import Path
 
 from common import PROGRAM, Failures, adopt, expect_said, read_files, run, workers, write_files
-import adopt as adopting
+import adopt as word
 from words import Refused
 
 ITEM = "---\n---\nx\n"
@@ -129,7 +129,7 @@ def what_goes_wrong(site: Path) -> str:
     """The traceback with which the adoption of a site ends; nothing when it ends in order, or in words."""
     with contextlib.redirect_stdout(io.StringIO()):
         try:
-            adopting.main([str(site)], PROGRAM)
+            word.main([str(site)], PROGRAM)
         except Refused:
             return ""
         except Exception:

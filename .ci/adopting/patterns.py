@@ -9,7 +9,7 @@ import time
 from pathlib import Path
 
 from common import Failures, adopt, expect_said, has, write_files
-from globs import fits, globs
+from adopting.globs import fits, globs
 
 ASKING = "cases = JSON.parse(STDIN.read); puts JSON.generate([cases[0].map { |one| File.fnmatch?(*one) }, cases[1].map { |one| Dir.glob(one) }])"
 # Parts of patterns of which each version of Ruby finds the same.

@@ -10,7 +10,7 @@ from dataclasses import dataclass
 from pathlib import Path
 
 from common import PROGRAM, Failures, has, run, workers, write_files
-import adopt as adopting
+import adopt as word
 from words import Refused
 
 NAMES = (
@@ -84,7 +84,7 @@ def make_of(folder: Path) -> Made:
     """Adopts a site, and builds what came of it, without and with drafts."""
     with contextlib.redirect_stdout(io.StringIO()):
         try:
-            adopting.main([str(folder)], PROGRAM)
+            word.main([str(folder)], PROGRAM)
         except Refused as refused:
             return Made(set(), set(), refusal=str(refused))
     copy = Path(f"{folder}-adopted")

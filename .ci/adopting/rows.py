@@ -10,7 +10,7 @@ from typing import Optional
 
 from common import GEMS, PROGRAM, Failures, build_by_jekyll, has, run, write_files
 import adopt
-import notes
+from notes import making
 
 ROWS = Path(__file__).with_name("rows.txt")
 SOMETHING = "(something)\n"
@@ -107,7 +107,7 @@ def try_rows(work: Path, failures: Failures, jekyll: bool) -> int:
         write_files(folder, row.files)
         if (folder / "_site").is_dir():
             write_files(Path(f"{folder}-jekyll"), {path[len("_site/") :]: text for path, text in row.files.items() if path.startswith("_site/")})
-        said = "\n".join(notes.silent_notes(folder, PROGRAM))
+        said = "\n".join(making.silent_notes(folder, PROGRAM))
         if said != row.said.strip():
             failures.add(f"{ROWS.name}:{row.line}: {row.name}: what is said:\n{said}")
         try_here(row, folder, failures)

@@ -95,13 +95,13 @@ def notes_that_end(room: Path) -> None:
     site = begin(room)
     script = own_copy(room / "copy", {})
     for does, line in ENDS.items():
-        write(room / "copy/share/site/notes.py", MEETS.format(does))
+        write(room / "copy/share/site/notes/making.py", MEETS.format(does))
         began = time.monotonic()
         done = subprocess.run([script, "build", site], stdin=subprocess.DEVNULL, capture_output=True, text=True, timeout=60)
         expect(done.returncode == 0 and not done.stderr, f"{does}: status {done.returncode}: {done.stderr}")
         expect(line in done.stdout and "noise" not in done.stdout, f"{does}: {done.stdout}")
         expect(time.monotonic() - began < 8, f"{does}: the build took {time.monotonic() - began:.1f} s")
-    write(room / "copy/share/site/notes.py", MEETS.format("while True: pass"))
+    write(room / "copy/share/site/notes/making.py", MEETS.format("while True: pass"))
     with Running("serve", site, site=script) as served:
         at = served.said("built: ")
         write(site / "about.html", page("while the notes are made"))

@@ -125,6 +125,8 @@ def install(clone: Path, *words, status: int = 0, mask: int = 0o022, **env: str)
 def installed(room: Path) -> None:
     """What `install` brings needs no clone."""
     clone, folder = clone_of(room), room / "in here/bin"
+    # What an older python compiled in the clone.
+    write(clone / "share/site/notes/__pycache__/old.pyc", "old")
     for _ in range(2):
         install(clone, folder, HOME=str(room))
     shutil.rmtree(clone)
@@ -138,6 +140,9 @@ def installed(room: Path) -> None:
     subprocess.run([room / "linked", "check", "blog"], cwd=room, env=env, check=True, stdout=subprocess.DEVNULL)
     expect(sorted(os.listdir(folder)) == ["site", "sitebuild"], f"what install left: {os.listdir(folder)}")
     expect(sorted(os.listdir(room / "in here/share/sitebuild")) == ["LICENSE-APACHE", "LICENSE-MIT", "NOTICES", "site"], "what install left beside")
+    parts = room / "in here/share/sitebuild/site"
+    compiled = {path.parent.parent / f"{path.name.partition('.')[0]}.py" for path in parts.rglob("*.pyc")}
+    expect(compiled == {path for path in parts.rglob("*.py")}, f"the modules that are compiled: {sorted(compiled)}")
 
 
 def installed_in_the_way(room: Path) -> None:

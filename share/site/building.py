@@ -12,11 +12,11 @@ from typing import Callable, Optional
 import beside
 from faults import ANOTHER_RUN, Fault, explain, fault_of_line, is_in_use
 from inside import OUTPUT
-from settings import CONFIGURATION
+from notes.telling import Telling
 from session import Built, Ended, Failed, LeftToScan, Session, can_be_told, read_source
+from settings import CONFIGURATION
 from site_files import scratch_outside
 from status import Status
-from telling import Telling
 from watching import Changes, Looking, NotToBeHad, mark, watch
 from words import Refused, shown
 

@@ -8,7 +8,7 @@ from pathlib import Path
 
 import beside
 import words
-from telling import Telling
+from notes.telling import Telling
 
 
 def run_program(command: list[str], folder: Path) -> int:

@@ -14,8 +14,8 @@ from typing import BinaryIO, Optional
 from urllib.parse import quote, unquote_to_bytes
 
 from inside import OUTPUT, open_below
-from settings import Settings
 from session import MOST_BYTES
+from settings import Settings
 
 PARTS = Path(__file__).parent
 # Below this are the script's own files. No page has this address by itself, since a name with a dot in front is hidden.

@@ -8,15 +8,15 @@ from pathlib import Path
 from typing import Optional
 
 import sass
-from adopt_settings import CONFIG, plugins_of, question_of, read_mended, save, texts
-from adoption import Adoption, refuse_too_much
+from adopting.adoption import Adoption, refuse_too_much
+from adopting.outcome import ask
+from adopting.publication import is_published_as_written
+from adopting.settings import CONFIG, plugins_of, question_of, read_mended, save, texts
+from adopting.tags import Includes, rewrite
+from adopting.theme import find_gem, locked_version, missing_files
 from configuration import Settings, by_lines, is_in_braces, written
 from inside import is_of_site, read_below, write_below
-from outcome import ask
-from publication import is_published_as_written
 from site_files import TEMPLATES, begins_with_mark, front_matter, line_of, name_fault, read_text, read_values, write_text
-from tags import Includes, rewrite
-from theme import find_gem, locked_version, missing_files
 from words import shown
 
 # Keys that a theme's configuration never sets: Jekyll has defaults of its own for them.

@@ -3,9 +3,9 @@ from __future__ import annotations
 
 import re
 
+from adopting.tags import ENVIRONMENT, Piece, pieces
+from notes.site import Notes, Site
 from site_files import Lines
-from site_notes import Notes, Site
-from tags import ENVIRONMENT, Piece, pieces
 
 # The filters that have a meaning: docs/PROFILE.md, "Filters of Liquid" and "Filters of Jekyll".
 FILTERS = set(

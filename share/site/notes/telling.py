@@ -2,7 +2,6 @@
 from __future__ import annotations
 
 import contextlib
-import importlib.util
 import json
 import os
 import select
@@ -16,7 +15,7 @@ from typing import TYPE_CHECKING, NoReturn, Optional
 from words import shown
 
 if TYPE_CHECKING:
-    import notes
+    from notes import making
 
 # The notes have so many seconds, and their process so many more to say them and to end.
 SECONDS = 1.0
@@ -126,7 +125,7 @@ class Maker:
         self.begun, self.known = threading.Event(), threading.Event()
         self.faulty = False
         # What was found up to now, once something is looked for.
-        self.found: Optional[notes.Said] = None
+        self.found: Optional[making.Said] = None
 
     def run(self) -> NoReturn:
         """Makes the notes, says them, and ends."""
@@ -143,16 +142,14 @@ class Maker:
             os._exit(0)
 
     def make(self) -> None:
-        if importlib.util.find_spec("notes") is None:
-            self.say([])
-            return
-        import notes
+        # Each word that makes notes starts without these, and the fork alone reads them.
         import site_files
+        from notes import making
 
         # Otherwise the program may find its files while it reads the site.
         site_files.scratch_outside(self.folder)
-        found = self.found = notes.Said()
-        notes.look(found, self.folder, self.program, self.has_fault)
+        found = self.found = making.Said()
+        making.look(found, self.folder, self.program, self.has_fault)
         self.say([])
 
     def has_fault(self) -> bool:

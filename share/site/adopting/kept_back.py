@@ -9,7 +9,7 @@ import re
 from dataclasses import dataclass, field
 from typing import Callable, Iterable, Optional
 
-from globs import fits, is_glob
+from adopting.globs import fits, is_glob
 from site_files import ALWAYS_EXCLUDED, NotRead
 
 SPECIAL = re.compile(r"[._#~]")

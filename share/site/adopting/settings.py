@@ -9,14 +9,14 @@ from pathlib import Path
 from typing import Optional
 from zoneinfo import ZoneInfo
 
-from adoption import Adoption
+from adopting.adoption import Adoption
+from adopting.globs import fits
+from adopting.kept_back import Jekyll, Program, Replaced, Rules, is_glob, lists_of_paths, names, shortened
+from adopting.outcome import Question
+from adopting.publication import is_published_as_written
+from adopting.scopes import Tree, published_by_defaults
+from adopting.scopes import mend as mend_scopes
 from configuration import Settings, by_lines, is_in_braces
-from globs import fits
-from kept_back import Jekyll, Program, Replaced, Rules, is_glob, lists_of_paths, names, shortened
-from outcome import Question
-from publication import is_published_as_written
-from scopes import Tree, published_by_defaults
-from scopes import mend as mend_scopes
 from site_files import OUTPUT, Fault, begins_with_mark, front_matter, list_files, read_text, read_values, write_text
 from words import Refused, shown
 

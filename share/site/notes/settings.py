@@ -3,10 +3,10 @@ from __future__ import annotations
 
 import re
 
-from adopt_settings import kept_by_front, lacks_pagination, rules_of, texts, unpublished_copies
-from kept_back import READ_FOLDERS, Lists, Program, Rules, is_glob, leaks, lists_of_paths, shortened
-from scopes import mend
-from site_notes import Notes, Site
+from adopting.kept_back import READ_FOLDERS, Lists, Program, Rules, is_glob, leaks, lists_of_paths, shortened
+from adopting.scopes import mend
+from adopting.settings import kept_by_front, lacks_pagination, rules_of, texts, unpublished_copies
+from notes.site import Notes, Site
 
 CONFIG = "_config.yml"
 ADOPT = "`site adopt` does that"

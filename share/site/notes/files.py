@@ -8,10 +8,10 @@ import os
 import re
 from typing import Optional
 
-from kept_back import names
+from adopting.kept_back import names
+from notes.site import Item, Notes, Site, read_part
 from session import MOST_BYTES
 from site_files import line_of
-from site_notes import Item, Notes, Site, read_part
 
 # A field may be as long as its file.
 csv.field_size_limit(MOST_BYTES)

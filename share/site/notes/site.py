@@ -8,9 +8,9 @@ from dataclasses import dataclass, field
 from pathlib import Path
 from typing import Iterator, Optional
 
-from adopt_settings import collections_of, plugins_of, texts
+from adopting.kept_back import Program
+from adopting.settings import collections_of, plugins_of, texts
 from configuration import Settings
-from kept_back import Program
 from session import MOST_BYTES
 from site_files import front_matter, line_of, list_files, open_file, read_marked, read_values, text_of
 

@@ -4,10 +4,10 @@ from __future__ import annotations
 from dataclasses import dataclass, field
 from typing import Optional
 
+from adopting.globs import globs
+from adopting.kept_back import ANY_NAME, names, shortened
+from adopting.publication import is_published
 from configuration import written
-from globs import globs
-from kept_back import ANY_NAME, names, shortened
-from publication import is_published
 
 OLD_TYPES = {"post": "posts", "page": "pages", "draft": "drafts"}
 

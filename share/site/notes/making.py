@@ -5,13 +5,10 @@ from dataclasses import dataclass, field
 from pathlib import Path
 from typing import Callable, Optional
 
-import notes_of_files
-import notes_of_markdown
-import notes_of_settings
-import notes_of_templates
-from first_faults import further_faults
+from notes import files, markdown, settings, templates
+from notes.first_faults import further_faults
+from notes.site import Notes, Site, read_site
 from site_files import TEMPLATES, first_fault, run
-from site_notes import Notes, Site, read_site
 
 NOT_KNOWN = "what else there is to say of this site is not known"
 
@@ -65,8 +62,8 @@ def differences(folder: Path, program: str) -> list[str]:
 def add_differences(notes: Notes, folder: Path, program: str) -> None:
     """Adds what is read otherwise. Raises NotRead and OSError where the site cannot be read."""
     site = read_site(folder, program)
-    notes_of_settings.add(notes, site)
-    notes_of_files.add(notes, site)
+    settings.add(notes, site)
+    files.add(notes, site)
     ours = {path.read_text(encoding="utf-8") for path in TEMPLATES.iterdir()}
     for item in site.items:
         if item.text[item.body :] not in ours:
@@ -75,13 +72,13 @@ def add_differences(notes: Notes, folder: Path, program: str) -> None:
     for path, text in site.plain.items():
         if text not in ours:
             with notes.of(path):
-                notes_of_templates.add(notes, site, path, text, 0)
+                templates.add(notes, site, path, text, 0)
     with notes.of("."):
-        notes_of_templates.add_counters(notes, site)
+        templates.add_counters(notes, site)
 
 
 def add_text(notes: Notes, site: Site, path: str, text: str, start: int) -> None:
     """What the text of a page means otherwise."""
-    notes_of_templates.add(notes, site, path, text, start)
+    templates.add(notes, site, path, text, start)
     if site.is_markdown(path):
-        notes_of_markdown.add(notes, path, text, start)
+        markdown.add(notes, path, text, start)

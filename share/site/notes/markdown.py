@@ -6,9 +6,9 @@ import re
 from dataclasses import dataclass
 from typing import Iterable, Iterator, Optional
 
-import notes_of_tables
-from site_notes import Notes
-from tags import all_pieces
+from adopting.tags import all_pieces
+from notes import tables
+from notes.site import Notes
 
 # Code, and what ends it.
 CODE_ENDS = [
@@ -75,7 +75,7 @@ def add(notes: Notes, path: str, text: str, start: int) -> None:
         notes.add(path, first + at, "code comes out without colours", "colour it in the browser by the class language-..")
     if "|" in body:
         texts = without_templates(text[start:]).split("\n")
-        notes_of_tables.add(lambda at, what, how: notes.add(path, first + at, what, how), texts, body.split("\n"))
+        tables.add(lambda at, what, how: notes.add(path, first + at, what, how), texts, body.split("\n"))
     for form in FORMS:
         for part in form.parts:
             if part in body:
@@ -118,7 +118,7 @@ def straight_signs(body: str) -> Optional[int]:
         end = body.find("\n", found.start())
         end = len(body) if end < 0 else end
         line = body[body.rfind("\n", 0, found.start()) + 1 : end]
-        if not (notes_of_tables.is_line_of_signs(line.lstrip(" >")) or is_rule(line) or DEFINITION.match(line)):
+        if not (tables.is_line_of_signs(line.lstrip(" >")) or is_rule(line) or DEFINITION.match(line)):
             return found.start()
         found = QUOTES.search(body, end)
     return None
