@@ -5,6 +5,8 @@ import sys
 import time
 
 ROOT = os.path.dirname(os.path.dirname(os.path.abspath(__file__)))
+# Where the client of a session is.
+sys.path.append(os.path.join(ROOT, "share/site"))
 PROGRAM = os.path.join(ROOT, "crates/site_bench/out/site_bench")
 KIB = 1024
 MIB = 1024 * KIB

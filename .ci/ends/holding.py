@@ -75,6 +75,6 @@ def runs_in_one_moment(room: Room) -> None:
         for session in sessions:
             session.ask("scan")
         for session in sessions:
-            session.send("build")
-        replies = sorted(session.reply()[0].split()[0] for session in sessions)
+            session.client.give(b"build\n")
+        replies = sorted(session.client.hear().split()[0] for session in sessions)
     room.same("the replies", ["built", "out-fault", "out-fault", "out-fault"], replies)

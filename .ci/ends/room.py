@@ -7,9 +7,15 @@ import re
 import shutil
 import stat
 import subprocess
+import sys
 from dataclasses import dataclass, field
 from pathlib import Path
-from typing import Callable, Iterable, Mapping
+from typing import Callable, Iterable, Mapping, Optional, Sequence
+
+# Behind the folder of the cases: some modules there have the name of one here.
+sys.path.append(str(Path(__file__).resolve().parents[2] / "share/site"))
+
+from client import Client, begin  # noqa: E402
 
 # What a terminal must not get; a line ends with LF.
 CONTROL = re.compile("[\x00-\x09\x0b-\x1f\x7f-\x9f]")
@@ -172,8 +178,8 @@ class Room:
     def once(self, **how: object) -> Ran:
         return self.run("once", **how)
 
-    def session(self, **how: object) -> Session:
-        return Session(self, self.start(["session"], stdin=subprocess.PIPE, **how))
+    def session(self, under: Sequence[str] = (), env: Optional[Mapping[str, str]] = None) -> Session:
+        return Session(self, begin(self.program, self.site, under=under, environment=env, stderr=subprocess.PIPE))
 
     # ---- what is to be
 
@@ -237,33 +243,20 @@ class Session:
 
     def __init__(self, room: Room, process: subprocess.Popen[bytes]) -> None:
         self.room, self.process = room, process
+        self.client = Client(process, errors="surrogateescape")
 
     def __enter__(self) -> Session:
         return self
 
     def __exit__(self, *_: object) -> None:
         if self.process.poll() is None:
-            self.process.kill()
-            self.process.communicate()
+            self.client.kill()
 
-    def ask(self, line: str, body: str = "") -> list[str]:
-        self.send(line, body)
-        return self.reply()
-
-    def send(self, line: str, body: str = "") -> None:
-        self.process.stdin.write(os.fsencode(f"{line}\n{body}"))
-        self.process.stdin.flush()
-
-    def reply(self) -> list[str]:
-        lines = [self.line()]
-        count = re.fullmatch(r"out-fault (\d+)", lines[0])
-        return lines + [self.line() for _ in range(int(count[1]) if count else 0)]
-
-    def line(self) -> str:
-        return text_of(self.process.stdout.readline()).removesuffix("\n")
+    def ask(self, line: str) -> list[str]:
+        return self.client.ask_all(os.fsencode(f"{line}\n"))
 
     def put(self, path: str, text: str) -> None:
-        self.room.same(f"the reply to a put of {path}", ["ok"], self.ask(f"put {path} {len(os.fsencode(text))}", text))
+        self.client.put(path, os.fsencode(text))
 
     def builds(self) -> None:
         """A build that is done."""

@@ -4,9 +4,11 @@ from __future__ import annotations
 import os
 import shutil
 import subprocess
+from contextlib import closing
 from pathlib import Path
 
 from room import Room, case
+from client import Client, begin
 
 ROOT = Path(__file__).resolve().parent.parent.parent
 # A repository of two crates.
@@ -78,12 +80,11 @@ def source_that_changes(room: Room) -> None:
 def program_that_runs(room: Room) -> None:
     checkout = Checkout(room)
     checkout.prove().communicate()
-    with subprocess.Popen([checkout.proved, "session"], cwd=room.site, stdin=subprocess.PIPE, stdout=subprocess.PIPE) as running:
+    with closing(Client(begin(checkout.proved, room.site))) as running:
         with (checkout.folder / "crates/part/src/lib.rt").open("a") as source:
             source.write("\n")
         proof = checkout.prove()
         said = proof.communicate()[1]
         room.same(f"the status ({said!r})", 0, proof.returncode)
-        replies, _ = running.communicate(b"time 1\nend\n")
-        room.same("the replies of the running one", b"ok\n", replies)
+        room.same("the reply of the running one", "ok", running.ask(b"time 1\n"))
     room.same("the names beside the program", ["built", "sitebuild"], sorted(os.listdir(checkout.proved.parent)))

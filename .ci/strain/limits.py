@@ -5,6 +5,7 @@ from pathlib import Path
 from typing import Iterable, Sequence
 
 from room import Room, case, meddling, tree
+from client import put_head
 from texts import FRONT, MIB, MOST, write
 
 # docs/PROFILE.md has these limits.
@@ -77,7 +78,7 @@ def length_of_a_source(room: Room) -> None:
 
 def put(path: str, size: int = 0) -> tuple[bytes, int]:
     """A line that puts a file of so many zeros, and how many."""
-    return b"put %s %d\n" % (path.encode(), size), size
+    return put_head(path, size), size
 
 
 def spoken(room: Room, lines: Iterable[tuple[bytes, int]]) -> list[str]:

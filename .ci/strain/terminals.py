@@ -5,6 +5,7 @@ import re
 from typing import Mapping, Sequence
 
 from room import Room, case
+from client import put_lines
 from texts import FRONT, built, write
 
 CONTROLS = [chr(code) for code in (*range(1, 32), 127)]
@@ -104,8 +105,8 @@ def reasons(room: Room) -> None:
     shown = re.sub(r"[\x00-\x1f\x7f-\x9f]", "?", name)
     page = f'---\n"\\e[31m\\nfault F1 0 forged.html\\n\\x85\\x9b": %d\n---\n{{{{ page["{name}"] }}}}{{{{ site["{name}"] }}}}'
     setting = b'"\\e[31m\\nfault F1 0 forged.html\\n\\x85\\x9b": 2\n'
-    script = b"".join(b"put a.html %d\n%sbuild\n" % (len(text), text) for text in ((page % count).encode() for count in (1, 2)))
-    script += b"put _config.yml %d\n%sbuild\n" % (len(setting), setting)
+    edits = [{"a.html": (page % 1).encode()}, {"a.html": (page % 2).encode()}, {"_config.yml": setting}]
+    script = b"".join(put_lines(edit) + b"build\n" for edit in edits)
     done = built(1)
     wanted = ["ok", "why a.html new", done, "ok", f"why a.html var a.html {shown}", done, "ok", f"why a.html site {shown}", done]
     replies(room, "a session", {}, wanted, ["session", "--why"], script)

@@ -430,8 +430,9 @@ def another_run(room: Path) -> None:
 def builds_without_end(room: Path) -> None:
     """A template that goes on for years, saved once and mended, is built no longer; and it ends with the script."""
     script = own_copy(room / "copy", {})
-    path = room / "copy/share/site/session.py"
-    path.write_text(path.read_text().replace("SLOW = 60.0", "SLOW = 1.0").replace("PATIENCE = 5.0", "PATIENCE = 1.0"))
+    for name, old, new in (("session.py", "SLOW = 60.0", "SLOW = 1.0"), ("client.py", "PATIENCE = 5.0", "PATIENCE = 1.0")):
+        path = room / "copy/share/site" / name
+        path.write_text(path.read_text().replace(old, new))
     site = begin(room)
     ranges = [f"{{% for a{number} in (1..1000) %}}" for number in range(20)]
     years = page("".join(ranges) + "{% endfor %}" * len(ranges))

@@ -10,10 +10,11 @@ from pathlib import Path
 from typing import Callable, Optional
 
 import beside
+from client import Ended
 from faults import ANOTHER_RUN, Fault, explain, fault_of_line, is_in_use
 from inside import OUTPUT
 from notes.telling import Telling
-from session import Built, Ended, Failed, LeftToScan, Session, can_be_told, read_source
+from session import Built, Failed, LeftToScan, Session, can_be_told, read_source
 from settings import CONFIGURATION
 from site_files import scratch_outside
 from status import Status

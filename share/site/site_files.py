@@ -16,10 +16,11 @@ from pathlib import Path
 from typing import BinaryIO, Iterator, Optional, Union
 
 from calling import SECONDS, NotDone, call
+from client import Ended
 from faults import read_sentence
 from inside import OUTPUT, PASSED_OVER, READING
 from scanned import entries_of
-from session import MOST_BYTES, MOST_PATH, Ended, Failed, Session
+from session import MOST_BYTES, MOST_PATH, Failed, Session
 from words import shown
 
 # What `site adopt` writes in place of plugins.

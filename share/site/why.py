@@ -14,11 +14,12 @@ from typing import Optional
 import drawing
 import words
 from building import Builder
+from client import Ended
 from drawing import Edit
 from faults import explain
 from pages import with_script
 from scanned import entries_of, is_entered, join
-from session import Built, Ended, Failed, LeftToScan, Session, can_be_told, read_source
+from session import Built, Failed, LeftToScan, Session, can_be_told, read_source
 from settings import CONFIGURATION
 
 MOST_EDITS = 16

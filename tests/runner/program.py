@@ -1,16 +1,17 @@
 """Runs the program: once in a folder, or as a session that stays."""
 import os
 import subprocess
-import threading
+import sys
+
+# Behind the modules of the runner, one of which has the name of one here.
+sys.path.append(os.path.join(os.path.dirname(os.path.abspath(__file__)), *[os.pardir] * 2, "share", "site"))
+
+from client import Client, Ended, begin  # noqa: E402
 
 # No run of a row takes so many seconds.
 PATIENCE = 120
 # The moment of each session's builds: the first of 2024.
 MOMENT = 1_704_067_200
-
-
-class Ended(Exception):
-    """The program ended where it should have gone on."""
 
 
 class Run:
@@ -56,42 +57,22 @@ class Session:
         os.makedirs(folder)
         self.folder = folder
         self.files = dict(files)
-        self.process = subprocess.Popen(
-            [program, "session"], cwd=folder, stdin=subprocess.PIPE, stdout=subprocess.PIPE, stderr=subprocess.DEVNULL
-        )
-        self.say(b"time %d\n" % MOMENT + puts(files), 1 + len(files))
+        self.client = Client(begin(program, folder), PATIENCE)
+        self.client.done(b"time %d\n" % MOMENT)
+        self.client.put_all(files)
 
     def close(self):
         """Lets the session end."""
-        self.process.stdin.close()
-        self.process.wait()
-        self.process.stdout.close()
+        self.client.close()
 
     def end(self):
         """Ends the session at once."""
-        self.process.kill()
-        self.process.wait()
-        self.process.stdout.close()
-
-    def say(self, lines, replies):
-        """Sends lines, and gives that many replies."""
-        watch = threading.Timer(PATIENCE, self.process.kill)
-        watch.start()
-        try:
-            self.process.stdin.write(lines)
-            self.process.stdin.flush()
-            found = [self.process.stdout.readline() for _ in range(replies)]
-        except OSError as failure:
-            raise Ended(f"the session ended: {failure}") from failure
-        finally:
-            watch.cancel()
-        if not all(found):
-            raise Ended("the session ended")
-        return found
+        self.client.kill()
 
     def build(self, files, output):
         """Builds with these files in place of those that are there, and gives the text of an output and the reply; afterwards all is as it was."""
-        reply = self.say(puts(files) + b"build\n", len(files) + 1)[-1].decode("utf-8", "replace").rstrip("\n")
+        self.client.put_all(files)
+        reply = self.client.ask_all(b"build\n")[0]
         text = None
         if reply.startswith("built "):
             try:
@@ -99,12 +80,7 @@ class Session:
                     text = file.read()
             except OSError:
                 reply = f"no output {output.decode()}: {reply}"
-        self.say(b"".join(b"delete %s\n" % name for name in files), len(files))
-        there = {name: self.files[name] for name in files if name in self.files}
-        self.say(puts(there), len(there))
+        for name in files:
+            self.client.delete(name)
+        self.client.put_all({name: self.files[name] for name in files if name in self.files})
         return text, reply
-
-
-def puts(files):
-    """The lines that put these files."""
-    return b"".join(b"put %s %d\n" % (name, len(data)) + data for name, data in files.items())

@@ -7,9 +7,10 @@ from dataclasses import dataclass, field, replace
 from pathlib import Path
 from typing import Optional
 
+from client import Ended
 from configuration import Settings, is_in_braces, lines_of
 from inside import OUTPUT, read_below
-from session import Ended, Failed, Session
+from session import Failed, Session
 from site_files import NotRead, list_files, scratch
 
 CONFIG = "_config.yml"
@@ -74,8 +75,7 @@ def answer(session: Session, room: Path, question: Question, heads: dict[str, Op
     numbers = {path: number for number, path in enumerate(paths)}
     session.scan()
     session.put(CONFIG, question.text().encode())
-    for path in paths:
-        session.put(path, text_of(path, numbers[path], heads[path]).encode("utf-8", "surrogateescape"))
+    session.put_all({path: text_of(path, numbers[path], heads[path]).encode("utf-8", "surrogateescape") for path in paths})
     while True:
         built = session.build(0)
         if not isinstance(built, Failed):
