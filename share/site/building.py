@@ -18,7 +18,7 @@ from session import Built, Failed, LeftToScan, Session, can_be_told, read_source
 from settings import CONFIGURATION
 from site_files import scratch_outside
 from status import Status
-from watching import Changes, Looking, NotToBeHad, mark, watch
+from watching import Changes, Looking, NotToBeHad, Watch, mark, watch
 from words import Refused, shown
 
 # An editor saves in several steps: a build waits until nothing has happened for so long, but no longer than so long in all.
@@ -91,7 +91,7 @@ class Builder:
         # What is wrong with the styles.
         self.style_fault: Optional[Fault] = None
         # Before the first scan, so that no save is missed.
-        self.watch = watch(folder, poll)
+        self.watch: Watch = watch(folder, poll)
         if self.watch.says:
             say(self.watch.says)
 
@@ -185,16 +185,16 @@ class Builder:
         if self.session and self.loss():
             self.begin_again(self.loss())
         elif changes.paths or changes.unclear:
-            self.attempt(lambda: self.update(changes), changes)
+            self.attempt(lambda session: self.update(session, changes), changes)
 
     def make_sure(self) -> None:
         """Scans, in case something was missed. The moment stays, so that nothing changes but for what was missed."""
         self.next_scan = time.monotonic() + AFTER_ALL
         self.making_sure = True
-        self.attempt(lambda: self.session.scan(), Changes(unclear=True), self.moment)
+        self.attempt(Session.scan, Changes(unclear=True), self.moment)
         self.making_sure = False
 
-    def attempt(self, update: Callable[[], Optional[Failed]], changes: Changes, moment: Optional[int] = None) -> None:
+    def attempt(self, update: Callable[[Session], Optional[Failed]], changes: Changes, moment: Optional[int] = None) -> None:
         """Builds after an update of what the session holds."""
         if self.session is None:
             self.begin_session()
@@ -202,7 +202,7 @@ class Builder:
         if CONFIGURATION in changes.paths or changes.unclear:
             self.on_configuration()
         try:
-            self.build(update, moment)
+            self.build(self.session, update, moment)
         except Ended as ended:
             self.begin_again(str(ended))
 
@@ -236,7 +236,7 @@ class Builder:
             self.session = Session(self.program, self.folder, self.options)
             self.session.is_overtaken = self.is_overtaken
             self.next_scan = time.monotonic() + AFTER_ALL
-            self.build(self.session.scan)
+            self.build(self.session, Session.scan)
         except Ended as ended:
             self.give_up(str(ended))
 
@@ -245,37 +245,37 @@ class Builder:
             self.session.close()
         self.session = None
 
-    def update(self, changes: Changes) -> Optional[Failed]:
+    def update(self, session: Session, changes: Changes) -> Optional[Failed]:
         """Gives the session what was saved: file by file if lines can take it, and by a scan if not."""
-        if self.session.scanned and not changes.unclear and len(changes.paths) <= MOST_PUTS:
+        if session.scanned and not changes.unclear and len(changes.paths) <= MOST_PUTS:
             try:
-                self.put(changes.paths)
+                self.put(session, changes.paths)
                 self.next_scan = time.monotonic() + AFTER_SAVES
                 return None
             except LeftToScan:
                 pass
         self.next_scan = time.monotonic() + AFTER_ALL
-        return self.session.scan()
+        return session.scan()
 
-    def put(self, paths: set[str]) -> None:
+    def put(self, session: Session, paths: set[str]) -> None:
         """Puts files, and deletes those that have gone, these first: one may make room for a folder of its name."""
         if not all(can_be_told(path) for path in paths):
             raise LeftToScan
         gone = {path for path in paths if read_source(self.folder, path) is None}
         for path in sorted(gone):
-            self.session.delete(path)
+            session.delete(path)
         for path in sorted(paths - gone):
             data = read_source(self.folder, path)
             if data is None:
-                self.session.delete(path)
+                session.delete(path)
             else:
-                self.session.put(path, data)
+                session.put(path, data)
 
     # ---- a build
 
-    def build(self, update: Callable[[], Optional[Failed]], moment: Optional[int] = None) -> None:
+    def build(self, session: Session, update: Callable[[Session], Optional[Failed]], moment: Optional[int] = None) -> None:
         """Brings the session up to date, builds, and says what came of it."""
-        failed = update()
+        failed = update(session)
         if failed:
             self.tell(False, self.explain(failed))
             return
@@ -284,7 +284,7 @@ class Builder:
         before = mark(self.folder, OUTPUT)
         self.status.begin()
         try:
-            outcome = self.session.build(self.moment)
+            outcome = session.build(self.moment)
         finally:
             self.status.done()
             self.output = before or mark(self.folder, OUTPUT)

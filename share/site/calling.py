@@ -9,7 +9,7 @@ import subprocess
 import time
 from dataclasses import dataclass
 from pathlib import Path
-from typing import IO, Sequence, Union
+from typing import IO, Optional, Sequence, Union
 
 SECONDS = 60.0
 MOST_SAID = 64 * 1024 * 1024
@@ -76,23 +76,30 @@ def call(words: Sequence[Union[str, Path]], folder: Path, given: bytes = b"", se
         release(guard)
 
 
-def start(command: list[str], folder: Path, output: int) -> subprocess.Popen:
+def start(command: list[str], folder: Path, output: int) -> subprocess.Popen[bytes]:
     """Starts a process in a session of its own, whose input can be written to."""
     return subprocess.Popen(command, cwd=folder, stdin=subprocess.PIPE, stdout=output, stderr=output, start_new_session=True)
 
 
-def tell(guard: subprocess.Popen, line: bytes) -> None:
+def piped(stream: Optional[IO[bytes]]) -> IO[bytes]:
+    """A stream of a process that was started with a pipe there."""
+    if stream is None:
+        raise ValueError("the process was started without a pipe there")
+    return stream
+
+
+def tell(guard: subprocess.Popen[bytes], line: bytes) -> None:
     try:
-        os.write(guard.stdin.fileno(), line)
+        os.write(piped(guard.stdin).fileno(), line)
     except BrokenPipeError:
         # Somebody has ended it.
         pass
 
 
-def release(guard: subprocess.Popen) -> None:
+def release(guard: subprocess.Popen[bytes]) -> None:
     """Has the guard end, and end nothing."""
     tell(guard, b"\n\n")
-    guard.stdin.close()
+    piped(guard.stdin).close()
     guard.wait()
 
 
@@ -111,7 +118,7 @@ class Limits:
         return SaidTooMuch(f"{self.name} was ended: it writes more than {self.most:,} bytes")
 
 
-def call_guarded(command: list[str], folder: Path, given: bytes, limits: Limits, guard: subprocess.Popen) -> Called:
+def call_guarded(command: list[str], folder: Path, given: bytes, limits: Limits, guard: subprocess.Popen[bytes]) -> Called:
     """A call whose group the guard ends if this process ends first."""
     process = start(["bash", "-p", "-c", WAITING, "bash", *command], folder, subprocess.PIPE)
     try:
@@ -126,26 +133,26 @@ def call_guarded(command: list[str], folder: Path, given: bytes, limits: Limits,
         # Until it is waited for, its number is that of no other process, so the guard cannot end another group.
         tell(guard, b"\n")
         for stream in (process.stdin, process.stdout, process.stderr):
-            stream.close()
+            piped(stream).close()
         status = wait(process, limits)
     return Called(status, *map(bytes, said))
 
 
-def end_group(process: subprocess.Popen) -> None:
+def end_group(process: subprocess.Popen[bytes]) -> None:
     try:
         os.killpg(process.pid, signal.SIGKILL)
     except ProcessLookupError:
         pass
 
 
-def wait(process: subprocess.Popen, limits: Limits) -> int:
+def wait(process: subprocess.Popen[bytes], limits: Limits) -> int:
     try:
         return process.wait(PATIENCE)
     except subprocess.TimeoutExpired:
         raise limits.too_long() from None
 
 
-def has_ended(process: subprocess.Popen) -> bool:
+def has_ended(process: subprocess.Popen[bytes]) -> bool:
     """Whether a process has ended. It is not waited for."""
     try:
         return os.waitid(os.P_PID, process.pid, os.WEXITED | os.WNOHANG | os.WNOWAIT) is not None
@@ -156,21 +163,23 @@ def has_ended(process: subprocess.Popen) -> bool:
 class Exchange:
     """What is written to a process, and what is read from it."""
 
-    def __init__(self, process: subprocess.Popen, given: bytes, limits: Limits):
+    def __init__(self, process: subprocess.Popen[bytes], given: bytes, limits: Limits):
         self.process = process
+        self.stdin, stdout, stderr = map(piped, (process.stdin, process.stdout, process.stderr))
         self.given = memoryview(given)
         self.limits = limits
         self.end = time.monotonic() + limits.seconds
         # What it has written on standard output, and on standard error.
         self.said = (bytearray(), bytearray())
         self.selector = selectors.DefaultSelector()
-        for stream, events, data in (
-            (process.stdin, selectors.EVENT_WRITE, None),
-            (process.stdout, selectors.EVENT_READ, self.said[0]),
-            (process.stderr, selectors.EVENT_READ, self.said[1]),
-        ):
-            os.set_blocking(stream.fileno(), False)
-            self.selector.register(stream, events, data)
+        # What is read from a stream is added to the bytes that it is registered with.
+        self.enter(self.stdin, selectors.EVENT_WRITE, None)
+        self.enter(stdout, selectors.EVENT_READ, self.said[0])
+        self.enter(stderr, selectors.EVENT_READ, self.said[1])
+
+    def enter(self, stream: IO[bytes], events: int, said: Optional[bytearray]) -> None:
+        os.set_blocking(stream.fileno(), False)
+        self.selector.register(stream, events, (stream, said))
 
     def __enter__(self) -> Exchange:
         return self
@@ -192,7 +201,7 @@ class Exchange:
 
     def rest(self) -> None:
         """Reads what is left. A process that has left the group may hold its output open, and is not waited for."""
-        self.leave(self.process.stdin)
+        self.leave(self.stdin)
         while self.selector.get_map() and self.step(LONGEST_WAIT):
             pass
 
@@ -200,23 +209,24 @@ class Exchange:
         """Does what can be done within so many seconds; whether something could."""
         ready = self.selector.select(seconds)
         for key, _ in ready:
-            if key.data is None:
+            stream, said = key.data
+            if said is None:
                 self.give()
             else:
-                self.take(key.fileobj, key.data)
+                self.take(stream, said)
         return bool(ready)
 
     def give(self) -> None:
         try:
-            self.given = self.given[os.write(self.process.stdin.fileno(), self.given[:PIECE]) :]
+            self.given = self.given[os.write(self.stdin.fileno(), self.given[:PIECE]) :]
         except BlockingIOError:
             return
         except BrokenPipeError:
             # It does not read any further, as it may.
             self.given = self.given[:0]
         if not self.given:
-            self.leave(self.process.stdin)
-            self.process.stdin.close()
+            self.leave(self.stdin)
+            self.stdin.close()
 
     def take(self, stream: IO[bytes], said: bytearray) -> None:
         piece = os.read(stream.fileno(), PIECE)

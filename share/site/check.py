@@ -8,6 +8,7 @@ from pathlib import Path
 
 import beside
 import words
+from calling import piped
 from notes.telling import Telling
 
 
@@ -18,7 +19,7 @@ def run_program(command: list[str], folder: Path) -> int:
     # By one way, so that a sentence does not come before its reply.
     sentences = subprocess.STDOUT if sys.stderr.isatty() else None
     with subprocess.Popen(command, cwd=folder, stdin=subprocess.DEVNULL, stdout=subprocess.PIPE, stderr=sentences) as process:
-        for line in process.stdout:
+        for line in piped(process.stdout):
             print(words.shown(line.decode(errors="replace").rstrip("\n")), flush=True)
     return process.returncode
 

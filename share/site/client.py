@@ -6,8 +6,9 @@ import select
 import subprocess
 from collections import deque
 from pathlib import Path
-from typing import IO, Mapping, Optional, Sequence, Union
+from typing import Mapping, Optional, Sequence, Union
 
+from calling import piped
 from words import shown
 
 # How long a session may take to end after it was told to.
@@ -51,13 +52,6 @@ def put_lines(files: Mapping[str, bytes] | Mapping[bytes, bytes]) -> bytes:
 
 def delete_line(path: Union[str, bytes]) -> bytes:
     return b"delete %s\n" % os.fsencode(path)
-
-
-def piped(stream: Optional[IO[bytes]]) -> IO[bytes]:
-    """A stream of a process that was started with a pipe there."""
-    if stream is None:
-        raise ValueError("the process was started without a pipe there")
-    return stream
 
 
 class Client:

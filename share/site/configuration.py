@@ -3,7 +3,7 @@ from __future__ import annotations
 
 import json
 import re
-from typing import Optional
+from typing import Any, Dict, List, Optional
 
 KEY = re.compile(r"""^(?P<indent> *)(?P<quote>["']?)(?P<key>[^\s#"'\[\]{},:-](?:[^"':#]*[^"':# \t])?)(?P=quote)[ \t]*:(?=\s|$)""")
 # The ends of lines in YAML. Other signs that end lines elsewhere may stand in a value.
@@ -12,6 +12,19 @@ LINE_END = re.compile(r"\r\n|\r|\n")
 BARE = re.compile(r"[A-Za-z_./][A-Za-z0-9_./-]*")
 OTHER_VALUES = {"null", "true", "false", "yes", "no", "on", "off"}
 BEFORE = "# Before `site adopt`:"
+
+# What YAML gives for a mapping. Its values are of any kind, so each is looked at before it is used.
+Hash = Dict[str, Any]
+
+
+def mapping(value: object) -> Hash:
+    """A value that is a mapping; an empty one in place of another."""
+    return value if isinstance(value, dict) else {}
+
+
+def listed(value: object) -> List[Any]:
+    """A value that is a list; an empty one in place of another."""
+    return value if isinstance(value, list) else []
 
 
 def written(value: object) -> str:
@@ -41,7 +54,7 @@ def is_in_braces(text: str) -> bool:
     return False
 
 
-def by_lines(text: str, values: dict) -> str:
+def by_lines(text: str, values: Hash) -> str:
     """A configuration in braces, written with a line for each key, below the old text as a comment."""
     old = [f"#   {line}".rstrip() for line in LINE_END.split(text.lstrip("\ufeff").rstrip())]
     return "".join(f"{line}\n" for line in [BEFORE, *old, *(line for key, value in values.items() for line in lines_of(key, value))])
@@ -68,7 +81,7 @@ class Settings:
         return [(match["key"], at) for match, at in found if match and match["indent"] == self.indent]
 
     @staticmethod
-    def key_of(line: str) -> Optional[re.Match]:
+    def key_of(line: str) -> Optional[re.Match[str]]:
         return KEY.match(line.lstrip("\ufeff"))
 
     def place(self, key: str) -> Optional[tuple[int, int]]:
@@ -124,7 +137,7 @@ class Settings:
         while above and self.lines[above - 1].startswith("#   "):
             above -= 1
         first = self.key_of(self.lines[above][len("#   ") :]) if above < start else None
-        return bool(first) and first["key"] == key and self.lines[above - 1] == BEFORE
+        return first is not None and first["key"] == key and self.lines[above - 1] == BEFORE
 
     def remove(self, key: str) -> None:
         """Takes a key out, for a scratch copy. Its lines stay as empty ones, so that no other has a new number."""

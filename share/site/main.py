@@ -13,12 +13,14 @@ if IS_INTERRUPTED:
     signal.signal(signal.SIGINT, signal.SIG_DFL)
 
 import importlib
+import io
 import os
+from typing import cast
 
 import words
 
 
-def run(program, arguments):
+def run(program: str, arguments: list[str]) -> int:
     """Runs one word; the status to end with."""
     word = arguments[0] if arguments else ""
     if word in ("", "help", "-h", "--help"):
@@ -31,10 +33,11 @@ def run(program, arguments):
         raise words.Refused(f"there is no word {words.shown(word)}; `site --help` lists them", 2)
     if not words.is_here(word):
         raise words.Refused(f"the part {word}.py is missing; run `bash install` again in a clone of sitebuild")
-    return importlib.import_module(word).main(arguments[1:], program)
+    status: int = importlib.import_module(word).main(arguments[1:], program)
+    return status
 
 
-def program_place(program):
+def program_place(program: str) -> str:
     """Where the program is, whatever folder it is run in."""
     try:
         return os.path.abspath(program)
@@ -42,7 +45,7 @@ def program_place(program):
         raise words.Refused("the current folder is not there any more; go to another one first") from None
 
 
-def open_missing_streams():
+def open_missing_streams() -> None:
     """What is started without standard streams gets ones that lead nowhere: otherwise a file that is opened would be one of them."""
     for number, name in enumerate(("stdin", "stdout", "stderr")):
         try:
@@ -53,10 +56,10 @@ def open_missing_streams():
             setattr(sys, name, open(number, "r" if number == 0 else "w", encoding="utf-8", closefd=False))
 
 
-def main():
+def main() -> int:
     open_missing_streams()
     for stream in (sys.stdout, sys.stderr):
-        stream.reconfigure(errors="backslashreplace", line_buffering=True)
+        cast(io.TextIOWrapper, stream).reconfigure(errors="backslashreplace", line_buffering=True)
     try:
         if IS_INTERRUPTED:
             signal.signal(signal.SIGINT, signal.default_int_handler)

@@ -16,9 +16,9 @@ from pathlib import Path
 from typing import Optional
 
 from calling import NotDone, TookTooLong, call
-from configuration import Settings, by_lines, is_in_braces
+from configuration import Hash, Settings, by_lines, is_in_braces
 from inside import OUTPUT, is_of_site, read_below, stays_inside, write_below
-from site_files import NotRead, first_fault, front_matter, line_of, list_files, read_text, read_values, run, scratch, write_text
+from site_files import NotRead, first_fault, front_matter, head_of, line_of, list_files, read_text, read_values, run, scratch, write_text
 
 # A style that takes longer has a loop without an end.
 SECONDS = 10.0
@@ -56,7 +56,7 @@ class Style:
 class Sheets:
     """The site's settings for Sass."""
 
-    config: dict
+    config: Hash
     text: str
 
     def load_paths(self) -> list[str]:
@@ -194,7 +194,7 @@ def render(folder: Path, program: str, styles: list[Style], sheets: Sheets, room
         return said.stderr.strip() if said.returncode else ""
     for number, style in enumerate(styles):
         if fault.path == sheet_name(number):
-            keys = front_matter(read_text(room / sheet_name(number)))[1].count("\n") + 1 - len(OWN_KEYS) - 1
+            keys = head_of(read_text(room / sheet_name(number)))[1].count("\n") + 1 - len(OWN_KEYS) - 1
             line = fault.line if fault.line <= keys else fault.line - keys - len(OWN_KEYS) - 3 + style.body_line
             return str(replace(fault, path=style.source, line=line))
     return str(fault)
@@ -221,7 +221,7 @@ def compile_one(folder: Path, style: Style, sheets: Sheets, sources: Path, sheet
         return [refusal(done.stderr.decode(errors="replace"), style, folder)]
     split = split_map(done.stdout)
     outside = [name for name in split[1] if not is_own(name, sources)] if split else ["a file that it does not name"]
-    if outside:
+    if split is None or outside:
         return [f"{style.source}: sassc has read {outside[0]}, which is no file of the site, so its CSS is thrown away; put the file into the site"]
     css = split[0].decode("utf-8", "surrogateescape").rstrip("\n") + "\n\n" + mark(style.source)
     if not stays_inside(folder, style.css):

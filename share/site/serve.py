@@ -14,6 +14,7 @@ from contextlib import closing
 from dataclasses import asdict
 from http.server import BaseHTTPRequestHandler, ThreadingHTTPServer
 from socketserver import TCPServer
+from typing import TYPE_CHECKING, BinaryIO, Tuple, Union
 
 import why
 import words
@@ -21,6 +22,9 @@ from building import Builder, say
 from pages import OWN, Answer, Pages
 from settings import read_settings
 from stopping import until_stopped
+
+if TYPE_CHECKING:
+    from _typeshed import WriteableBuffer
 
 ADDRESS = "127.0.0.1"
 NOT_ASCII = re.compile(rb"[\x80-\xff]")
@@ -54,10 +58,10 @@ class Server(ThreadingHTTPServer):
         self.held: dict[socket.socket, None] = {}
         self.holding = threading.Lock()
 
-    def server_bind(self):
+    def server_bind(self) -> None:
         # Not as an HTTPServer does it, which asks the name service for a name of the address, and may wait for it.
         TCPServer.server_bind(self)
-        self.server_name, self.server_port = self.server_address
+        self.server_name, self.server_port = ADDRESS, self.server_address[1]
 
     def configure(self) -> None:
         """Reads the address of the site. If the configuration cannot be read, the address stays as it was."""
@@ -66,7 +70,7 @@ class Server(ThreadingHTTPServer):
             self.told = True
             say(f"http://{ADDRESS}:{self.server_port}{words.shown(self.pages.settings.baseurl)}/  (Ctrl-C ends it)")
 
-    def process_request(self, request, client_address):
+    def process_request(self, request: socket.socket, client_address: object) -> None:  # type: ignore[override]  # what comes over TCP is a connection
         if not self.places.acquire(blocking=False):
             self.shutdown_request(request)
             return
@@ -78,7 +82,7 @@ class Server(ThreadingHTTPServer):
             self.forget(request)
             self.shutdown_request(request)
 
-    def process_request_thread(self, request, client_address):
+    def process_request_thread(self, request: socket.socket, client_address: object) -> None:  # type: ignore[override]  # what comes over TCP is a connection
         try:
             super().process_request_thread(request, client_address)
         finally:
@@ -102,7 +106,7 @@ class Server(ThreadingHTTPServer):
             self.held.pop(request, None)
         self.places.release()
 
-    def handle_error(self, request, client_address):
+    def handle_error(self, request: Union[socket.socket, Tuple[bytes, socket.socket]], client_address: object) -> None:
         # A client that has gone, or does not read, is nobody's fault.
         if not isinstance(sys.exc_info()[1], OSError):
             super().handle_error(request, client_address)
@@ -118,7 +122,7 @@ class Incoming(io.RawIOBase):
     def readable(self) -> bool:
         return True
 
-    def readinto(self, buffer) -> int:
+    def readinto(self, buffer: WriteableBuffer) -> int:
         left = self.until - time.monotonic()
         if left <= 0:
             raise socket.timeout("its request was not whole in time")
@@ -131,29 +135,31 @@ class Handler(BaseHTTPRequestHandler):
     server_version = "site"
     sys_version = ""
     disable_nagle_algorithm = True
+    server: Server
+    raw_requestline: bytes
 
-    def log_message(self, form, *values):
+    def log_message(self, format: str, *values: object) -> None:
         pass
 
-    def setup(self):
+    def setup(self) -> None:
         super().setup()
         self.incoming = Incoming(self.connection)
         self.rfile = io.BufferedReader(self.incoming)
 
-    def handle_one_request(self):
+    def handle_one_request(self) -> None:
         # For the whole of its head, and not for each byte of it.
         self.incoming.until = time.monotonic() + CLIENT_WAITS
         super().handle_one_request()
 
-    def parse_request(self):
+    def parse_request(self) -> bool:
         # An address as it is typed: python would take some of its bytes for spaces.
         self.raw_requestline = NOT_ASCII.sub(lambda found: b"%%%02X" % found[0][0], self.raw_requestline)
         return super().parse_request()
 
-    def do_HEAD(self):
+    def do_HEAD(self) -> None:
         self.do_GET()
 
-    def do_GET(self):
+    def do_GET(self) -> None:
         self.connection.settimeout(CLIENT_WAITS)
         host = self.headers.get("Host", "")
         if not OUR_HOSTS.fullmatch(host):
@@ -191,17 +197,17 @@ class Handler(BaseHTTPRequestHandler):
         self.send_header("Cache-Control", "no-store")
         self.end_headers()
         if answer.file:
-            with answer.file:
+            with answer.file as file:
                 if self.command != "HEAD":
-                    self.send_file(answer)
+                    self.send_file(file, answer.size)
         elif self.command != "HEAD":
             self.wfile.write(answer.data)
 
-    def send_file(self, answer: Answer) -> None:
+    def send_file(self, file: BinaryIO, size: int) -> None:
         """Sends as many bytes as were announced; a file that has become shorter ends the connection."""
-        left = answer.size
+        left = size
         while left:
-            part = answer.file.read(min(left, 1 << 16))
+            part = file.read(min(left, 1 << 16))
             if not part:
                 self.close_connection = True
                 return

@@ -88,7 +88,8 @@ class Session(Client):
         self.done(b"time %d\n" % moment)
         *whys, last = replies = self.ask_all(b"build\n")
         if last.startswith("built "):
-            return Built(*(int(part.split("=")[1]) for part in last.split()[1:5]), [split_why(reply, self.folder) for reply in whys])
+            rendered, reused, written, removed = (int(part.split("=")[1]) for part in last.split()[1:5])
+            return Built(rendered, reused, written, removed, [split_why(reply, self.folder) for reply in whys])
         at = next(at for at, reply in enumerate(replies) if not reply.startswith("why "))
         return Failed(replies[at], [reply[len("marked ") :] for reply in replies[at + 1 :]])
 

@@ -99,7 +99,7 @@ def list_files(folder: Path) -> Listing:
     return found
 
 
-def sort_entry(folder: Path, found: Listing, left: list[str], below: str, entry: os.DirEntry) -> None:
+def sort_entry(folder: Path, found: Listing, left: list[str], below: str, entry: os.DirEntry[str]) -> None:
     """Adds one name of a folder to what is found, or to the folders that are left."""
     path = f"{below}/{entry.name}" if below else entry.name
     fault = name_fault(path)
@@ -168,9 +168,17 @@ def umask() -> int:
     return mask
 
 
-def front_matter(text: str) -> Optional[re.Match]:
+def front_matter(text: str) -> Optional[re.Match[str]]:
     """The front matter: group 1 is its text, and the body begins after the match."""
     return FRONT_MATTER.match(text)
+
+
+def head_of(text: str) -> re.Match[str]:
+    """The front matter of a text that has some. Raises ValueError for another."""
+    found = front_matter(text)
+    if found is None:
+        raise ValueError("this text has no front matter")
+    return found
 
 
 def begins_with_mark(path: Path) -> bool:
@@ -237,7 +245,7 @@ def default_scratch() -> list[str]:
         return []
 
 
-def run(program: str, folder: Path, *words: str) -> subprocess.CompletedProcess:
+def run(program: str, folder: Path, *words: str) -> subprocess.CompletedProcess[str]:
     """Runs the program in a folder; its status, and what it says. Raises NotRead when it cannot be run, or does not end."""
     try:
         done = call([program, *words], folder)
@@ -246,7 +254,7 @@ def run(program: str, folder: Path, *words: str) -> subprocess.CompletedProcess:
     return subprocess.CompletedProcess(words, done.status, done.stdout.decode(errors="replace"), done.stderr.decode(errors="replace"))
 
 
-def first_fault(said: subprocess.CompletedProcess) -> Optional[Fault]:
+def first_fault(said: subprocess.CompletedProcess[str]) -> Optional[Fault]:
     """The fault that the program told; nothing when it told none."""
     reply = REPLY.search(said.stdout)
     if not reply:

@@ -5,7 +5,7 @@ import threading
 import time
 from contextlib import contextmanager
 from dataclasses import dataclass
-from typing import Callable, Optional
+from typing import Callable, Iterator, Optional
 
 from faults import Fault
 
@@ -25,7 +25,7 @@ class State:
 class Status:
     """Shared by the builder and by the threads that serve."""
 
-    def __init__(self):
+    def __init__(self) -> None:
         self.changed = threading.Condition()
         self.run = time.time_ns()
         self.count = 0
@@ -63,7 +63,7 @@ class Status:
             self.changed.notify_all()
 
     @contextmanager
-    def reading(self):
+    def reading(self) -> Iterator[State]:
         """A time in which no build writes, so that nobody is served half a page. Gives the state."""
         with self.changed:
             self.changed.wait_for(lambda: not self.building, READER_WAITS)

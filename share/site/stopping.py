@@ -3,6 +3,8 @@ from __future__ import annotations
 
 import signal
 from contextlib import contextmanager
+from types import FrameType
+from typing import Iterator, NoReturn, Optional
 
 SIGNALS = (signal.SIGINT, signal.SIGTERM, signal.SIGHUP)
 
@@ -11,7 +13,7 @@ class Stopped(BaseException):
     """A signal has asked for the end."""
 
 
-def stop(number, frame) -> None:
+def stop(number: int, frame: Optional[FrameType]) -> NoReturn:
     # What ends in order is not disturbed by a second signal.
     for other in SIGNALS:
         signal.signal(other, signal.SIG_IGN)
@@ -19,7 +21,7 @@ def stop(number, frame) -> None:
 
 
 @contextmanager
-def until_stopped():
+def until_stopped() -> Iterator[None]:
     """What is within ends in order at Ctrl-C and SIGTERM."""
     for number in SIGNALS:
         # `nohup` has its way.

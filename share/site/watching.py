@@ -10,13 +10,22 @@ import struct
 import time
 from dataclasses import dataclass, field
 from pathlib import Path
-from typing import Optional
+from typing import Optional, Protocol, Tuple, Union
 
 from inside import OUTPUT
 from scanned import entries_of, is_entered, join
 
 # Seconds between two looks.
 BETWEEN_LOOKS = 0.2
+
+# What tells a file from its earlier states; nothing for a file that has gone meanwhile.
+State = Tuple[int, ...]
+
+
+class Readable(Protocol):
+    """What can be waited for until it can be read."""
+
+    def fileno(self) -> int: ...
 
 
 class NotToBeHad(Exception):
@@ -96,7 +105,7 @@ class Inotify:
     def close(self) -> None:
         os.close(self.number)
 
-    def wait(self, seconds: float, *others) -> bool:
+    def wait(self, seconds: float, *others: Readable) -> bool:
         """Waits until something can be taken, at most so long, and no longer than until another can be read."""
         ready, _, _ = select.select([self.number, *others], [], [], max(seconds, 0))
         return self.number in ready
@@ -208,7 +217,7 @@ class Looking:
     def close(self) -> None:
         pass
 
-    def wait(self, seconds: float, *others) -> bool:
+    def wait(self, seconds: float, *others: Readable) -> bool:
         until = time.monotonic() + seconds
         while True:
             self.compare()
@@ -231,9 +240,10 @@ class Looking:
         self.found.add(Changes(changed - closed, bool(closed), output != self.output))
         self.seen, self.output = now, output
 
-    def look(self) -> dict:
+    def look(self) -> dict[str, Optional[State]]:
         """The state of each file; none for a folder that cannot be read."""
-        seen, left = {}, [""]
+        seen: dict[str, Optional[State]] = {}
+        left = [""]
         while left:
             folder = left.pop()
             try:
@@ -250,7 +260,7 @@ class Looking:
         return seen
 
 
-def state(entry: os.DirEntry):
+def state(entry: os.DirEntry[str]) -> State:
     """What tells a file from its earlier states."""
     try:
         status = entry.stat(follow_symlinks=False)
@@ -259,7 +269,10 @@ def state(entry: os.DirEntry):
     return status.st_mtime_ns, status.st_ctime_ns, status.st_size, status.st_ino
 
 
-def watch(top: Path, poll: bool = False):
+Watch = Union[Inotify, Looking]
+
+
+def watch(top: Path, poll: bool = False) -> Watch:
     """What notices saves in this folder."""
     if poll:
         return Looking(top, "as you wish")

@@ -7,7 +7,7 @@ import os
 import sys
 from dataclasses import dataclass
 from pathlib import Path
-from typing import NoReturn
+from typing import Callable, NoReturn
 
 MOST_JOBS = 64
 FIRST_PORT = 4000
@@ -90,7 +90,7 @@ def parser(name: str) -> argparse.ArgumentParser:
     )
 
 
-def number(least: int, most: int):
+def number(least: int, most: int) -> Callable[[str], int]:
     """What reads an option's number."""
 
     def read(text: str) -> int:

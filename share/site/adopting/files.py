@@ -14,9 +14,9 @@ from adopting.publication import is_published_as_written
 from adopting.settings import CONFIG, plugins_of, question_of, read_mended, save, texts
 from adopting.tags import Includes, rewrite
 from adopting.theme import find_gem, locked_version, missing_files
-from configuration import Settings, by_lines, is_in_braces, written
+from configuration import Hash, Settings, by_lines, is_in_braces, mapping, written
 from inside import is_of_site, read_below, write_below
-from site_files import TEMPLATES, begins_with_mark, front_matter, line_of, name_fault, read_text, read_values, write_text
+from site_files import TEMPLATES, begins_with_mark, front_matter, head_of, line_of, name_fault, read_text, read_values, write_text
 from words import shown
 
 # Keys that a theme's configuration never sets: Jekyll has defaults of its own for them.
@@ -36,12 +36,11 @@ def template(name: str) -> str:
     return (TEMPLATES / name).read_text(encoding="utf-8")
 
 
-def read_configuration(adoption: Adoption) -> tuple[Settings, dict]:
+def read_configuration(adoption: Adoption) -> tuple[Settings, Hash]:
     """The configuration of the copy, and what it says."""
     path = adoption.folder / CONFIG
     text = read_text(path) if path.is_file() else ""
-    config = read_values(adoption.program, {CONFIG: text}).of.get(CONFIG)
-    config = config if isinstance(config, dict) else {}
+    config = mapping(read_values(adoption.program, {CONFIG: text}).of.get(CONFIG))
     return Settings(by_lines(text, config) if is_in_braces(text) else text), config
 
 
@@ -61,7 +60,7 @@ def with_front_matter(adoption: Adoption) -> dict[str, str]:
 
 def yaml_of(text: str) -> str:
     """The front matter as a text of YAML, with the lines that it has in its file."""
-    return "---\n" + front_matter(text)[1]
+    return f"---\n{head_of(text)[1]}"
 
 
 def mend_front_matter(adoption: Adoption) -> None:
@@ -73,19 +72,19 @@ def mend_front_matter(adoption: Adoption) -> None:
             value, fault, mended, moved = read_mended(adoption.program, path, yaml_of(text))
             if fault or not moved:
                 continue
-            text = text.replace(front_matter(text)[1], mended[len("---\n") :], 1)
+            text = text.replace(head_of(text)[1], mended[len("---\n") :], 1)
             adoption.done(f"{path}:{min(moved)}", "the bracket is moved in: at its key's indent it is not read")
             write_text(adoption.folder / path, text)
         else:
             value = values.of[path]
-        has_other = isinstance(value, dict) and not isinstance(value.get("published", True), bool)
-        if has_other and not path.startswith("_layouts/"):
-            mend_published(adoption, path, text, value["published"])
+        published = mapping(value).get("published", True)
+        if not isinstance(published, bool) and not path.startswith("_layouts/"):
+            mend_published(adoption, path, text, published)
 
 
 def mend_published(adoption: Adoption, path: str, text: str, value: object) -> None:
     """Writes `published` as a truth value: as Jekyll reads it, and false when it is no clear word."""
-    match = front_matter(text)
+    match = head_of(text)
     settings = Settings(match[1])
     place = settings.place("published")
     if place is None:
@@ -107,7 +106,7 @@ def mend_published(adoption: Adoption, path: str, text: str, value: object) -> N
 # ---- the theme
 
 
-def adopt_theme(adoption: Adoption, config: dict, given: Optional[Path]) -> None:
+def adopt_theme(adoption: Adoption, config: Hash, given: Optional[Path]) -> None:
     """The theme's files go in where the site has none of the name, and the keys of its configuration too."""
     key = next((key for key in ("remote_theme", "theme") if isinstance(config.get(key), str)), None)
     name = config[key] if key else ""
@@ -138,7 +137,7 @@ def adopt_theme(adoption: Adoption, config: dict, given: Optional[Path]) -> None
         save(adoption, settings, config)
 
 
-def adopt_theme_keys(adoption: Adoption, settings: Settings, config: dict, folder: Path, place: str) -> None:
+def adopt_theme_keys(adoption: Adoption, settings: Settings, config: Hash, folder: Path, place: str) -> None:
     """The keys of the theme's `_config.yml` that the site has not."""
     path = folder / CONFIG
     if not path.is_file() or path.is_symlink() or config.get("ignore_theme_config") is True:
@@ -224,7 +223,7 @@ def write_page(adoption: Adoption, path: str, keys: list[str], body: str, what: 
     adoption.done(path, what)
 
 
-def write_feeds(adoption: Adoption, config: dict) -> None:
+def write_feeds(adoption: Adoption, config: Hash) -> None:
     """The feeds of jekyll-feed, as templates."""
     if "jekyll-feed" not in plugins_of(config, adoption.original):
         return
@@ -247,10 +246,6 @@ def write_feeds(adoption: Adoption, config: dict) -> None:
         adoption.left(f"{CONFIG}:{settings.line('feed')}", "feeds by tag are not made; write one as feed.xml with its tag")
 
 
-def mapping(value: object) -> dict:
-    return value if isinstance(value, dict) else {}
-
-
 def write_feed(adoption: Adoption, path: str, keys: list[str]) -> None:
     if not can_be_written(path) or not path.endswith(".xml"):
         adoption.left(CONFIG, f"the feed {shown(path)} is not made; give it a path that ends with .xml")
@@ -263,7 +258,7 @@ def can_be_written(path: str) -> bool:
     return not name_fault(path) and is_of_site(path) and all(len(name.encode()) <= MOST_NAME for name in path.split("/"))
 
 
-def write_sitemap(adoption: Adoption, config: dict) -> None:
+def write_sitemap(adoption: Adoption, config: Hash) -> None:
     """The files of jekyll-sitemap, as templates."""
     if "jekyll-sitemap" in plugins_of(config, adoption.original):
         write_page(adoption, "sitemap.xml", ["layout: none"], template("sitemap.xml"), "is new: what jekyll-sitemap makes, as a template")
@@ -276,13 +271,13 @@ def write_redirects(adoption: Adoption) -> None:
     if "jekyll-redirect-from" not in plugins_of(config, adoption.original):
         return
     items = with_front_matter(adoption)
-    asking = {path: text for path, text in items.items() if re.search(r"^redirect_(from|to|source)[ \t]*:", front_matter(text)[1], re.M)}
+    asking = {path: text for path, text in items.items() if re.search(r"^redirect_(from|to|source)[ \t]*:", head_of(text)[1], re.M)}
     coming = coming_out(adoption, config, list(asking))
     asking = {path: text for path, text in asking.items() if path in coming}
     values = read_values(adoption.program, {path: yaml_of(text) for path, text in asking.items()}).of
     layout = os.path.splitext(own_name(adoption, "_layouts", "redirect.html", template("redirect.html")))[0]
     used = False
-    taken = {str(values[path].get("permalink")) for path in values if path.startswith(f"{REDIRECTS}/")}
+    taken = {str(mapping(values[path]).get("permalink")) for path in values if path.startswith(f"{REDIRECTS}/")}
     for path, value in values.items():
         if path.startswith(f"{REDIRECTS}/") or not isinstance(value, dict) or value.get("published") is False:
             continue
@@ -319,7 +314,7 @@ def write_redirect(adoption: Adoption, path: str, text: str, address: str, layou
 
 def redirect_page(adoption: Adoption, path: str, text: str, layout: str) -> bool:
     """A page that leads elsewhere has the layout that says so, in place of its own."""
-    match = front_matter(text)
+    match = head_of(text)
     line = re.compile(r"^layout[ \t]*:.*?(\r?)$", re.M)
     new = line.sub(rf"layout: {layout}\1", match[1]) if line.search(match[1]) else f"{match[1]}layout: {layout}\n"
     if not re.search(r"^sitemap[ \t]*:", match[1], re.M):
@@ -330,7 +325,7 @@ def redirect_page(adoption: Adoption, path: str, text: str, layout: str) -> bool
     return True
 
 
-def coming_out(adoption: Adoption, config: dict, paths: list[str]) -> set[str]:
+def coming_out(adoption: Adoption, config: Hash, paths: list[str]) -> set[str]:
     """Those of these files that come out of the site as it is now. The program is asked."""
     heads = {}
     for path in paths:

@@ -96,7 +96,8 @@ def sign_at(pattern: str, at: int) -> tuple[str, int]:
 @lru_cache(maxsize=None)
 def without_braces(pattern: str) -> tuple[str, ...]:
     """The patterns that one with braces stands for. Raises NotRead when they are too many."""
-    done, left = [], [pattern]
+    done: list[str] = []
+    left = [pattern]
     while left:
         if len(done) + len(left) > MOST_PATTERNS:
             raise NotRead(f"the pattern {pattern[:60]} stands for more than {MOST_PATTERNS:,} others; write them out")

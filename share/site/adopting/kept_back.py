@@ -132,7 +132,8 @@ class Jekyll:
 
     def below(self, folder: str, dots: bool) -> list[str]:
         """The files below a folder that is read whole."""
-        inner, left = [], [folder]
+        inner: list[str] = []
+        left = [folder]
         while left:
             for path in self.folders.get(left.pop(), []):
                 if dots or not path.rpartition("/")[2].startswith("."):

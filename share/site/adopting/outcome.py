@@ -5,7 +5,7 @@ import re
 import threading
 from dataclasses import dataclass, field, replace
 from pathlib import Path
-from typing import Optional
+from typing import Any, Optional
 
 from client import Ended
 from configuration import Settings, is_in_braces, lines_of
@@ -37,7 +37,7 @@ class Question:
     exclude: list[str]
     # Each is asked of as if it had output.
     collections: list[str]
-    defaults: list
+    defaults: list[Any]
     unpublished: bool
 
     def text(self) -> str:

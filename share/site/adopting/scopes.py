@@ -2,12 +2,12 @@
 from __future__ import annotations
 
 from dataclasses import dataclass, field
-from typing import Optional
+from typing import Any, Optional
 
 from adopting.globs import globs
 from adopting.kept_back import ANY_NAME, names, shortened
 from adopting.publication import is_published
-from configuration import written
+from configuration import Hash, written
 
 OLD_TYPES = {"post": "posts", "page": "pages", "draft": "drafts"}
 
@@ -53,7 +53,7 @@ class Mended:
         self.differences.append(Difference(part, otherwise, now))
 
 
-def mend(defaults: list, files: list[str], types: list[str]) -> Mended:
+def mend(defaults: list[Any], files: list[str], types: list[str]) -> Mended:
     """`types` are the types that the site has, the names of its collections among them."""
     mended = Mended([])
     tree = Tree(files)
@@ -69,7 +69,7 @@ def mend(defaults: list, files: list[str], types: list[str]) -> Mended:
     return mended
 
 
-def mend_entry(values: dict, scope: dict, tree: Tree, types: list[str], mended: Mended) -> list[dict]:
+def mend_entry(values: Hash, scope: Hash, tree: Tree, types: list[str], mended: Mended) -> list[Hash]:
     path, kind = scope.get("path"), scope.get("type")
     if not isinstance(path, str):
         mended.tell("scope", "a scope has no path, and is for all files in Jekyll", 'its path is "" now')
@@ -124,10 +124,10 @@ def paths_of(scope: str, tree: Tree) -> list[str]:
     return found
 
 
-def published_by_defaults(defaults: list, path: str, kind: Optional[str], tree: Tree) -> bool:
+def published_by_defaults(defaults: list[Any], path: str, kind: Optional[str], tree: Tree) -> bool:
     """Whether Jekyll lets a copied file come out: its defaults say so, which do not reach it here. `path` is that of its address."""
-    merged: dict = {}
-    before: Optional[dict] = None
+    merged: Hash = {}
+    before: Optional[Hash] = None
     for entry in defaults:
         if not isinstance(entry, dict) or not isinstance(entry.get("values"), dict):
             continue
@@ -141,23 +141,24 @@ def published_by_defaults(defaults: list, path: str, kind: Optional[str], tree: 
     return bool(is_published(merged.get("published", True)))
 
 
-def type_of(scope: dict) -> object:
+def type_of(scope: Hash) -> object:
     """The type of a scope, by its present name."""
     kind = scope["type"]
     return OLD_TYPES.get(kind, kind) if isinstance(kind, str) else kind
 
 
-def path_of(scope: dict) -> str:
-    return scope["path"] if isinstance(scope.get("path"), str) else ""
+def path_of(scope: Hash) -> str:
+    path = scope.get("path")
+    return path if isinstance(path, str) else ""
 
 
-def comes_after(scope: dict, before: dict) -> bool:
+def comes_after(scope: Hash, before: Hash) -> bool:
     """Whether Jekyll lets this scope win over the one before."""
     if len(path_of(scope)) != len(path_of(before)):
         return len(path_of(scope)) > len(path_of(before))
     return "type" in scope or "type" not in before
 
 
-def merge(under: dict, over: dict) -> dict:
+def merge(under: Hash, over: Hash) -> Hash:
     """The values of both; what has no value hides nothing."""
     return {**under, **{key: value for key, value in over.items() if value is not None or key not in under}}

@@ -10,14 +10,15 @@ from typing import Optional
 from zoneinfo import ZoneInfo
 
 from adopting.adoption import Adoption
-from adopting.globs import fits
-from adopting.kept_back import Jekyll, Program, Replaced, Rules, is_glob, lists_of_paths, names, shortened
+from adopting.globs import fits, is_glob
+from adopting.kept_back import Jekyll, Program, Replaced, Rules, lists_of_paths, names, shortened
 from adopting.outcome import Question
 from adopting.publication import is_published_as_written
 from adopting.scopes import Tree, published_by_defaults
 from adopting.scopes import mend as mend_scopes
-from configuration import Settings, by_lines, is_in_braces
-from site_files import OUTPUT, Fault, begins_with_mark, front_matter, list_files, read_text, read_values, write_text
+from configuration import Hash, Settings, by_lines, is_in_braces, listed
+from inside import OUTPUT
+from site_files import Fault, begins_with_mark, front_matter, list_files, read_text, read_values, write_text
 from words import Refused, shown
 
 CONFIG = "_config.yml"
@@ -31,7 +32,7 @@ BRACKETS = "a list or mapping in brackets"
 FOLDERS = {"layouts_dir": "_layouts", "includes_dir": "_includes", "data_dir": "_data"}
 
 
-def adopt_configuration(adoption: Adoption) -> dict:
+def adopt_configuration(adoption: Adoption) -> Hash:
     """Mends the configuration; what it says in the end."""
     find_configuration(adoption)
     path = adoption.folder / CONFIG
@@ -61,7 +62,7 @@ def adopt_configuration(adoption: Adoption) -> dict:
     return config
 
 
-def save(adoption: Adoption, settings: Settings, config: dict) -> None:
+def save(adoption: Adoption, settings: Settings, config: Hash) -> None:
     """Writes the configuration. It has to say what is wanted: a text that is laid out in an odd way may not bear the edits."""
     text = settings.text()
     values = read_values(adoption.program, {CONFIG: text})
@@ -109,7 +110,7 @@ def read_mended(program: str, name: str, text: str) -> tuple[object, Optional[Fa
         moved.append(mended[1])
 
 
-def readable(adoption: Adoption, text: str) -> tuple[str, dict]:
+def readable(adoption: Adoption, text: str) -> tuple[str, Hash]:
     """The text as the program reads it, and what it says. Of settings that are not read nobody knows what must not come out."""
     config, fault, text, moved = read_mended(adoption.program, CONFIG, text)
     if fault:
@@ -134,7 +135,7 @@ def tell_faults(program: str, text: str, fault: Optional[Fault]) -> None:
         fault = read_values(program, {CONFIG: settings.text()}).faults.get(CONFIG)
 
 
-def refuse_other_source(config: dict) -> None:
+def refuse_other_source(config: Hash) -> None:
     source = str(config.get("source") or ".").strip("/")
     if source not in (".", ""):
         raise Refused(
@@ -143,7 +144,7 @@ def refuse_other_source(config: dict) -> None:
         )
 
 
-def rename_folders(adoption: Adoption, settings: Settings, config: dict) -> bool:
+def rename_folders(adoption: Adoption, settings: Settings, config: Hash) -> bool:
     """Folders that have names of their own get those that the program knows. Whether collections were moved."""
     for key, name in FOLDERS.items():
         given = folder_in(settings, config, key) or name
@@ -166,7 +167,7 @@ def rename_folders(adoption: Adoption, settings: Settings, config: dict) -> bool
     return bool(given)
 
 
-def folder_in(settings: Settings, config: dict, key: str) -> str:
+def folder_in(settings: Settings, config: Hash, key: str) -> str:
     """The folder that a key names. It has to be in the site: it is going to be moved."""
     given = str(config.get(key) or "").removeprefix("./").rstrip("/")
     if any(part in ("", ".", "..") for part in given.split("/")) and given:
@@ -196,7 +197,7 @@ def texts(value: object) -> list[str]:
     return [one if isinstance(one, str) else str(one) for one in value] if isinstance(value, list) else []
 
 
-def plugins_of(config: dict, folder: Path) -> list[str]:
+def plugins_of(config: Hash, folder: Path) -> list[str]:
     """The plugins of a site: of its configuration, and of the group jekyll_plugins of its Gemfile."""
     found = texts(config.get("plugins")) + texts(config.get("gems"))
     try:
@@ -212,18 +213,18 @@ def plugins_of(config: dict, folder: Path) -> list[str]:
     return found
 
 
-def lacks_pagination(config: dict, folder: Path) -> bool:
+def lacks_pagination(config: Hash, folder: Path) -> bool:
     """Whether Jekyll makes no pages by `paginate`. A site that names no plugin, gem or theme was not written for Jekyll."""
     of_jekyll = any(config.get(key) is not None for key in ("plugins", "gems", "theme", "remote_theme")) or (folder / "Gemfile").is_file()
     return of_jekyll and bool(config.get("paginate")) and not PAGINATION & set(plugins_of(config, folder))
 
 
-def collections_of(config: dict) -> list[str]:
+def collections_of(config: Hash) -> list[str]:
     given = config.get("collections")
     return [str(one) for one in given] if isinstance(given, (dict, list)) else []
 
 
-def question_of(config: dict) -> Question:
+def question_of(config: Hash) -> Question:
     """The settings of which the program is asked what comes out by them."""
     defaults = config.get("defaults")
     return Question(
@@ -232,7 +233,7 @@ def question_of(config: dict) -> Question:
     )
 
 
-def rules_of(config: dict) -> Rules:
+def rules_of(config: Hash) -> Rules:
     rules = Rules(exclude=texts(config.get("exclude")), collections=collections_of(config))
     if config.get("include") is not None:
         rules.include = texts(config["include"])
@@ -245,7 +246,7 @@ def rules_of(config: dict) -> Rules:
     return rules
 
 
-def rules_with_globs(config: dict, moved: bool) -> Rules:
+def rules_with_globs(config: Hash, moved: bool) -> Rules:
     """The rules, with the globs that stood in `exclude` once. `moved` says whether collections were moved to the top."""
     rules = rules_of(config)
     rules.collections_in = "" if moved else None
@@ -257,7 +258,7 @@ def let_out(jekyll: Jekyll) -> set[str]:
     return jekyll.comes_out() | jekyll.drafts()
 
 
-def mend_lists(adoption: Adoption, settings: Settings, config: dict, files: list[str], rules: Rules, held: set[str]) -> None:
+def mend_lists(adoption: Adoption, settings: Settings, config: Hash, files: list[str], rules: Rules, held: set[str]) -> None:
     """`exclude` and `include` get the paths that they name now, and those that are held back by others. The globs stay in a key of their own, for new files."""
     excluded, globs = texts(config.get("exclude")), texts(config.get("exclude_globs"))
     lists = lists_of_paths(rules, files, held)
@@ -275,7 +276,7 @@ def mend_lists(adoption: Adoption, settings: Settings, config: dict, files: list
             config[key] = value
 
 
-def mend_limit(adoption: Adoption, settings: Settings, config: dict, older: list[str]) -> None:
+def mend_limit(adoption: Adoption, settings: Settings, config: Hash, older: list[str]) -> None:
     """`limit_posts`: says that the older posts are in `exclude`."""
     limit = config.get("limit_posts")
     if not isinstance(limit, int) or limit <= 0:
@@ -294,7 +295,7 @@ def tell_copies(adoption: Adoption, settings: Settings, copies: list[str]) -> No
         adoption.done(place, f"published of defaults does not reach copied files, so they are in exclude now: {shortened(copies)}")
 
 
-def older_posts(adoption: Adoption, config: dict, files: list[str]) -> list[str]:
+def older_posts(adoption: Adoption, config: Hash, files: list[str]) -> list[str]:
     """The posts past the newest ones that `limit_posts` lets come out."""
     limit = config.get("limit_posts")
     if not isinstance(limit, int) or limit <= 0:
@@ -303,7 +304,7 @@ def older_posts(adoption: Adoption, config: dict, files: list[str]) -> list[str]
     return posts[: max(len(posts) - limit, 0)]
 
 
-def dated_posts(adoption: Adoption, config: dict, files: list[str]) -> list[str]:
+def dated_posts(adoption: Adoption, config: Hash, files: list[str]) -> list[str]:
     """The posts that Jekyll makes now, the oldest first; the drafts too where they are built."""
     jekyll = Jekyll(rules_of(config), files)
     wanted = jekyll.comes_out() | (jekyll.drafts() if config.get("show_drafts") is True else set())
@@ -322,15 +323,14 @@ def dated_posts(adoption: Adoption, config: dict, files: list[str]) -> list[str]
     return [path for _, path in sorted(dated)]
 
 
-def comes_out(path: str, own: dict, head: str, config: dict, tree: Tree) -> bool:
+def comes_out(path: str, own: Hash, head: str, config: Hash, tree: Tree) -> bool:
     """Whether Jekyll builds an item with these values: by its own key `published`, else by the defaults, which do not reach pages."""
     if config.get("unpublished") is True:
         return True
     if "published" in own:
         return bool(is_published_as_written(own["published"], head))
     kind = kind_of(path, collections_of(config))
-    defaults = config.get("defaults") if isinstance(config.get("defaults"), list) else []
-    return kind is None or published_by_defaults(defaults, path, kind, tree)
+    return kind is None or published_by_defaults(listed(config.get("defaults")), path, kind, tree)
 
 
 def kind_of(path: str, collections: list[str]) -> Optional[str]:
@@ -342,7 +342,7 @@ def kind_of(path: str, collections: list[str]) -> Optional[str]:
     return label if label in collections else None
 
 
-def unpublished_items(adoption: Adoption, config: dict, files: list[str]) -> list[str]:
+def unpublished_items(adoption: Adoption, config: Hash, files: list[str]) -> list[str]:
     """The files with front matter that Jekyll leaves out. What is not read is none of them: it is a fault, until somebody mends it."""
     marked = [path for path in files if not path.startswith(("_data/", "_includes/", "_layouts/")) and begins_with_mark(adoption.folder / path)]
     heads = {path: match[1] for path, match in ((path, front_matter(read_text(adoption.folder / path))) for path in marked) if match}
@@ -352,13 +352,13 @@ def unpublished_items(adoption: Adoption, config: dict, files: list[str]) -> lis
     return [path for path in own if not comes_out(path, own[path], heads[path], config, tree)]
 
 
-def unpublished_copies(folder: Path, config: dict, files: list[str]) -> list[str]:
+def unpublished_copies(folder: Path, config: Hash, files: list[str]) -> list[str]:
     """The copied files that are likely to come out here, and that Jekyll leaves out by its defaults."""
     program = Program(rules_of(config).include, texts(config.get("exclude")))
     return [path for path in held_copies(folder, config, files) if program.comes_out(path, collections_of(config))]
 
 
-def held_copies(folder: Path, config: dict, files: list[str]) -> list[str]:
+def held_copies(folder: Path, config: Hash, files: list[str]) -> list[str]:
     """The files without front matter that Jekyll leaves out by its defaults."""
     defaults = config.get("defaults")
     if not isinstance(defaults, list) or not any("published" in str(entry) for entry in defaults):
@@ -374,17 +374,22 @@ def held_copies(folder: Path, config: dict, files: list[str]) -> list[str]:
     return found
 
 
-def moment_of(path: str, own: dict) -> datetime.datetime:
+def zone_of(offset: str) -> datetime.timezone:
+    """The zone of an offset: a sign, two digits for hours and two for minutes, with or without a colon. Raises ValueError from a day on."""
+    hours, minutes = int(offset[1:3]), int(offset[-2:])
+    return datetime.timezone(datetime.timedelta(hours=hours, minutes=minutes) * (-1 if offset[0] == "-" else 1))
+
+
+def moment_of(path: str, own: Hash) -> datetime.datetime:
     """The moment of a post: its own date, else that of its name; of a draft now."""
     name = "" if "_drafts" in path.split("/") else path.rpartition("/")[2]
     for match in (MOMENT.match(str(own.get("date", ""))), re.match(r"(\d{4})-(\d\d?)-(\d\d?)-", name)):
         if match:
-            parts = match.groupdict() or {}
-            time = [int(parts.get(key) or 0) for key in ("hour", "minute", "second")]
-            sign, hours, minutes = re.match(r"([+-]?)(\d\d):?(\d\d)", parts.get("offset") or "+00:00").groups()
-            offset = datetime.timedelta(hours=int(hours), minutes=int(minutes)) * (-1 if sign == "-" else 1)
+            year, month, day = (int(match[part]) for part in (1, 2, 3))
+            parts = match.groupdict()
+            hour, minute, second = (int(parts.get(key) or 0) for key in ("hour", "minute", "second"))
             try:
-                return datetime.datetime(*map(int, match.groups()[:3]), *time, tzinfo=datetime.timezone(offset))
+                return datetime.datetime(year, month, day, hour, minute, second, tzinfo=zone_of(parts.get("offset") or "+0000"))
             except ValueError:
                 continue
     return datetime.datetime.now(datetime.timezone.utc)
@@ -397,7 +402,7 @@ def tell(adoption: Adoption, settings: Settings, key: str, replaced: list[Replac
         adoption.done(f"{CONFIG}:{settings.line_with(key, one.entry)}", what + later)
 
 
-def mend_kept(adoption: Adoption, settings: Settings, config: dict) -> None:
+def mend_kept(adoption: Adoption, settings: Settings, config: Hash) -> None:
     """`keep_files`: Jekyll takes an entry for the front of a path in the output."""
     entries = texts(config.get("keep_files"))
     kept = [entry for entry in entries if not is_glob(entry)]
@@ -424,7 +429,7 @@ def kept_by_front(entries: list[str], output: Path) -> list[tuple[str, list[str]
     return found
 
 
-def mend_defaults(adoption: Adoption, settings: Settings, config: dict, files: list[str]) -> None:
+def mend_defaults(adoption: Adoption, settings: Settings, config: Hash, files: list[str]) -> None:
     given = config.get("defaults")
     if not isinstance(given, list):
         return
@@ -439,7 +444,7 @@ def mend_defaults(adoption: Adoption, settings: Settings, config: dict, files: l
         config["defaults"] = mended.defaults
 
 
-def mend_values(adoption: Adoption, settings: Settings, config: dict) -> None:
+def mend_values(adoption: Adoption, settings: Settings, config: Hash) -> None:
     """Values that Jekyll takes and the program does not."""
     zone = config.get("timezone")
     if isinstance(zone, str) and not OFFSET.fullmatch(zone):
@@ -456,12 +461,11 @@ def mend_values(adoption: Adoption, settings: Settings, config: dict) -> None:
         adoption.done(f"{CONFIG}:{settings.line('excerpt_separator')}", "posts have an empty excerpt by defaults now, in place of an empty separator")
         settings.comment_out("excerpt_separator", "defaults have an empty excerpt in its place")
         config.pop("excerpt_separator")
-        defaults = config.get("defaults") if isinstance(config.get("defaults"), list) else []
-        config["defaults"] = [*defaults, {"scope": {"path": "", "type": "posts"}, "values": {"excerpt": ""}}]
+        config["defaults"] = [*listed(config.get("defaults")), {"scope": {"path": "", "type": "posts"}, "values": {"excerpt": ""}}]
         settings.set("defaults", config["defaults"])
 
 
-def mend_zone(adoption: Adoption, settings: Settings, config: dict, zone: str) -> None:
+def mend_zone(adoption: Adoption, settings: Settings, config: Hash, zone: str) -> None:
     """A named zone becomes its offset today."""
     place = f"{CONFIG}:{settings.line('timezone')}"
     try:

@@ -9,6 +9,8 @@ import re
 from typing import Optional
 
 from adopting.kept_back import names
+from adopting.scopes import path_of
+from configuration import Hash, mapping
 from notes.site import Item, Notes, Site, read_part
 from session import MOST_BYTES
 from site_files import line_of
@@ -150,10 +152,10 @@ def add_item(notes: Notes, site: Site, item: Item) -> None:
         notes.add(item.path, 0, "its title is made of its name, where ASCII letters alone become capitals", "write title")
 
 
-def covers(entry: dict, path: str) -> bool:
+def covers(entry: Hash, path: str) -> bool:
     """Whether an entry of defaults is for this page."""
-    scope = entry.get("scope") if isinstance(entry.get("scope"), dict) else {}
-    named = scope.get("path") if isinstance(scope.get("path"), str) else ""
+    scope = mapping(entry.get("scope"))
+    named = path_of(scope)
     return scope.get("type") in (None, "pages") and (not named or names(named, path))
 
 

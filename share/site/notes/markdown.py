@@ -30,7 +30,7 @@ class Form:
     """What is looked for outside of code; what it means here; the remedy. It is nowhere in a text that has none of the parts."""
 
     parts: tuple[str, ...]
-    pattern: re.Pattern
+    pattern: re.Pattern[str]
     what: str
     remedy: str
 
@@ -124,7 +124,7 @@ def straight_signs(body: str) -> Optional[int]:
     return None
 
 
-def spans(text: str, begin: re.Pattern, end: re.Pattern) -> Iterator[tuple[int, int]]:
+def spans(text: str, begin: re.Pattern[str], end: re.Pattern[str]) -> Iterator[tuple[int, int]]:
     """Where there is code, from its begin to its end."""
     opened = begin.search(text)
     while opened:
@@ -144,12 +144,12 @@ def without(text: str, parts: Iterable[tuple[int, int]]) -> str:
     return "".join([*kept, text[at:]]) if kept else text
 
 
-def line_at(body: str, found: re.Match) -> int:
+def line_at(body: str, found: re.Match[str]) -> int:
     """The line of a match, counted from 0; of a match that begins with line ends the one after them."""
     return body.count("\n", 0, found.end() - len(found[0].lstrip("\n")))
 
 
-def blank(found: re.Match) -> str:
+def blank(found: re.Match[str]) -> str:
     """As many spaces, so that what is left has its place."""
     return " " * len(found[0]) if "\n" not in found[0] else NO_LINE_END.sub(" ", found[0])
 

@@ -3,7 +3,8 @@ from __future__ import annotations
 
 import re
 
-from adopting.kept_back import READ_FOLDERS, Lists, Program, Rules, is_glob, leaks, lists_of_paths, shortened
+from adopting.globs import is_glob
+from adopting.kept_back import READ_FOLDERS, Lists, Program, Rules, leaks, lists_of_paths, shortened
 from adopting.scopes import mend
 from adopting.settings import kept_by_front, lacks_pagination, rules_of, texts, unpublished_copies
 from notes.site import Notes, Site

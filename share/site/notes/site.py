@@ -6,11 +6,11 @@ import re
 from contextlib import contextmanager
 from dataclasses import dataclass, field
 from pathlib import Path
-from typing import Iterator, Optional
+from typing import Any, Iterator, Optional
 
 from adopting.kept_back import Program
 from adopting.settings import collections_of, plugins_of, texts
-from configuration import Settings
+from configuration import Hash, Settings, listed, mapping
 from session import MOST_BYTES
 from site_files import front_matter, line_of, list_files, open_file, read_marked, read_values, text_of
 
@@ -53,7 +53,7 @@ class Item:
 
     path: str
     text: str
-    values: dict
+    values: Hash
     body: int
 
     def line_of_key(self, key: str) -> int:
@@ -71,7 +71,7 @@ class Site:
     # Those of them that are left out by nothing.
     looked_at: list[str]
     links: list[str]
-    config: dict
+    config: Hash
     settings: Settings
     items: list[Item] = field(default_factory=list)
     # Texts of the includes, and of layouts without front matter.
@@ -79,9 +79,8 @@ class Site:
     found_decimals: Optional[set[str]] = None
     found_plugins: Optional[list[str]] = None
 
-    def list_of(self, key: str) -> list:
-        given = self.config.get(key)
-        return given if isinstance(given, list) else []
+    def list_of(self, key: str) -> list[Any]:
+        return listed(self.config.get(key))
 
     def collections(self) -> list[str]:
         return collections_of(self.config)
@@ -91,7 +90,7 @@ class Site:
             self.found_plugins = plugins_of(self.config, self.folder)
         return self.found_plugins
 
-    def defaults(self) -> list[dict]:
+    def defaults(self) -> list[Hash]:
         return [one for one in self.list_of("defaults") if isinstance(one, dict) and isinstance(one.get("values"), dict)]
 
     def decimals(self) -> set[str]:
@@ -119,7 +118,7 @@ def read_site(folder: Path, program: str) -> Site:
     found = list_files(folder)
     text = (read_part(folder, CONFIG) if CONFIG in found.files else None) or ""
     config = read_values(program, {CONFIG: text}).of.get(CONFIG)
-    site = Site(folder, found.files, [], found.links, config if isinstance(config, dict) else {}, Settings(text))
+    site = Site(folder, found.files, [], found.links, mapping(config), Settings(text))
     begun: dict[str, str] = {}
     rules = Program(texts(site.config.get("include")), texts(site.config.get("exclude")))
     for path in found.files:
@@ -143,8 +142,7 @@ def add_items(site: Site, begun: dict[str, str], program: str) -> None:
     heads = {path: match for path, match in ((path, front_matter(text)) for path, text in begun.items()) if match}
     values = read_values(program, {path: "---\n" + match[1] for path, match in heads.items()}).of
     for path, match in heads.items():
-        value = values.get(path)
-        site.items.append(Item(path, begun[path], value if isinstance(value, dict) else {}, match.end()))
+        site.items.append(Item(path, begun[path], mapping(values.get(path)), match.end()))
 
 
 def read_part(folder: Path, path: str, begun: bool = False) -> Optional[str]:
