@@ -12,8 +12,9 @@ from adopting.files import (
     adopt_templates, adopt_theme, coming_out, mend_front_matter, read_configuration, write_feeds, write_redirects, write_sitemap, write_styles,
 )
 from adopting.placing import finish
-from adopting.settings import CONFIG, adopt_configuration
+from adopting.settings import adopt_configuration
 from calling import NotDone
+from configuration import CONFIG
 from notes.first_faults import fault_lines
 from notes.making import differences
 from site_files import NotRead

@@ -11,11 +11,11 @@ from typing import Callable, Optional
 
 import beside
 from client import Ended
+from configuration import CONFIG
 from faults import ANOTHER_RUN, Fault, explain, fault_of_line, is_in_use
 from inside import OUTPUT
 from notes.telling import Telling
 from session import Built, Failed, LeftToScan, Session, can_be_told, read_source
-from settings import CONFIGURATION
 from site_files import scratch_outside
 from status import Status
 from watching import Changes, Looking, NotToBeHad, Watch, mark, watch
@@ -199,7 +199,7 @@ class Builder:
         if self.session is None:
             self.begin_session()
             return
-        if CONFIGURATION in changes.paths or changes.unclear:
+        if CONFIG in changes.paths or changes.unclear:
             self.on_configuration()
         try:
             self.build(self.session, update, moment)

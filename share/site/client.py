@@ -65,16 +65,17 @@ class Client:
         self.process = process
         self.seconds = seconds
         self.errors = errors
-        self.lines_in, self.lines_out = piped(process.stdin), piped(process.stdout)
+        # The files of its standard input and output.
+        self.given, self.said = piped(process.stdin).fileno(), piped(process.stdout).fileno()
         # What the pipe does not take at once is written while replies are read.
-        os.set_blocking(self.lines_in.fileno(), False)
+        os.set_blocking(self.given, False)
         # The lines that were read and not taken yet, and the front of the next one.
         self.heard: deque[bytes] = deque()
         self.rest = b""
 
     def fileno(self) -> int:
         """Between replies, this can be read when the program has ended."""
-        return self.lines_out.fileno()
+        return self.said
 
     def ask(self, line: bytes) -> str:
         """The first line of the reply to a line."""
@@ -89,8 +90,8 @@ class Client:
         count = int(replies[-1].split()[1]) if replies[-1].startswith("out-fault ") else 0
         return replies + [self.hear() for _ in range(count)]
 
-    def put(self, path: str, data: bytes) -> None:
-        self.put_all({path: data})
+    def put(self, path: Union[str, bytes], data: bytes) -> None:
+        self.done(put_head(path, len(data)) + data)
 
     def put_all(self, files: Mapping[str, bytes] | Mapping[bytes, bytes]) -> None:
         """Puts files. All lines are given before the first reply is asked for, so that nobody waits for each."""
@@ -115,9 +116,9 @@ class Client:
         left = memoryview(lines)
         while left:
             try:
-                left = left[os.write(self.lines_in.fileno(), left) :]
+                left = left[os.write(self.given, left) :]
             except BlockingIOError:
-                replies, _, _ = ready = select.select([self], [self.lines_in], [], self.seconds)
+                replies, _, _ = ready = select.select([self.said], [self.given], [], self.seconds)
                 if not any(ready):
                     raise self.too_late() from None
                 if replies:
@@ -134,13 +135,13 @@ class Client:
     def wait(self) -> None:
         """Waits for a whole line."""
         while not self.heard:
-            if self.seconds is not None and not select.select([self], [], [], self.seconds)[0]:
+            if self.seconds is not None and not select.select([self.said], [], [], self.seconds)[0]:
                 raise self.too_late()
             self.take()
 
     def take(self) -> None:
         """Reads what there is."""
-        piece = os.read(self.fileno(), PIECE)
+        piece = os.read(self.said, PIECE)
         if not piece:
             raise Ended(self.how_it_ended())
         *whole, self.rest = (self.rest + piece).split(b"\n")

@@ -5,6 +5,7 @@ import json
 import re
 from typing import Any, Dict, List, Optional
 
+CONFIG = "_config.yml"
 KEY = re.compile(r"""^(?P<indent> *)(?P<quote>["']?)(?P<key>[^\s#"'\[\]{},:-](?:[^"':#]*[^"':# \t])?)(?P=quote)[ \t]*:(?=\s|$)""")
 # The ends of lines in YAML. Other signs that end lines elsewhere may stand in a value.
 LINE_END = re.compile(r"\r\n|\r|\n")

@@ -16,7 +16,7 @@ from pathlib import Path
 from typing import Optional
 
 from calling import NotDone, TookTooLong, call
-from configuration import Hash, Settings, by_lines, is_in_braces
+from configuration import CONFIG, Hash, Settings, by_lines, is_in_braces
 from inside import OUTPUT, is_of_site, read_below, stays_inside, write_below
 from site_files import NotRead, first_fault, front_matter, head_of, line_of, list_files, read_text, read_values, run, scratch, write_text
 
@@ -83,9 +83,9 @@ class Sheets:
 
 def read_sheets(folder: Path, program: str) -> Sheets:
     """The settings, and nothing of a configuration that the program does not read."""
-    path = folder / "_config.yml"
+    path = folder / CONFIG
     text = read_text(path) if path.is_file() and not path.is_symlink() else ""
-    config = read_values(program, {"_config.yml": text}).of.get("_config.yml")
+    config = read_values(program, {CONFIG: text}).of.get(CONFIG)
     return Sheets(config if isinstance(config, dict) else {}, text)
 
 
@@ -175,7 +175,7 @@ def sheet_name(number: int) -> str:
 
 def render(folder: Path, program: str, styles: list[Style], sheets: Sheets, room: Path) -> str:
     """Has the program do the front matter and the Liquid of these pages; its fault, or nothing."""
-    write_text(room / "_config.yml", sheets.of_scratch())
+    write_text(room / CONFIG, sheets.of_scratch())
     for name in list_files(folder).files:
         if name.startswith(("_includes/", "_data/")):
             write_text(room / name, text_of(folder, name))

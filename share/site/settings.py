@@ -6,10 +6,10 @@ from dataclasses import dataclass
 from pathlib import Path
 from typing import Optional
 
+from configuration import CONFIG
 from session import LeftToScan, read_source
 from site_files import NotRead, read_values, text_of
 
-CONFIGURATION = "_config.yml"
 ADDRESS = re.compile(r"[A-Za-z][A-Za-z0-9+.-]*://[^/]")
 
 
@@ -23,13 +23,13 @@ class Settings:
 def read_settings(program: str, folder: Path) -> Optional[Settings]:
     """Returns nothing if the configuration cannot be read."""
     try:
-        text = text_of(read_source(folder, CONFIGURATION) or b"")
-        values = read_values(program, {CONFIGURATION: text})
+        text = text_of(read_source(folder, CONFIG) or b"")
+        values = read_values(program, {CONFIG: text})
     except (LeftToScan, NotRead, OSError):
         return None
     if values.faults:
         return None
-    given = values.of.get(CONFIGURATION)
+    given = values.of.get(CONFIG)
     baseurl, url = (text_under(given, key) for key in ("baseurl", "url"))
     # A text without a scheme is no address, and could be in any sentence.
     return Settings(url.rstrip("/") if ADDRESS.match(url) else "", f"/{baseurl.strip('/')}" if baseurl.strip("/") else "")

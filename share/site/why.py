@@ -15,12 +15,12 @@ import drawing
 import words
 from building import Builder
 from client import Ended
+from configuration import CONFIG
 from drawing import Edit
 from faults import explain
 from pages import with_script
 from scanned import entries_of, is_entered, join
 from session import Built, Failed, LeftToScan, Session, can_be_told, read_source
-from settings import CONFIGURATION
 
 MOST_EDITS = 16
 MOST_SHOWN = 100
@@ -47,7 +47,7 @@ class Trial:
 def trials(path: str, data: bytes) -> list[Trial]:
     """The edits that tell something of a file."""
     extension = os.path.splitext(path)[1].lower()
-    if path == CONFIGURATION or path.startswith("_data/"):
+    if path == CONFIG or path.startswith("_data/"):
         return value_trials(extension, data)
     found = [Trial("its text", data + b"\n<!-- edited -->\n")]
     front = FRONT.match(data)
@@ -92,9 +92,9 @@ def main(arguments: list[str], program: str) -> int:
 def site_of(file: Path) -> Path:
     """The folder of the site that a file belongs to."""
     for folder in file.parents:
-        if (folder / CONFIGURATION).is_file():
+        if (folder / CONFIG).is_file():
             return folder
-    raise words.Refused(f"no folder above {words.shown(os.fspath(file))} has a {CONFIGURATION}; name the site's with --site")
+    raise words.Refused(f"no folder above {words.shown(os.fspath(file))} has a {CONFIG}; name the site's with --site")
 
 
 def write_page(page: str, to: Optional[Path]) -> Path:

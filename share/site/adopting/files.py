@@ -11,10 +11,10 @@ import sass
 from adopting.adoption import Adoption, refuse_too_much
 from adopting.outcome import ask
 from adopting.publication import is_published_as_written
-from adopting.settings import CONFIG, plugins_of, question_of, read_mended, save, texts
+from adopting.settings import plugins_of, question_of, read_mended, save, texts
 from adopting.tags import Includes, rewrite
 from adopting.theme import find_gem, locked_version, missing_files
-from configuration import Hash, Settings, by_lines, is_in_braces, mapping, written
+from configuration import CONFIG, Hash, Settings, by_lines, is_in_braces, mapping, written
 from inside import is_of_site, read_below, write_below
 from site_files import TEMPLATES, begins_with_mark, front_matter, head_of, line_of, name_fault, read_text, read_values, write_text
 from words import shown

@@ -10,6 +10,8 @@ from dataclasses import dataclass, field
 from typing import Callable, Iterable, Optional
 
 from adopting.globs import fits, is_glob
+from configuration import CONFIG
+from inside import OUTPUT
 from site_files import ALWAYS_EXCLUDED, NotRead
 
 SPECIAL = re.compile(r"[._#~]")
@@ -156,7 +158,7 @@ class Program:
 
     def comes_out(self, path: str, collections: list[str]) -> bool:
         """Whether a file makes an output, or could make one."""
-        if path in ("_config.yml", "_site") or self.is_excluded(path):
+        if path in (CONFIG, OUTPUT) or self.is_excluded(path):
             return False
         folders, name = path.split("/")[:-1], path.rpartition("/")[2]
         if folders and folders[0] in READ_FOLDERS and not self.is_included(path):

@@ -8,12 +8,11 @@ from pathlib import Path
 from typing import Any, Optional
 
 from client import Ended
-from configuration import Settings, is_in_braces, lines_of
+from configuration import CONFIG, Settings, is_in_braces, lines_of
 from inside import OUTPUT, read_below
 from session import Failed, Session
 from site_files import NotRead, list_files, scratch
 
-CONFIG = "_config.yml"
 # A question takes longer than this in no site within the limits, even on a slow machine.
 SECONDS = 300.0
 # What stands in place of a text, and in an address. No template and no Markdown makes anything else of it.

@@ -9,6 +9,7 @@ from typing import Optional
 
 from adopting.adoption import Adoption
 from adopting.copying import close_folders, is_left_out
+from configuration import CONFIG
 from inside import RIGHTS, folder_of, read_below, remove_below, write_below
 from site_files import list_files
 from words import Refused, shown
@@ -87,7 +88,7 @@ def stage(adoption: Adoption, path: str) -> int:
 
     The configuration says what is still to be done of new files. What is to be done in templates, they say themselves.
     """
-    if path == "_config.yml":
+    if path == CONFIG:
         return 2
     if path not in adoption.copied:
         return 0

@@ -16,12 +16,11 @@ from adopting.outcome import Question
 from adopting.publication import is_published_as_written
 from adopting.scopes import Tree, published_by_defaults
 from adopting.scopes import mend as mend_scopes
-from configuration import Hash, Settings, by_lines, is_in_braces, listed
+from configuration import CONFIG, Hash, Settings, by_lines, is_in_braces, listed
 from inside import OUTPUT
 from site_files import Fault, begins_with_mark, front_matter, list_files, read_text, read_values, write_text
 from words import Refused, shown
 
-CONFIG = "_config.yml"
 OFFSET = re.compile(r"(?:Etc/)?UTC|Z|[+-]\d\d:?\d\d")
 # The front of a date as Jekyll's sites write it.
 MOMENT = re.compile(r"(\d{4})-(\d\d?)-(\d\d?)(?:[ T](?P<hour>\d\d):(?P<minute>\d\d)(?::(?P<second>\d\d))?[ ]?(?P<offset>[+-]\d\d:?\d\d)?)?")

@@ -10,7 +10,7 @@ from typing import Optional
 
 from adopting.kept_back import names
 from adopting.scopes import path_of
-from configuration import Hash, mapping
+from configuration import CONFIG, Hash, mapping
 from notes.site import Item, Notes, Site, read_part
 from session import MOST_BYTES
 from site_files import line_of
@@ -37,7 +37,7 @@ def add(notes: Notes, site: Site) -> None:
     layouts = {os.path.splitext(path)[0][len("_layouts/") :] for path in site.files if path.startswith("_layouts/")}
     for entry in site.defaults():
         layout = entry["values"].get("layout")
-        add_layout(notes, "_config.yml", site.settings.line_with("defaults", f"{layout}"), layout, layouts)
+        add_layout(notes, CONFIG, site.settings.line_with("defaults", f"{layout}"), layout, layouts)
     for item in site.items:
         with notes.of(item.path):
             add_layout(notes, item.path, item.line_of_key("layout"), item.values.get("layout"), layouts)

@@ -9,10 +9,9 @@ import os
 from dataclasses import replace
 from pathlib import Path
 
-from configuration import Settings
+from configuration import CONFIG, Settings
 from site_files import Fault, NotRead, begins_with_mark, first_fault, front_matter, list_files, open_file, read_text, run, scratch, write_text
 
-CONFIG = "_config.yml"
 # Each fault is looked for by a check of the whole site.
 MOST_FAULTS = 50
 # A file of more bytes that is no template has its size alone in the scratch copy.

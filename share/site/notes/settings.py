@@ -7,9 +7,9 @@ from adopting.globs import is_glob
 from adopting.kept_back import READ_FOLDERS, Lists, Program, Rules, leaks, lists_of_paths, shortened
 from adopting.scopes import mend
 from adopting.settings import kept_by_front, lacks_pagination, rules_of, texts, unpublished_copies
+from configuration import CONFIG
 from notes.site import Notes, Site
 
-CONFIG = "_config.yml"
 ADOPT = "`site adopt` does that"
 STYLES = ("date", "pretty", "ordinal", "none")
 # Keys that say to Jekyll how a site is made.

@@ -10,11 +10,10 @@ from typing import Any, Iterator, Optional
 
 from adopting.kept_back import Program
 from adopting.settings import collections_of, plugins_of, texts
-from configuration import Hash, Settings, listed, mapping
+from configuration import CONFIG, Hash, Settings, listed, mapping
 from session import MOST_BYTES
 from site_files import front_matter, line_of, list_files, open_file, read_marked, read_values, text_of
 
-CONFIG = "_config.yml"
 DECIMAL = re.compile(r"^([\w-]+)[ \t]*:[ \t]*-?\d+\.\d+[ \t]*(?:#.*)?\r?$", re.M)
 
 
