@@ -58,8 +58,12 @@ class Session:
         self.folder = folder
         self.files = dict(files)
         self.client = Client(begin(program, folder), PATIENCE)
-        self.client.done(b"time %d\n" % MOMENT)
-        self.client.put_all(files)
+        try:
+            self.client.done(b"time %d\n" % MOMENT)
+            self.client.put_all(files)
+        except Ended:
+            self.client.kill()
+            raise
 
     def close(self):
         """Lets the session end."""
