@@ -11,7 +11,7 @@ import time
 from concurrent.futures import ProcessPoolExecutor
 from dataclasses import dataclass, field
 from pathlib import Path
-from typing import Callable
+from typing import Callable, Mapping, Union
 
 TOP = Path(__file__).resolve().parents[2]
 PARTS = TOP / "share" / "site"
@@ -38,12 +38,12 @@ class Failures:
             self.add(f"{what}: {got!r} in place of {wanted!r}")
 
 
-def write_files(folder: Path, files: dict[str, str]) -> None:
+def write_files(folder: Path, files: Mapping[str, Union[str, bytes]]) -> None:
     folder.mkdir(parents=True, exist_ok=True)
     for path, text in files.items():
         place = folder / path
         place.parent.mkdir(parents=True, exist_ok=True)
-        place.write_bytes(text.encode())
+        place.write_bytes(text if isinstance(text, bytes) else text.encode())
 
 
 def read_files(folder: Path) -> dict[str, bytes]:

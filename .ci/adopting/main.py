@@ -19,7 +19,7 @@ SIDE_BY_SIDE = {
     "hostile": "bad sites and bad moments: each told in words, and nothing lost",
     "sheets": "Sass: it reads and writes the site's own files alone, and ends",
     "rights": "what is copied: with no more rights than there were, through no link of gems, and with an end",
-    "rows": "",
+    "beside_jekyll": "",
     "held_back": "what Jekyll holds back: it stays back in all spellings, and nothing is made where a rule is wrong",
     "patterns": "patterns: they find what Ruby finds, in time",
     "plugins": "",

@@ -1,6 +1,7 @@
 """Compares what a row states with what the program answers."""
 import difflib
 
+from rows import OF_SITES
 from texts import is_plain, show_text
 
 LONGEST = 300
@@ -27,6 +28,10 @@ def show_step(outcome, with_escapes):
     for name in sorted(set(outcome) - {"replies"}):
         if name == "status" and outcome[name] != b"0":
             lines.append(f"-- status {outcome[name].decode()} --")
+        elif outcome[name] is None:
+            lines.append(f"-- {name} -- missing")
+        elif name == "fault":
+            lines.append(f"-- {outcome[name].decode()} --")
         elif name != "status" and (name != "standard error" or outcome[name]):
             lines.append(f"-- {name} --")
             lines += show_text(outcome[name], with_escapes)
@@ -39,7 +44,7 @@ def show(outcomes, row, with_escapes):
     for place, outcome in enumerate(outcomes):
         if place:
             lines.append(".")
-        lines += show_step(outcome, with_escapes) if row.kind == "site" else show_text_row(outcome, row, with_escapes)
+        lines += show_step(outcome, with_escapes) if row.kind in OF_SITES else show_text_row(outcome, row, with_escapes)
     return lines
 
 
@@ -52,7 +57,7 @@ def difference(row, answer):
     head = [f"{row.place}:"]
     if isinstance(answer, str):
         return head + [answer]
-    texts = [data for outcome in row.expected + answer for data in outcome.values()]
+    texts = [data for outcome in row.expected + answer for data in outcome.values() if data is not None]
     with_escapes = not all(is_plain(data) for data in texts)
     wanted, found = (show(outcomes, row, with_escapes) for outcomes in (row.expected, answer))
     while len(wanted) + len(found) > MOST_LINES and wanted and found and wanted[0] == found[0]:

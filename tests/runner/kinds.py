@@ -2,10 +2,12 @@
 import os
 
 from program import Ended, Session, read_files, run, write_file
+from scripts import Scripts, answer_by_scripts
 
 FRONT = b"---\n---\n"
 # Of each kind of data its file, and the page that shows its value.
 DATA = {"yaml": b"_data/it.yml", "json": b"_data/it.json", "csv": b"_data/it.csv", "tsv": b"_data/it.tsv"}
+NO_FILES = {}
 SHOWN = {b"it.html": FRONT + b"{{ site.data.it | jsonify }}"}
 
 
@@ -24,8 +26,8 @@ def group_rows(rows, sample, size):
     for row in rows:
         if row.wrong:
             continue
-        kind = "session" if row.kind in ("example", "liquid") or row.kind in DATA and "fault" not in row.words else "alone"
-        site = {}
+        kind = kind_of_run(row)
+        site = NO_FILES
         if row.kind == "liquid":
             site = sample if row.site is None else row.site
         elif row.kind in DATA:
@@ -38,26 +40,38 @@ def group_rows(rows, sample, size):
     return groups
 
 
+def kind_of_run(row):
+    """What a row is given to: the scripts, a session, or a run of the program that is its own."""
+    if row.is_of_scripts:
+        return "scripts"
+    return "session" if row.kind in ("example", "liquid") or row.kind in DATA and "fault" not in row.words else "alone"
+
+
 def answers(group, program, folder):
     """What the program answers to each row of a group: its outcome for each step, or a text where there is none."""
     if group.kind == "alone":
         for place, row in enumerate(group.rows):
             yield row, attempt(answer_alone, row, program, os.path.join(folder, str(place)))
         return
-    session = None
+    talk = None
     try:
         for place, row in enumerate(group.rows):
+            own = os.path.join(folder, str(place))
             try:
-                session = session or Session(program, os.path.join(folder, str(place)), group.site)
-                yield row, answer_in_session(row, session)
+                if group.kind == "scripts":
+                    talk = talk or Scripts(program)
+                    yield row, answer_by_scripts(row, talk, program, own)
+                else:
+                    talk = talk or Session(program, own, group.site)
+                    yield row, answer_in_session(row, talk)
             except (Ended, OSError) as failure:
-                if session:
-                    session.end()
-                    session = None
+                if talk:
+                    talk.end()
+                    talk = None
                 yield row, str(failure)
     finally:
-        if session:
-            session.close()
+        if talk:
+            talk.close()
 
 
 def attempt(call, *given):

@@ -6,7 +6,7 @@ from texts import BadRow, read_text, read_words
 
 FENCE = "`" * 32
 OUTPUT = "_site/"
-HEADING = re.compile(r"-- (?P<name>.+) --(?P<deleted> deleted)?$")
+HEADING = re.compile(r"-- (?P<name>.+) --(?: (?P<word>deleted|missing|link))?$")
 COMMAND = "$ sitebuild"
 # The words that may stand behind each kind, and those of them that have a value.
 WORDS = {
@@ -17,16 +17,26 @@ WORDS = {
     "tsv": {"escapes", "fault"},
     "liquid": {"escapes", "fault", "page", "output", "differs", "unasked"},
     "site": {"escapes"},
+    "notes": {"escapes", "needs", "unasked"},
+    "adopted": {"escapes", "needs", "unasked"},
     "files": {"escapes"},
 }
-VALUED = {"page", "output"}
+VALUED = {"page", "output", "needs"}
+# The kinds that are about the files of a site, and those of them that the scripts answer.
+OF_SITES = ("site", "notes", "adopted")
+OF_SCRIPTS = ("notes", "adopted")
+# What Jekyll makes of the site of a row: an output, or nothing of any.
+JEKYLL = "jekyll "
+REFUSES = "jekyll refuses"
 
 
 class Step:
-    """What is given to one run of the program: changed and deleted files, the words and the input."""
+    """What is given to one run: changed and deleted files, the words and the input."""
 
     def __init__(self):
         self.files = {}
+        # The targets of links, by their paths.
+        self.links = {}
         self.deleted = []
         self.words = None
         self.input = b""
@@ -45,6 +55,9 @@ class Row:
         self.text = b""
         self.steps = []
         self.expected = []
+        # What Jekyll makes otherwise, by the path of the output; None where it makes none. And what it says of a site that it refuses.
+        self.jekyll = {}
+        self.refusal = None
         # Why the row cannot be read.
         self.wrong = None
 
@@ -55,6 +68,10 @@ class Row:
     @property
     def has_escapes(self):
         return "escapes" in self.words
+
+    @property
+    def is_of_scripts(self):
+        return self.kind in OF_SCRIPTS
 
 
 def read_kind(text, line):
@@ -93,7 +110,7 @@ def sections(lines, line):
 def read_files(lines, line, has_escapes):
     """The files of a fence `files`."""
     step = read_step(lines, line, has_escapes)
-    if step.words is not None or step.deleted:
+    if step.words is not None or step.deleted or step.links:
         raise BadRow(line, "files alone may stand here")
     return step.files
 
@@ -114,9 +131,13 @@ def read_step(lines, line, has_escapes):
             continue
         found = HEADING.match(heading)
         name = read_words(found["name"], first - 1, has_escapes)
-        if name in step.files or name in step.deleted:
+        if found["word"] == "missing":
+            raise BadRow(first - 1, "what is given is there, or is deleted")
+        if name in step.files or name in step.links or name in step.deleted:
             raise BadRow(first - 1, "a file stands here twice")
-        if found["deleted"]:
+        if found["word"] == "link":
+            step.links[name] = without_last_end(read_text(text, first, has_escapes))
+        elif found["word"]:
             if text:
                 raise BadRow(first, "a deleted file has no text")
             step.deleted.append(name)
@@ -134,29 +155,46 @@ def read_command(text, line, has_escapes):
     return [word.encode("latin-1") for word in words[2:]]
 
 
-def read_outcome(lines, line, has_escapes):
-    """The sections that come out of a step."""
+def read_outcome(lines, line, row):
+    """The sections that come out of a step. Those of Jekyll go into the row."""
     outcome = {}
     for heading, first, text in sections(lines, line):
         if heading is None:
-            outcome["replies"] = read_text(text, first, has_escapes)
+            outcome["replies"] = read_text(text, first, row.has_escapes)
             continue
-        found = HEADING.match(heading)
-        name = read_words(found["name"], first - 1, has_escapes).decode("utf-8", "surrogateescape") if found else ""
-        if name.startswith("status ") and name[7:].isdigit() and not text:
-            name, value = "status", name[7:].encode()
-        elif name == "standard error" or name.startswith(OUTPUT):
-            value = read_text(text, first, has_escapes)
-        else:
-            raise BadRow(first - 1, f"nothing of this name comes out: {heading}")
-        if name in outcome or found["deleted"]:
-            raise BadRow(first - 1, "this stands here twice, or is deleted")
+        name, value = read_section(heading, first, text, row)
+        if name in outcome:
+            raise BadRow(first - 1, "this stands here twice")
         outcome[name] = value
-    outcome.setdefault("status", b"0")
-    # A run that is done says nothing there; else it is looked at where the row has it.
-    if outcome["status"] == b"0":
-        outcome.setdefault("standard error", b"")
+    if row.is_of_scripts:
+        row.refusal = outcome.pop(REFUSES, None)
+        row.jekyll = {name[len(JEKYLL) :]: outcome.pop(name) for name in list(outcome) if name.startswith(JEKYLL)}
+    if row.kind != "notes":
+        outcome.setdefault("status", b"0")
+        # A run that is done says nothing there; else it is looked at where the row has it.
+        if outcome["status"] == b"0":
+            outcome.setdefault("standard error", b"")
     return outcome
+
+
+def read_section(heading, first, text, row):
+    """The name and the text of a section that comes out; None for the text of a file that is not there."""
+    found = HEADING.match(heading)
+    name = read_words(found["name"], first - 1, row.has_escapes).decode("utf-8", "surrogateescape") if found else ""
+    word, _, rest = name.partition(" ")
+    is_output = name.startswith(OUTPUT)
+    if word == "status" and rest.isdigit() and row.kind != "notes" and not text:
+        return word, rest.encode()
+    if word == "fault" and row.kind == "notes" and not text:
+        return word, name.encode()
+    is_file = is_output or row.is_of_scripts and name.startswith(JEKYLL) or row.kind == "adopted"
+    if not name or found["word"] not in (None, "missing") or not (is_file or name == "standard error" and row.kind == "site"):
+        raise BadRow(first - 1, f"nothing of this name comes out: {heading}")
+    if found["word"]:
+        if row.kind == "site" or text or name == REFUSES:
+            raise BadRow(first, "a missing file has no text, and stands in rows of scripts")
+        return name, None
+    return name, read_text(text, first, row.has_escapes)
 
 
 def without_last_end(data):
@@ -169,10 +207,15 @@ def read_steps(row, parts):
         raise BadRow(row.line, "a step lacks the line . and what comes out")
     for given, wanted in zip(parts[::2], parts[1::2]):
         step = read_step(given[1], given[0], row.has_escapes)
-        if step.words is None:
+        if row.is_of_scripts:
+            if step.words is not None or step.deleted or row.steps:
+                raise BadRow(given[0], f"a row of {row.kind} has the files of one site, and no command")
+        elif step.words is None:
             raise BadRow(given[0], "a step lacks its command, as $ sitebuild once")
+        elif step.links:
+            raise BadRow(given[0], "links stand in rows of scripts")
         row.steps.append(step)
-        row.expected.append(read_outcome(wanted[1], wanted[0], row.has_escapes))
+        row.expected.append(read_outcome(wanted[1], wanted[0], row))
 
 
 def read_texts(row, parts):
@@ -210,7 +253,7 @@ def read_fence(path, line, opening, body, site):
             files = read_files(body, line + 1, row.has_escapes)
         else:
             parts = split_parts(body, line + 1)
-            read = read_steps if row.kind == "site" else read_texts
+            read = read_steps if row.kind in OF_SITES else read_texts
             read(row, parts)
     except BadRow as wrong:
         return wrong_row(path, wrong.line, wrong.reason), None

@@ -30,7 +30,7 @@ def damage_section(pick):
 
 
 def is_output(name):
-    return name.startswith("_site/")
+    return name not in ("text", "fault", "replies", "status", "standard error")
 
 
 def lose_file(outcomes):
@@ -38,6 +38,16 @@ def lose_file(outcomes):
         for name in outcome:
             if is_output(name):
                 del outcome[name]
+                return True
+    return False
+
+
+def replace_file(outcomes, is_missing, value):
+    """Makes a file missing, or one that is missing a file."""
+    for outcome in outcomes:
+        for name in outcome:
+            if is_output(name) and (outcome[name] is None) == is_missing:
+                outcome[name] = value
                 return True
     return False
 
@@ -71,16 +81,24 @@ DAMAGES = {
     "a fault for a text, or a text for a fault": swap_sort,
     "a byte of a reply": by(lambda name: name == "replies", changed),
     "a reply too few": by(lambda name: name == "replies", lambda data: b"\n".join(data.split(b"\n")[:-2] + [b""]) if data else None),
+    "a reply too many": by(lambda name: name == "replies", lambda data: data + b"x\n"),
     "another status": by(lambda name: name == "status", lambda data: b"%d" % (int(data) + 1)),
     "a byte of standard error": by(lambda name: name == "standard error", changed),
     "a line of standard error too many": by(lambda name: name == "standard error", lambda data: data + b"x\n"),
     "a byte of a file": by(is_output, changed),
+    "a file that is gone": lambda outcomes: replace_file(outcomes, False, None),
+    "a file that came": lambda outcomes: replace_file(outcomes, True, b""),
     "a file too few": lose_file,
     "a file too many": add_file,
 }
 # What each kind has to have shown.
+OF_REPLIES = ["a byte of a reply", "a reply too few", "a reply too many"]
+OF_RUNS = ["another status", "a byte of standard error", "a line of standard error too many"]
+OF_NAMED_FILES = ["a byte of a file", "a file that is gone", "a file that came"]
 WANTED = {
-    "site": ["a byte of a reply", "a reply too few", "another status", "a byte of standard error", "a line of standard error too many", "a byte of a file", "a file too few", "a file too many"],
+    "site": [*OF_REPLIES, *OF_RUNS, "a byte of a file", "a file too few", "a file too many"],
+    "notes": [*OF_REPLIES, "a byte of a fault", *OF_NAMED_FILES],
+    "adopted": [*OF_REPLIES, *OF_RUNS, *OF_NAMED_FILES],
 }
 WANTED_OF_TEXTS = ["a byte of a text", "a byte of a text too many", "a fault for a text, or a text for a fault"]
 
@@ -123,6 +141,11 @@ NO_ROWS = {
     "a text in front of the files": (f"{FENCE} site\na\n$ sitebuild once\n.\n{FENCE}\n", 2),
     "a file twice": (f"{FENCE} site\n-- a --\n-- a --\n$ sitebuild once\n.\n{FENCE}\n", 3),
     "another section": (f"{FENCE} site\n$ sitebuild once\n.\n-- nope --\n{FENCE}\n", 4),
+    "a command for the notes": (f"{FENCE} notes\n-- a --\n$ sitebuild once\n.\n{FENCE}\n", 3),
+    "a second site for the notes": (f"{FENCE} notes\n-- a --\n.\n.\n-- b --\n.\n{FENCE}\n", 5),
+    "a status of the notes": (f"{FENCE} notes\n-- a --\n.\n-- status 1 --\n{FENCE}\n", 4),
+    "a missing file with a text": (f"{FENCE} adopted\n-- a --\n.\n-- b -- missing\nx\n{FENCE}\n", 5),
+    "a missing file of a site": (f"{FENCE} site\n$ sitebuild once\n.\n-- _site/a -- missing\n{FENCE}\n", 5),
     "a command among files": (f"{FENCE} files\n$ sitebuild once\n{FENCE}\n", 2),
 }
 
