@@ -103,12 +103,15 @@ class Settings:
         return place[0] + 1 if place else 1
 
     def line_with(self, key: str, part: str) -> int:
-        """The line of a key's block that holds this part; else the key's own."""
+        """The line of a key's block that holds this part of its value, as a whole word if there is one; else the key's own."""
         place = self.place(key)
-        if place:
-            for at in range(*place):
-                if part and part in self.lines[at]:
-                    return at + 1
+        if place and part:
+            values = self.lines[place[0] : place[1]]
+            values[0] = values[0].partition(":")[2]
+            whole = re.compile(rf"(?<![\w.*/-]){re.escape(part)}(?![\w.*/-])")
+            for holds in ([whole.search(line) is not None for line in values], [part in line for line in values]):
+                if True in holds:
+                    return place[0] + holds.index(True) + 1
         return self.line(key)
 
     def key_at(self, line: int) -> Optional[str]:

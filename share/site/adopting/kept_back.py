@@ -207,6 +207,8 @@ class Lists:
     replaced_excludes: list[Replaced]
     # Files that Jekyll leaves out and no entry names.
     added: list[str]
+    # Entries of `include` for what Jekyll lets come out and no entry names.
+    brought: list[str] = field(default_factory=list)
 
 
 def lists_of_paths(rules: Rules, files: list[str], held: Iterable[str] = ()) -> Lists:
@@ -227,6 +229,8 @@ def lists_of_paths(rules: Rules, files: list[str], held: Iterable[str] = ()) -> 
         matches(entry, name, jekyll.is_folder(name)) for name in (path, f"{path}/{ANY_NAME}")))
     named = {path for one in lists.replaced_excludes for path in one.paths}
     lists.added = [path for path in added if path not in named]
+    included = {path for one in lists.replaced_includes for path in one.paths}
+    lists.brought = [path for path in missing if path not in included]
     return lists
 
 

@@ -268,6 +268,8 @@ def mend_lists(adoption: Adoption, settings: Settings, config: Hash, files: list
     for path in lists.added:
         if path not in held:
             adoption.done(f"{CONFIG}:{line}", f"{path} is in exclude now, since Jekyll leaves it out")
+    for path in lists.brought:
+        adoption.done(f"{CONFIG}:{settings.line('include')}", f"{path} is in include now, since Jekyll lets it come out")
     globs += [one.entry for one in told if is_glob(one.entry) and one.entry not in globs]
     for key, value in (("exclude", lists.exclude), ("include", lists.include), ("exclude_globs", globs)):
         if value != (rules.include if key == "include" else texts(config.get(key))):

@@ -63,7 +63,7 @@ def add_name(notes: Notes, site: Site, path: str, item: Optional[Item]) -> None:
     if folders[:1] == ["_drafts"] and DATE.match(name):
         notes.add(path, 0, "the slug and the title of this draft begin with its date", "take the date out of its name")
     collection = folders[0][1:] if folders and folders[0].startswith("_") else ""
-    if collection in site.collections() and any(part[:1] in "_.#~" for part in folders[1:]):
+    if collection in site.collections() and any(part[:1] in "_.#~" for part in folders[1:]) and not site.is_included(path):
         notes.add(path, 0, "nothing comes of a document in such a folder", "write the file in include, or rename the folder: `site adopt` does the first")
     if path.startswith("_data/") and re.search(r"[^A-Za-z0-9_./-]", path):
         notes.add(path, 0, "the key of this data file is its name as it is (in Jekyll its spaces are _)", "call it with letters, digits and _")

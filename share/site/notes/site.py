@@ -81,6 +81,10 @@ class Site:
     def list_of(self, key: str) -> list[Any]:
         return listed(self.config.get(key))
 
+    def is_included(self, path: str) -> bool:
+        """Whether `include` brings a file in."""
+        return Program(texts(self.config.get("include")), []).is_included(path)
+
     def collections(self) -> list[str]:
         return collections_of(self.config)
 
