@@ -19,7 +19,7 @@ def damage_section(pick):
     def damage(outcomes, change):
         for outcome in outcomes:
             for name in outcome:
-                if pick(name):
+                if pick(name) and outcome[name] is not None:
                     value = change(outcome[name])
                     if value is not None:
                         outcome[name] = value
@@ -141,7 +141,7 @@ NO_ROWS = {
     "a text in front of the files": (f"{FENCE} site\na\n$ sitebuild once\n.\n{FENCE}\n", 2),
     "a file twice": (f"{FENCE} site\n-- a --\n-- a --\n$ sitebuild once\n.\n{FENCE}\n", 3),
     "another section": (f"{FENCE} site\n$ sitebuild once\n.\n-- nope --\n{FENCE}\n", 4),
-    "a command for the notes": (f"{FENCE} notes\n-- a --\n$ sitebuild once\n.\n{FENCE}\n", 3),
+    "a command for the notes": (f"{FENCE} notes\n-- a --\n$ sitebuild once\n.\n{FENCE}\n", 2),
     "a second site for the notes": (f"{FENCE} notes\n-- a --\n.\n.\n-- b --\n.\n{FENCE}\n", 5),
     "a status of the notes": (f"{FENCE} notes\n-- a --\n.\n-- status 1 --\n{FENCE}\n", 4),
     "a missing file with a text": (f"{FENCE} adopted\n-- a --\n.\n-- b -- missing\nx\n{FENCE}\n", 5),
