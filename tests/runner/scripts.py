@@ -19,7 +19,7 @@ class Scripts:
     def __init__(self, program: str):
         self.client = Client(
             subprocess.Popen(
-                [sys.executable, "-B", "-X", "utf8", WORDS, program],
+                [sys.executable, "-S", "-B", "-X", "utf8", WORDS, program],
                 stdin=subprocess.PIPE, stdout=subprocess.PIPE, stderr=subprocess.DEVNULL,
             ),
             PATIENCE,
