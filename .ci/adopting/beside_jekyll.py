@@ -28,7 +28,8 @@ def try_all(work: Path, failures: Failures) -> None:
         if row not in ready:
             print(f"not asked: {row.place}; it needs {row.words['needs']}")
     try_rows(ready, work, failures)
-    print(f"{len(ready)} rows of sites: Jekyll makes of them what they say")
+    if not failures.found:
+        print(f"{len(ready)} rows of sites: Jekyll makes of them what they say")
 
 
 def is_asked(row: Any) -> bool:

@@ -27,7 +27,11 @@ class Scripts:
 
     def ask(self, word: str, site: str) -> dict[str, Any]:
         """What a word of `site` says of a folder. Raises Ended where it said nothing that can be read."""
-        answer = json.loads(self.client.ask(f"{word} {site}\n".encode()))
+        reply = self.client.ask(f"{word} {site}\n".encode())
+        try:
+            answer = json.loads(reply)
+        except ValueError as wrong:
+            raise Ended(f"the scripts said: {reply}") from wrong
         if "ended" in answer:
             raise Ended(answer["ended"])
         return answer
