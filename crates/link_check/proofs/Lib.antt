@@ -1,0 +1,8 @@
+mod Comments
+mod Cuts
+mod LinkLaws
+mod PathLaws
+mod Rows
+mod Runs
+mod SegmentLaws
+mod ValueLaws
