@@ -25,6 +25,8 @@ mod labels;
 #[cfg(test)]
 mod link_table;
 #[cfg(test)]
+mod page_links;
+#[cfg(test)]
 mod pieces;
 #[cfg(test)]
 mod references;
