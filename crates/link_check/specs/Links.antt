@@ -1,4 +1,4 @@
--- The links of a page: what its open tags give to `href` and `src`.
+-- The links of a page: what its open tags give to `href` and `src`. After the HTML standard (WHATWG), sections 13.1.2.3 (attributes) and 13.1.6 (comments).
 use Rattle.std.specs.Prelude.{Bool, List, None, Option, Some, [], codes, drop, if◌then◌else◌, length, map, ℕ, ◌++◌, ◌==◌, ◌||◌, ◌∷◌}
 use Rattle.std.specs.Char.{to_ascii_lowercase}
 use Rattle.std.specs.Str.{bytes_eq, is_utf8}
