@@ -29,6 +29,7 @@ SPOILED = (
     ("a control character in the replies", "no name that tells why an item was rendered makes a line of its own", '$REAL "$@" | tr "?" "\\033"'),
     ("a line more", "no line of a session, and no word, is said again", '$REAL "$@"; s=$?; echo ok; exit $s'),
     ("a page that is written before the end", "a list that grows without end is stopped by `ulimit -v`, and nothing is written", 'echo x >_site/a.html; exec $REAL "$@"'),
+    ("two documents the other way round", "order: it names half of the documents", '$REAL "$@" | sed "2{h;d};3G"'),
     ("threads with another stack", "threads have a stack as large as `ulimit -s` says", 'ulimit -s 512; exec $REAL "$@"'),
 )
 

@@ -35,6 +35,11 @@ ODD = {
     "a byte that is not UTF-8 in a copied file": {"a.txt": "---\udcff"},
     "a day that is none": {"_c/a.md": "---\ndate: 2023-02-29\n---\n", "_config.yml": "collections: {c: {output: true}}\n"},
     "the year 0": {"_c/a.md": "---\ndate: 0000-01-01\n---\n", "_config.yml": "collections: {c: {output: true}}\n"},
+    "options that are a number": {"_config.yml": "liquid: 5\n"},
+    "options that are a list": {"_config.yml": "liquid: [strict_filters]\n"},
+    "options of other kinds": {"_config.yml": "liquid: {strict_filters: [a], error_mode: {b: c}, 1: 2, '': x}\n"},
+    "orders of other kinds": {"_config.yml": "collections: {c: {order: {a: b}, sort_by: [x]}, posts: 5, d: [a]}\n"},
+    "an order of all kinds": {"_config.yml": "collections: {posts: {order: 5, sort_by: [a]}, c: {order: [[a], {b: c}, ~, /, //a.md, '', 1]}}\n", "_c/a.md": "---\n---\n"},
     "a path of the feed with a zero byte": {"_config.yml": 'feed: {path: "a\\0b"}\nplugins: [jekyll-feed]\n'},
 }
 

@@ -14,6 +14,8 @@ $site.reset; $site.read; $site.generate
 def page(name)
   $site.pages.find { |p| p.relative_path == name } || $site.posts.docs.find { |p| p.relative_path == name }
 end
+# As Jekyll itself does it for an item.
+strict = { :strict_filters => config["liquid"]["strict_filters"], :strict_variables => config["liquid"]["strict_variables"] }
 $n = 0
 STDIN.each_line do |line|
   $n += 1
@@ -23,7 +25,7 @@ STDIN.each_line do |line|
   payload["page"] = item.to_liquid
   (row["payload"] || {}).each { |k, v| payload[k] = v }
   begin
-    info = { :registers => { :site => $site, :page => payload["page"] }, :strict_filters => false, :strict_variables => false }
+    info = { :registers => { :site => $site, :page => payload["page"] }, **strict }
     text = $site.liquid_renderer.file("row#{$n}.html").parse(row["t"]).render!(payload, info)
     puts JSON.generate({o: text})
   rescue SystemStackError => e

@@ -17,7 +17,7 @@ use Rattle.liquid_grammar.specs.Tags.{assignment, cycle, loop_at, name_len}
 use Rattle.liquid_grammar.specs.Items.{tag_item, tag_words}
 use Rattle.liquid_values.specs.Places.{site_fault}
 use Rattle.liquid_eval.specs.Nodes.{entering}
-use Rattle.liquid_eval.specs.Samples.{evaluated_text}
+use Rattle.liquid_eval.specs.Samples.{evaluated_text, strictly}
 
 row_1 : evaluated_text (codes "{% if true or false and false %}y{% else %}n{% endif %}{% if false and false or true %}y{% else %}n{% endif %}") ≡ Gave (codes "yn")
 unfolding cut_from down decimal tokens_after many_after operand operand_in expression test_at condition assignment cycle loop_at name_len tag_item tag_words rows jekyll.rows marked_after entering
@@ -262,3 +262,35 @@ pairs = refl
 raw_in_a_silent_block : evaluated_text (codes "{% if true %} {% raw %}  {% endraw %} {% endif %}|") ≡ Gave (codes "|")
 unfolding cut_from down decimal tokens_after many_after operand operand_in expression test_at condition assignment cycle loop_at name_len tag_item tag_words rows jekyll.rows marked_after entering
 raw_in_a_silent_block = refl
+
+undefined_output : strictly (codes "a\n{{ page.nope }}") ≡ Failed (site_fault (codes "p.html") 2 kind.Undefined)
+unfolding cut_from down decimal tokens_after many_after operand operand_in expression test_at condition assignment cycle loop_at name_len tag_item tag_words rows jekyll.rows marked_after entering
+undefined_output = refl
+
+unknown_name : strictly (codes "{{ \"a\" | nope: x }}") ≡ Failed (site_fault (codes "p.html") 1 kind.UnknownFilter)
+unfolding cut_from down decimal tokens_after many_after operand operand_in expression test_at condition assignment cycle loop_at name_len tag_item tag_words rows jekyll.rows marked_after entering
+unknown_name = refl
+
+free_tests : strictly (codes "{% if page.nope.a %}{% elsif x[y] == z %}{% endif %}{% unless x %}{% case y | default: 1 %}{% when z, 1 %}ok{% endcase %}{% endunless %}") ≡ Gave (codes "ok")
+unfolding cut_from down decimal tokens_after many_after operand operand_in expression test_at condition assignment cycle loop_at name_len tag_item tag_words rows jekyll.rows marked_after entering
+free_tests = refl
+
+tested_branch : strictly (codes "{% if true %}{{ x }}{% endif %}") ≡ Failed (site_fault (codes "p.html") 1 kind.Undefined)
+unfolding cut_from down decimal tokens_after many_after operand operand_in expression test_at condition assignment cycle loop_at name_len tag_item tag_words rows jekyll.rows marked_after entering
+tested_branch = refl
+
+tested_argument : strictly (codes "{% case x | append: y %}{% when 1 %}{% endcase %}") ≡ Failed (site_fault (codes "p.html") 1 kind.Undefined)
+unfolding cut_from down decimal tokens_after many_after operand operand_in expression test_at condition assignment cycle loop_at name_len tag_item tag_words rows jekyll.rows marked_after entering
+tested_argument = refl
+
+default_given : strictly (codes "{{ x | default: \"d\" }}") ≡ Gave (codes "d")
+unfolding cut_from down decimal tokens_after many_after operand operand_in expression test_at condition assignment cycle loop_at name_len tag_item tag_words rows jekyll.rows marked_after entering
+default_given = refl
+
+default_undefined : strictly (codes "{{ x | default: y }}") ≡ Failed (site_fault (codes "p.html") 1 kind.Undefined)
+unfolding cut_from down decimal tokens_after many_after operand operand_in expression test_at condition assignment cycle loop_at name_len tag_item tag_words rows jekyll.rows marked_after entering
+default_undefined = refl
+
+excerpt_in_a_test : strictly (codes "{% if site.posts[0].excerpt %}{% endif %}") ≡ Failed (site_fault (codes "_posts/a.md") 1 kind.Undefined)
+unfolding cut_from down decimal tokens_after many_after operand operand_in expression test_at condition assignment cycle loop_at name_len tag_item tag_words rows jekyll.rows marked_after entering
+excerpt_in_a_test = refl

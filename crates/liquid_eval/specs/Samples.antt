@@ -1,7 +1,7 @@
 -- A small site in which nothing is found but what is listed, and texts evaluated there; only rows and tests use it.
-use Rattle.std.specs.Prelude.{ℕ, List, pos, codes, if◌then◌else◌, Result, Ok, Err}
+use Rattle.std.specs.Prelude.{ℕ, List, pos, true, codes, if◌then◌else◌, Result, Ok, Err}
 use Rattle.std.specs.Str.{bytes_eq}
-use Rattle.site_base.specs.Plain.{Plain, nil, int, text, list, site_item, no_items, item}
+use Rattle.site_base.specs.Plain.{Plain, nil, bool, int, text, list, hash, site_item, no_items, item, no_pairs, pair}
 use Rattle.site_base.specs.declared.faults.SiteFault.{SiteFault}
 use Rattle.site_base.specs.declared.item_name.ItemName.{ItemName}
 use Rattle.read_record.specs.declared.key.Key.{Key}
@@ -58,3 +58,19 @@ evaluated_tree (Err f) = Fail (site_fault (codes "p.html") f.line f.kind)
 
 abbrev pub evaluated_text : List ℕ → Met SiteFault (List ℕ)
 evaluated_text t = interpret sample_view (evaluated_tree (tree t))
+
+-- ---- The same site, where what is undefined and what no filter is are faults, and the front of each text has an undefined output
+
+abbrev pub strict_options : Plain
+strict_options = hash (pair (codes "strict_variables") (bool true) (pair (codes "strict_filters") (bool true) no_pairs))
+
+abbrev pub strict_value : Key → Plain
+strict_value (Source n) = text (codes "{{ nope }}")
+strict_value (SiteVar x) = if bytes_eq x (codes "liquid") then strict_options else site_variable x
+strict_value k = sample_value k
+
+abbrev pub strict_view : View
+strict_view k = Known (strict_value k)
+
+abbrev pub strictly : List ℕ → Met SiteFault (List ℕ)
+strictly t = interpret strict_view (evaluated_tree (tree t))

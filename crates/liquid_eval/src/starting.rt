@@ -25,7 +25,8 @@ use site_base::{ItemName, SitePath, Text};
 use std::alloc::Global;
 use std::mem;
 
-/// The front of a whole text, which sees no variable of a loop or an include.
+/// The front of a whole text, which sees no variable of a loop or an include. All in it is tested, also where an excerpt is entered
+/// from a place that is not.
 pub(crate) fn whole_place<'a>(
     file: &'a SitePath,
     page: &'a ItemName,
@@ -46,6 +47,7 @@ pub(crate) fn whole_place<'a>(
         around: None,
         looping: false,
         quiet: false,
+        tested: true,
         levels,
     }
 }

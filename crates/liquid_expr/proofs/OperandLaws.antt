@@ -92,21 +92,23 @@ module _ (inner : List Token → Reading Operand) where
   range_closed ts a b n m closes e f g h =
       range_to ts a n (Some (b, m)) e f g ∙ ap (λ c. after n (after (1 + m) (cond c (Some (range a b, 1)) None))) h
 
-  pub range_open : (ts : List Token) (old mid new : List Step) (n m : ℕ) → added steps_of old (inner ts) ≡ Some (mid, n) → goes_to (drop n ts) ≡ true → added steps_of mid (inner (drop 1 (drop n ts))) ≡ Some (new, m) → closes_range (drop m (drop 1 (drop n ts))) ≡ false → range_at inner ts ≡ None
+  pub range_open : (ts : List Token) (old mid new : List Step) (n m : ℕ) → added steps_of old (inner ts) ≡ Some (mid, n) → goes_to (drop n ts) ≡ true → added steps_of (mid ++ step.FirstEnd ∷ []) (inner (drop 1 (drop n ts))) ≡ Some (new, m) → closes_range (drop m (drop 1 (drop n ts))) ≡ false → range_at inner ts ≡ None
   range_open ts old mid new n m e f g h =
       let p = parts steps_of old (inner ts) mid n e in
-      let q = parts steps_of mid (inner (drop 1 (drop n ts))) new m g in
+      let q = parts steps_of (mid ++ step.FirstEnd ∷ []) (inner (drop 1 (drop n ts))) new m g in
       range_closed ts p.value q.value n m false p.read f q.read h
 
-  pub range_adds : (ts : List Token) (old mid new : List Step) (n m : ℕ) → added steps_of old (inner ts) ≡ Some (mid, n) → goes_to (drop n ts) ≡ true → added steps_of mid (inner (drop 1 (drop n ts))) ≡ Some (new, m) → closes_range (drop m (drop 1 (drop n ts))) ≡ true
+  pub range_adds : (ts : List Token) (old mid new : List Step) (n m : ℕ) → added steps_of old (inner ts) ≡ Some (mid, n) → goes_to (drop n ts) ≡ true → added steps_of (mid ++ step.FirstEnd ∷ []) (inner (drop 1 (drop n ts))) ≡ Some (new, m) → closes_range (drop m (drop 1 (drop n ts))) ≡ true
       → added steps_of old (range_at inner ts) ≡ Some (new ++ step.Range ∷ [], n + 1 + m + 1)
   range_adds ts old mid new n m e f g h =
       let p = parts steps_of old (inner ts) mid n e in
-      let q = parts steps_of mid (inner (drop 1 (drop n ts))) new m g in
+      let q = parts steps_of (mid ++ step.FirstEnd ∷ []) (inner (drop 1 (drop n ts))) new m g in
       let len : n + ((1 + m) + 1) ≡ n + 1 + m + 1 = omega arith in
       let last = step.Range ∷ [] in
-      let list : old ++ (steps_of p.value ++ (steps_of q.value ++ last)) ≡ new ++ last =
-      sym (append_assoc old (steps_of p.value) (steps_of q.value ++ last)) ∙ ap (λ l. l ++ (steps_of q.value ++ last)) p.list ∙ sym (append_assoc mid (steps_of q.value) last) ∙ ap (λ l. l ++ last) q.list in
+      let behind : List Step = step.FirstEnd ∷ (steps_of q.value ++ last) in
+      let list : old ++ (steps_of p.value ++ behind) ≡ new ++ last =
+      sym (append_assoc old (steps_of p.value) behind) ∙ ap (λ l. l ++ behind) p.list ∙ sym (append_assoc mid (step.FirstEnd ∷ []) (steps_of q.value ++ last))
+      ∙ sym (append_assoc (mid ++ step.FirstEnd ∷ []) (steps_of q.value) last) ∙ ap (λ l. l ++ last) q.list in
       ap (added steps_of old) (range_closed ts p.value q.value n m true p.read f q.read h) ∙ ap (λ l. Some (l, n + ((1 + m) + 1))) list ∙ ap (λ k. Some (new ++ last, k)) len
 
   -- ---- Operands

@@ -17,7 +17,7 @@ use std::alloc::Global;
 /// No more brackets than these may be open.
 const MOST_BRACKETS: u32 = 100;
 
-// How many steps the operand at the front has, or somewhat more: as many as its names, literals and opening brackets. It looks no
+// How many steps the operand at the front has, or somewhat more: as many as its names, literals, opening brackets and `..`. It looks no
 // further than the operand goes, so that many operands one behind another are counted in the time of their tokens.
 fn step_count(tokens: Tokens) -> usize {
     let mut count: usize = 0;
@@ -64,7 +64,10 @@ fn lets_name_follow(mark: Option<Mark>) -> bool {
 }
 
 fn makes_step(mark: Option<Mark>) -> bool {
-    matches!(mark, None | Some(Mark::OpenBracket | Mark::OpenRange))
+    matches!(
+        mark,
+        None | Some(Mark::OpenBracket | Mark::OpenRange | Mark::To)
+    )
 }
 
 impl FromTokens for Operand {

@@ -111,6 +111,7 @@ fn range(alloc: Global, tokens: Tokens, depth: u32, steps: &mut Vec<Step>) -> Re
     if !goes_to(behind) {
         return Err(Stop::NoReading);
     }
+    steps.push(Step::FirstEnd)?;
     let behind = rest(behind, 1);
     let to = operand(alloc, behind, depth - 1, steps)?;
     if !closes_range(rest(behind, to)) {

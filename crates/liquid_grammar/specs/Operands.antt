@@ -16,10 +16,10 @@ pub data Operand : Type 0 where
   -- `e[x]`
   index : (e x : Operand) → Operand
 
--- the steps for a stack of values: first those of the parts, from left to right
+-- the steps for a stack of values: first those of the parts, from left to right; a range's first end is settled before its last is begun
 abbrev pub steps_of : Operand → List Step
 steps_of (literal l) = step.Literal l ∷ []
-steps_of (range a b) = steps_of a ++ (steps_of b ++ step.Range ∷ [])
+steps_of (range a b) = steps_of a ++ (step.FirstEnd ∷ (steps_of b ++ step.Range ∷ []))
 steps_of (variable name) = step.Variable name ∷ []
 steps_of (member e name) = steps_of e ++ step.Member name ∷ []
 steps_of (index e x) = steps_of e ++ (steps_of x ++ step.Index ∷ [])
@@ -44,6 +44,7 @@ do_step (step.Literal l) stack = literal l ∷ stack
 do_step (step.Variable name) stack = variable name ∷ stack
 do_step (step.Member name) stack = do_member name stack
 do_step step.Index stack = do_index stack
+do_step step.FirstEnd stack = stack
 do_step step.Range stack = do_range stack
 
 abbrev pub do_steps : List Step → List Operand → List Operand
@@ -61,8 +62,8 @@ operand_of steps = on_top (do_steps steps [])
 pub do-steps_of : (e : Operand) (more : List Step) (stack : List Operand) → do_steps (steps_of e ++ more) stack ≡ do_steps more (e ∷ stack)
 do-steps_of (literal l) more stack = refl
 do-steps_of (range a b) more stack =
-    ap (λ ss. do_steps ss stack) (append_assoc (steps_of a) (steps_of b ++ step.Range ∷ []) more ∙ ap (λ ss. steps_of a ++ ss) (append_assoc (steps_of b) (step.Range ∷ []) more))
-    ∙ do-steps_of a (steps_of b ++ (step.Range ∷ more)) stack ∙ do-steps_of b (step.Range ∷ more) (a ∷ stack)
+    ap (λ ss. do_steps ss stack) (append_assoc (steps_of a) (step.FirstEnd ∷ (steps_of b ++ step.Range ∷ [])) more ∙ ap (λ (ss : List Step). steps_of a ++ (step.FirstEnd ∷ ss)) (append_assoc (steps_of b) (step.Range ∷ []) more))
+    ∙ do-steps_of a (step.FirstEnd ∷ (steps_of b ++ (step.Range ∷ more))) stack ∙ do-steps_of b (step.Range ∷ more) (a ∷ stack)
 do-steps_of (variable name) more stack = refl
 do-steps_of (member e name) more stack = ap (λ ss. do_steps ss stack) (append_assoc (steps_of e) (step.Member name ∷ []) more) ∙ do-steps_of e (step.Member name ∷ more) stack
 do-steps_of (index e x) more stack =
@@ -104,12 +105,14 @@ step_numbers (step.Variable name) = (7, (pos 0, name))
 step_numbers (step.Member name) = (8, (pos 0, name))
 step_numbers step.Index = (9, (pos 0, []))
 step_numbers step.Range = (10, (pos 0, []))
+step_numbers step.FirstEnd = (11, (pos 0, []))
 
 abbrev late_step : ℕ → List ℕ → Step
 late_step zero t = step.Variable t
 late_step (suc zero) t = step.Member t
 late_step (suc (suc zero)) t = step.Index
-late_step k t = step.Range
+late_step (suc (suc (suc zero))) t = step.Range
+late_step k t = step.FirstEnd
 
 abbrev step_at : ℕ → ℤ → List ℕ → Step
 step_at zero n t = step.Literal literals.Nil
@@ -136,6 +139,7 @@ step_again (step.Variable name) = refl
 step_again (step.Member name) = refl
 step_again step.Index = refl
 step_again step.Range = refl
+step_again step.FirstEnd = refl
 
 steps_again : (ss : List Step) → map step_from (map step_numbers ss) ≡ ss
 steps_again [] = refl

@@ -13,6 +13,8 @@ pub enum Step {
     Member(Text),
     /// Replaces the two values on top by the member of the lower that the upper names.
     Index,
+    /// Settles the value on top, which is the first end of a range: its data is looked up before the last end is begun.
+    FirstEnd,
     /// Replaces the two values on top by the range from the lower to the upper.
     Range,
 }

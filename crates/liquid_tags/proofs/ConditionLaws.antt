@@ -86,7 +86,7 @@ any_in_list p is vs e = any_items p vs ∙ ap (λ js. list_any p (item_list js))
 
 some_steps : (e : Operand) → 0 < length (steps_of e)
 some_steps (literal l) = omega arith
-some_steps (range a b) = omega (arith, some_steps a, length-append (steps_of a) (steps_of b ++ steps.Range ∷ []))
+some_steps (range a b) = omega (arith, some_steps a, length-append (steps_of a) (steps.FirstEnd ∷ (steps_of b ++ steps.Range ∷ [])))
 some_steps (variable x) = omega arith
 some_steps (member e x) = omega (arith, some_steps e, length-append (steps_of e) (steps.Member x ∷ []))
 some_steps (index e x) = omega (arith, some_steps e, length-append (steps_of e) (steps_of x ++ steps.Index ∷ []))
@@ -107,7 +107,7 @@ right_several (index e x) h = refl
 
 pub right_only : (e : Operand) (s : Step) → steps_of e ≡ s ∷ [] → right_of e ≡ step_right s
 right_only (literal l) s h = let same : steps.Literal l ≡ s = cc in ap step_right same
-right_only (range a b) s h = absurd (several a (steps_of b ++ steps.Range ∷ []) (behind_some (steps_of b) steps.Range) (ap length h))
+right_only (range a b) s h = absurd (several a (steps.FirstEnd ∷ (steps_of b ++ steps.Range ∷ [])) (omega arith) (ap length h))
 right_only (variable x) s h = let same : steps.Variable x ≡ s = cc in ap step_right same
 right_only (member e x) s h = absurd (several e (steps.Member x ∷ []) (omega arith) (ap length h))
 right_only (index e x) s h = absurd (several e (steps_of x ++ steps.Index ∷ []) (behind_some (steps_of x) steps.Index) (ap length h))

@@ -11,12 +11,12 @@ use Rattle.liquid_grammar.specs.declared.item.Part.{Part}
 use Rattle.liquid_grammar.specs.declared.item.Part.TheVariants.{Body, Test, When, Otherwise}
 use Rattle.liquid_grammar.specs.Operands as operands
 use Rattle.liquid_grammar.specs.Trees.{Tree, done, leaf, block, part}
-use Rattle.liquid_values.specs.Places.{Place, at_line}
+use Rattle.liquid_values.specs.Places.{Place, at_line, untested}
 use Rattle.liquid_values.specs.Operands.{operand}
 use Rattle.list_filters.specs.Choosing.{same_value}
 use Rattle.liquid_tags.specs.Conditions.{condition}
 use Rattle.liquid_values.specs.Names.{Excerpting}
-use Rattle.liquid_tags.specs.Expressions.{expression}
+use Rattle.liquid_tags.specs.Expressions.{case_value}
 
 -- a part is taken by a test, whose fault is in the part's line
 abbrev pub Choice : Type 0
@@ -68,12 +68,12 @@ module _ (excerpts : Excerpting) where
   takes_value vars v p (Test c) = Give false
 
   abbrev pub case_part : Place → Pairs → Expr → Tree → Query SiteFault (Option Tree)
-  case_part p vars e parts = bind (expression excerpts p vars e) (λ v. chosen (takes_value vars v) p parts)
+  case_part p vars e parts = bind (case_value excerpts p vars e) (λ v. chosen (takes_value vars v) (untested p) parts)
 
-  -- what `if`, `unless` and `case` take of their parts
+  -- what `if`, `unless` and `case` take of their parts, of which no operand is tested
   abbrev pub branch : Place → Pairs → Block → Tree → Query SiteFault (Option Tree)
-  branch p vars blocks.If parts = if_part p vars parts
-  branch p vars blocks.Unless parts = unless_part p vars parts
+  branch p vars blocks.If parts = if_part (untested p) vars parts
+  branch p vars blocks.Unless parts = unless_part (untested p) vars parts
   branch p vars (blocks.Case e) parts = case_part p vars e parts
   branch p vars (blocks.For l) parts = Give None
   branch p vars (blocks.TableRow l) parts = Give None

@@ -8,7 +8,7 @@ ghost use Rattle.liquid_tags.specs.Branches as branches;
 ghost use Rattle.liquid_tags.specs.Branches.{chosen, equals_one, fails_test, takes_test, takes_value};
 
 use crate::conditions::{condition, is_same};
-use crate::expressions::expression;
+use crate::expressions::case_value;
 use crate::nodes::{First, Nodes};
 use crate::tools::Tools;
 use liquid_grammar::{Block, Operand, Part};
@@ -19,7 +19,8 @@ use site_base::{Hash, Value};
 use std::alloc::Global;
 
 /// The nodes of the part that `if`, `unless` or `case` takes: the first whose test holds, or fails in the first part of an `unless`,
-/// or that has the value of the `case`, or the last. No more tests and values are evaluated than are needed.
+/// or that has the value of the `case`, or the last. No more tests and values are evaluated than are needed, and all that is compared may
+/// be undefined, but for the arguments of filters.
 ///
 /// It stops at the first fault, which has the line of the part.
 #[tactic(auto, using(read_record::proofs::CallLaws::binds))]
@@ -35,15 +36,16 @@ pub fn branch<'a, 'c, 'n, X: Excerpts, C: Convert, L: Look>(
     ensures same { L.view look.new ≡ L.view look.old }
     ensures gives { Finds (run (L.view look.old) (L.trace look.old) (branches.branch (X.excerpts place.now.levels) (place_of place.now) assigned.now block.now parts.now)) result (L.trace look.new) }
 {
+    let free = place.untested();
     match block {
-        Block::If => if_part(alloc, &mut tools.excerpts, place, assigned, parts, look),
-        Block::Unless => unless_part(alloc, &mut tools.excerpts, place, assigned, parts, look),
+        Block::If => if_part(alloc, &mut tools.excerpts, &free, assigned, parts, look),
+        Block::Unless => unless_part(alloc, &mut tools.excerpts, &free, assigned, parts, look),
         Block::Case(expr) => {
-            let value = expression(alloc, tools, place, assigned, expr.get(), look)?;
+            let value = case_value(alloc, tools, place, assigned, expr.get(), look)?;
             case_part(
                 alloc,
                 &mut tools.excerpts,
-                place,
+                &free,
                 assigned,
                 &value,
                 parts,

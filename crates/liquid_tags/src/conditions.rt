@@ -130,7 +130,8 @@ fn step_right(step: &Step) -> Right
 {
     match step {
         Step::Literal(literal) => literal_right(literal),
-        Step::Variable(_) | Step::Member(_) | Step::Index | Step::Range => Right::Value,
+        Step::Variable(_) | Step::Member(_) | Step::Index | Step::FirstEnd | Step::Range =>
+            Right::Value,
     }
 }
 

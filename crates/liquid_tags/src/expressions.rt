@@ -7,24 +7,26 @@ ghost use Rattle.jekyll_filters.specs.Table as jekyll;
 ghost use Rattle.filter_base.specs.Answers.{limited};
 ghost use Rattle.liquid_filters.specs.Table as liquid;
 ghost use Rattle.liquid_values.specs.Answers.{in_plain};
+ghost use Rattle.liquid_values.specs.Operands.{operand as operand_value};
 ghost use Rattle.liquid_values.specs.Places.{placed};
 ghost use Rattle.liquid_values.specs.Standing.{place_of};
-ghost use Rattle.liquid_tags.specs.Expressions.{expression, filtered, filtered_by, meaning_named, values_behind};
+ghost use Rattle.liquid_tags.specs.Expressions.{case_value, expression, filtered, filtered_by, has_default, input_place, meaning_named, valued, values_behind};
 ghost use Rattle.liquid_tags.specs.Answers.{in_plains};
 
 use crate::tools::Tools;
 use liquid_grammar::{Expr, Extras, Filter, Operand};
-use liquid_values::{Excerpts, Place, Stop, apply_liquid, operand};
+use liquid_values::{Excerpts, Place, Stop, apply_liquid, operand, unknown_filter};
 use markdown_grammar::Convert;
 use read_record::Look;
-use site_base::{Hash, Value, copy};
+use site_base::{Hash, Value};
 use std::alloc::Global;
 
 /// The value of an expression, where the tag stands at a place, by the variables that were assigned: that of its operand, which goes
-/// through the filters one after another. A name that no filter has leaves the value as it is, and its arguments are not evaluated.
+/// through the filters one after another. An operand that goes to the filter `default` may be undefined. A name that no filter has
+/// leaves the value as it is, and its arguments are not evaluated.
 ///
-/// It stops at the first fault, which has the file and the line of the tag: those of operands, and those of filters.
-#[tactic(auto, using(read_record::proofs::CallLaws::binds))]
+/// It stops at the first fault, which has the file and the line of the tag: those of operands, those of filters, and UnknownFilter
+/// where the site is strict with filters and no filter has the name.
 pub fn expression<'a, 'c, X: Excerpts, C: Convert, L: Look>(
     alloc: Global,
     tools: &mut Tools<'c, X, C>,
@@ -36,12 +38,55 @@ pub fn expression<'a, 'c, X: Excerpts, C: Convert, L: Look>(
     ensures same { L.view look.new ≡ L.view look.old }
     ensures gives { Finds (run (L.view look.old) (L.trace look.old) (expression (X.excerpts place.now.levels) (place_of place.now) assigned.now expr.now)) (in_plain result) (L.trace look.new) }
 {
-    let value = operand(
+    let may_be_undefined = has_default(expr.filters.as_slice());
+    valued(alloc, tools, place, assigned, expr, may_be_undefined, look)
+}
+
+/// The value that a `case` compares: that of an expression whose operand may be undefined.
+pub(crate) fn case_value<'a, 'c, X: Excerpts, C: Convert, L: Look>(
+    alloc: Global,
+    tools: &mut Tools<'c, X, C>,
+    place: &Place<'a>,
+    assigned: &Hash,
+    expr: &Expr,
+    look: &mut L,
+) -> Result<Value, Stop>
+    ensures same { L.view look.new ≡ L.view look.old }
+    ensures gives { Finds (run (L.view look.old) (L.trace look.old) (case_value (X.excerpts place.now.levels) (place_of place.now) assigned.now expr.now)) (in_plain result) (L.trace look.new) }
+{
+    valued(alloc, tools, place, assigned, expr, true, look)
+}
+
+// Whether a value goes to the filter `default` first, which is there for what is undefined.
+fn has_default(filters: &[Filter]) -> bool
+    ensures { result ≡ has_default filters.now }
+{
+    match filters {
+        [first, ..] => first.name.as_str() == "default",
+        [] => false,
+    }
+}
+
+#[tactic(auto, using(read_record::proofs::CallLaws::binds))]
+fn valued<'a, 'c, X: Excerpts, C: Convert, L: Look>(
+    alloc: Global,
+    tools: &mut Tools<'c, X, C>,
+    place: &Place<'a>,
+    assigned: &Hash,
+    expr: &Expr,
+    may_be_undefined: bool,
+    look: &mut L,
+) -> Result<Value, Stop>
+    ensures same { L.view look.new ≡ L.view look.old }
+    ensures gives { Finds (run (L.view look.old) (L.trace look.old) (valued (X.excerpts place.now.levels) may_be_undefined (place_of place.now) assigned.now expr.now)) (in_plain result) (L.trace look.new) }
+{
+    let value = input(
         alloc,
         &mut tools.excerpts,
         place,
         assigned,
         &expr.operand,
+        may_be_undefined,
         look,
     )?;
     filtered(
@@ -53,6 +98,26 @@ pub fn expression<'a, 'c, X: Excerpts, C: Convert, L: Look>(
         value,
         look,
     )
+}
+
+// The value of an operand that filters may follow.
+fn input<'a, X: Excerpts, L: Look>(
+    alloc: Global,
+    excerpts: &mut X,
+    place: &Place<'a>,
+    assigned: &Hash,
+    each: &Operand,
+    may_be_undefined: bool,
+    look: &mut L,
+) -> Result<Value, Stop>
+    ensures same { L.view look.new ≡ L.view look.old }
+    ensures gives { Finds (run (L.view look.old) (L.trace look.old) (operand_value (X.excerpts place.now.levels) (input_place may_be_undefined (place_of place.now)) assigned.now each.now)) (in_plain result) (L.trace look.new) }
+{
+    if may_be_undefined {
+        operand(alloc, excerpts, &place.untested(), assigned, each, look)
+    } else {
+        operand(alloc, excerpts, place, assigned, each, look)
+    }
 }
 
 // What filters make of a value, one after another.
@@ -76,7 +141,7 @@ fn filtered<'a, 'c, X: Excerpts, C: Convert, L: Look>(
     Ok(value)
 }
 
-// What one filter makes of a value. Jekyll's filters are asked first.
+// What one filter makes of a value. Jekyll's filters are asked first; where neither has the name, the arguments are not evaluated.
 fn filtered_by<'a, 'c, X: Excerpts, C: Convert, L: Look>(
     alloc: Global,
     tools: &mut Tools<'c, X, C>,
@@ -104,7 +169,7 @@ fn filtered_by<'a, 'c, X: Excerpts, C: Convert, L: Look>(
             look,
         );
     }
-    Ok(copy(alloc, input)?)
+    unknown_filter(alloc, place, input, look)
 }
 
 // What a filter of Jekyll makes of a value, by its arguments.

@@ -1,12 +1,11 @@
 -- What a filter answers, as a run in which its fault is the tag's.
 use Rattle.std.proofs.Common.{◌≡◌, ◌∙◌, refl, ap, sym, Result, Ok, Err}
 use Rattle.site_base.specs.Plain.{Plain}
-use Rattle.site_base.specs.View.{plain}
 use Rattle.site_base.specs.declared.faults.FaultKind.{FaultKind}
 use Rattle.site_base.specs.declared.faults.SiteFault.{SiteFault}
 use Rattle.site_base.specs.declared.value.Value.{Value}
 use Rattle.read_record.specs.Answers.{Finds}
-use Rattle.read_record.specs.Queries.{Query, Give, Fail, Ask, Reply, Known, Missing, on_reply, View, Trace, note, Ran, RanTo, FailedAt, WaitsFor, run}
+use Rattle.read_record.specs.Queries.{Query, Give, Fail, Ask, Known, Missing, on_reply, View, Trace, note, Ran, RanTo, FailedAt, WaitsFor, run}
 use Rattle.read_record.specs.declared.stop.Stop.{Stop}
 use Rattle.read_record.specs.declared.stop.Stop.TheVariants as stop
 use Rattle.filter_base.specs.Answers.{Replies}

@@ -1,11 +1,11 @@
 -- What calls that change something, or that look nothing up, tell of runs.
-use Rattle.std.proofs.Common.{◌≡◌, ◌∙◌, refl, ap, Result, Ok, Err}
+use Rattle.std.proofs.Common.{◌≡◌, ◌∙◌, ap, Result, Ok, Err}
 use Rattle.site_base.specs.declared.faults.FaultKind.{FaultKind}
 use Rattle.site_base.specs.declared.faults.SiteFault.{SiteFault}
 use Rattle.read_record.proofs.CallLaws.{stops_at, stops_bind, stops_then, finds_then}
 use Rattle.read_record.proofs.QueryLaws.{run_gave, run_failed, run_waits}
 use Rattle.read_record.specs.Answers.{Stops, Finds}
-use Rattle.read_record.specs.Queries.{Query, Give, bind, View, Trace, Ran, RanTo, FailedAt, run}
+use Rattle.read_record.specs.Queries.{Query, bind, View, Trace, Ran, RanTo, FailedAt, run}
 use Rattle.read_record.specs.declared.stop.Stop.{Stop}
 use Rattle.read_record.specs.declared.stop.Stop.TheVariants as stop
 use Rattle.liquid_values.specs.Answers.{Advances, FoundAt, Settles}

@@ -1,7 +1,7 @@
 -- The steps of an operand leave what it stands for.
 use Rattle.std.proofs.Common.{◌≡◌, ℕ, ◌+◌, ◌<◌, List, [], ◌∷◌, ◌++◌, length, drop, get_or, refl, ap, sym, subst, ◌∙◌, append_assoc, append-nil}
 use Rattle.std.proofs.lemmas.List.{at_drop_more}
-use Rattle.site_base.specs.Plain.{Pairs}
+use Rattle.site_base.specs.Plain.{Plain, Pairs}
 use Rattle.site_base.specs.declared.faults.SiteFault.{SiteFault}
 use Rattle.read_record.specs.Answers.{Stops}
 use Rattle.read_record.specs.Queries.{Query, Give, bind, View, Trace, RanTo, run}
@@ -12,7 +12,7 @@ use Rattle.read_record.proofs.BindLaws.{bind-assoc, bind-give}
 use Rattle.liquid_grammar.specs.declared.step.Step.{Step}
 use Rattle.liquid_grammar.specs.declared.step.Step.TheVariants as steps
 use Rattle.liquid_grammar.specs.Operands.{Operand, literal, range, variable, member, index, steps_of}
-use Rattle.liquid_values.specs.Names.{Found, Excerpting, named}
+use Rattle.liquid_values.specs.Names.{Found, value, settled, Excerpting, named}
 use Rattle.liquid_values.specs.OperandSteps.{Standing, pushed, on_top, one_step, all_steps, last_found}
 use Rattle.liquid_values.specs.Operands as operands
 use Rattle.liquid_values.specs.Places.{Place}
@@ -43,12 +43,14 @@ module _ (excerpts : Excerpting) (p : Place) (vars : Pairs) where
       ∙ sym (bind-assoc (found x) (λ g. operands.index_found excerpts p f g) (λ g. all more (g ∷ st)))) i))
       ∙ sym (bind-assoc (found e) (λ f. bind (found x) (λ g. operands.index_found excerpts p f g)) (λ g. all more (g ∷ st)))
   steps-found (range a b) more st =
-      ap (λ ss. all ss st) (append_assoc (steps_of a) (steps_of b ++ steps.Range ∷ []) more ∙ ap (λ ss. steps_of a ++ ss) (append_assoc (steps_of b) (steps.Range ∷ []) more))
-      ∙ steps-found a (steps_of b ++ (steps.Range ∷ more)) st
-      ∙ (λ i. bind (found a) (λ (f : Found). (steps-found b (steps.Range ∷ more) (f ∷ st)
-      ∙ (λ j. bind (found b) (λ (g : Found). then_all (operands.range_found p f g) st more j))
-      ∙ sym (bind-assoc (found b) (λ g. operands.range_found p f g) (λ g. all more (g ∷ st)))) i))
-      ∙ sym (bind-assoc (found a) (λ f. bind (found b) (λ g. operands.range_found p f g)) (λ g. all more (g ∷ st)))
+      ap (λ ss. all ss st) (append_assoc (steps_of a) (steps.FirstEnd ∷ (steps_of b ++ steps.Range ∷ [])) more ∙ ap (λ (ss : List Step). steps_of a ++ (steps.FirstEnd ∷ ss)) (append_assoc (steps_of b) (steps.Range ∷ []) more))
+      ∙ steps-found a (steps.FirstEnd ∷ (steps_of b ++ (steps.Range ∷ more))) st
+      ∙ (λ i. bind (found a) (λ (f : Found). (bind-assoc (settled p f) (λ (v : Plain). Give (value v ∷ st)) (λ now. all (steps_of b ++ (steps.Range ∷ more)) now)
+      ∙ (λ j. bind (settled p f) (λ (v : Plain). (steps-found b (steps.Range ∷ more) (value v ∷ st)
+      ∙ (λ k. bind (found b) (λ (g : Found). then_all (operands.range_from p v g) st more k))
+      ∙ sym (bind-assoc (found b) (λ g. operands.range_from p v g) (λ g. all more (g ∷ st)))) j))
+      ∙ sym (bind-assoc (settled p f) (λ v. bind (found b) (λ g. operands.range_from p v g)) (λ g. all more (g ∷ st)))) i))
+      ∙ sym (bind-assoc (found a) (λ f. bind (settled p f) (λ v. bind (found b) (λ g. operands.range_from p v g))) (λ g. all more (g ∷ st)))
 
   -- the operand's steps, from an empty stack
   pub operand-found : (e : Operand) → last_found excerpts p vars (steps_of e) [] ≡ found e

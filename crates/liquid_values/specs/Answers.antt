@@ -1,6 +1,5 @@
 -- What calls answer, in terms of definitions.
-use Rattle.std.specs.Prelude.{◌≡◌, Option, Some, None, Result, Ok, Err}
-use Rattle.std.specs.Borrow.{Bor}
+use Rattle.std.specs.Prelude.{◌≡◌, Result, Ok, Err}
 use Rattle.site_base.specs.Plain.{Plain}
 use Rattle.site_base.specs.View.{plain}
 use Rattle.site_base.specs.declared.value.Value.{Value}

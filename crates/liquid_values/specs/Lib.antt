@@ -7,3 +7,4 @@ pub mod Operands
 pub mod Places
 pub mod Samples
 pub mod Standing
+pub mod StrictOptions

@@ -1,16 +1,18 @@
 -- What first names stand for. After the reference of Liquid 4 (Shopify), "Variables", and Jekyll 4's manual, "Variables".
-use Rattle.std.specs.Prelude.{◌==◌, ℕ, zero, suc, pos, ℤ, Bool, true, false, ◌&&◌, ◌||◌, List, [], ◌∷◌, length, codes, if◌then◌else◌, Option, Some, None}
+use Rattle.std.specs.Prelude.{◌==◌, ℕ, zero, suc, Bool, true, false, ◌&&◌, ◌||◌, List, [], ◌∷◌, codes, if◌then◌else◌, Option, Some, None}
 use Rattle.std.specs.Map.{lookup}
-use Rattle.std.specs.Option.{unwrap_or, option_or}
+use Rattle.std.specs.Option.{option_or}
 use Rattle.std.specs.Str.{bytes_eq}
-use Rattle.site_base.specs.Plain.{Plain, nil, int, text, list, hash, site_item, Items, no_items, item, onto, Pairs, no_pairs, pair, get}
+use Rattle.site_base.specs.Plain.{Plain, nil, text, list, hash, site_item, Items, no_items, item, onto, Pairs, no_pairs, pair, get}
 use Rattle.site_base.specs.declared.faults.SiteFault.{SiteFault}
 use Rattle.site_base.specs.declared.item_name.ItemName.{ItemName}
+use Rattle.read_record.specs.declared.key.Key.{Key}
 use Rattle.read_record.specs.declared.key.Key.TheVariants.{Paginator, SiteVar, Data, Var}
 use Rattle.read_record.specs.Queries.{Query, Give, Ask, bind}
 use Rattle.filter_base.specs.Answers.{limited}
 use Rattle.filter_base.specs.Dates.{date}
 use Rattle.liquid_values.specs.Places.{Manner, of_body, of_excerpt, of_layout, Place, placed}
+use Rattle.liquid_values.specs.StrictOptions.{asked, defined}
 
 -- what a name or a member stands for: a value, `site`, which has members alone, or what its data has under these keys
 pub data Found : Type 0 where
@@ -19,13 +21,21 @@ pub data Found : Type 0 where
   the_data : Items → Found
 
 -- its value: data is looked up where no further key follows
-abbrev pub settled : Found → Query SiteFault Plain
-settled (value v) = Give v
-settled the_site = Give nil
-settled (the_data keys) = Ask (Data keys) Give
+abbrev pub settled : Place → Found → Query SiteFault Plain
+settled p (value v) = Give v
+settled p the_site = Give nil
+settled p (the_data keys) = asked p (Data keys)
 
 abbrev pub given : Plain → Query SiteFault Found
 given v = Give (value v)
+
+-- a value where it is there; else it is undefined
+abbrev pub reached : Place → Option Plain → Query SiteFault Found
+reached p v = bind (defined p v) given
+
+-- the value of a key
+abbrev pub looked_up : Place → Key → Query SiteFault Found
+looked_up p k = bind (asked p k) given
 
 -- what the member `excerpt` of an item is, for a tag at a place
 abbrev pub Excerpting : Type 0
@@ -39,19 +49,19 @@ abbrev pub jekyll : Plain
 jekyll = hash (pair (codes "environment") (text (codes "development")) (pair (codes "version") (text (codes "4")) no_pairs))
 
 -- the names that only a layout has
-abbrev pub layout_name : List ℕ → Manner → Plain
-layout_name x (of_layout own content layout) = if bytes_eq x (codes "content") then text content else if bytes_eq x (codes "layout") then layout else nil
-layout_name x of_body = nil
-layout_name x of_excerpt = nil
+abbrev pub layout_name : List ℕ → Manner → Option Plain
+layout_name x (of_layout own content layout) = if bytes_eq x (codes "content") then Some (text content) else if bytes_eq x (codes "layout") then Some layout else None
+layout_name x of_body = None
+layout_name x of_excerpt = None
 
 -- the names that need no variable
 abbrev pub standing : Place → List ℕ → Query SiteFault Found
 standing p x =
     if bytes_eq x (codes "site") then Give the_site
     else if bytes_eq x (codes "page") then given (site_item p.page.path p.page.part)
-    else if bytes_eq x (codes "paginator") then Ask (Paginator p.page) given
+    else if bytes_eq x (codes "paginator") then looked_up p (Paginator p.page)
     else if bytes_eq x (codes "jekyll") then given jekyll
-    else given (layout_name x p.manner)
+    else reached p (layout_name x p.manner)
 
 abbrev pub variable_or : Option Plain → Query SiteFault Found → Query SiteFault Found
 variable_or (Some v) other = given v
@@ -108,4 +118,4 @@ site_member p x =
     if bytes_eq x (codes "data") then Give (the_data no_items)
     else if bytes_eq x (codes "time") then site_time p
     else if bytes_eq x (codes "related_posts") then Ask (SiteVar (codes "posts")) (λ posts. given (related p.page posts))
-    else Ask (SiteVar x) given
+    else looked_up p (SiteVar x)

@@ -1,6 +1,6 @@
 -- An operand by its steps, each on a stack of what names and members stand for.
-use Rattle.std.specs.Prelude.{ℕ, List, [], ◌∷◌, ◌++◌, map, reverse, Option, Some, None}
-use Rattle.site_base.specs.Plain.{Plain, nil, Pairs}
+use Rattle.std.specs.Prelude.{ℕ, List, [], ◌∷◌, map, reverse, Option, Some, None}
+use Rattle.site_base.specs.Plain.{nil, Pairs}
 use Rattle.site_base.specs.declared.faults.SiteFault.{SiteFault}
 use Rattle.read_record.specs.Queries.{Query, Give, bind}
 use Rattle.liquid_grammar.specs.declared.step.Step.{Step}
@@ -9,8 +9,8 @@ use Rattle.liquid_values.specs.declared.found.Found.{Found}
 use Rattle.liquid_values.specs.declared.stack.Stack.{Stack}
 use Rattle.liquid_values.specs.Answers.{found_of}
 use Rattle.liquid_values.specs.Names as names
-use Rattle.liquid_values.specs.Names.{Excerpting, value, named}
-use Rattle.liquid_values.specs.Operands.{literal_value, member, index_found, range_found}
+use Rattle.liquid_values.specs.Names.{Excerpting, value, settled, named}
+use Rattle.liquid_values.specs.Operands.{literal_value, member, index_found, range_from}
 use Rattle.liquid_values.specs.Places.{Place}
 
 -- what stands on a stack, from its top
@@ -23,6 +23,15 @@ pushed st q = bind q (λ f. Give (f ∷ st))
 abbrev pub on_top : Standing → names.Found
 on_top [] = value nil
 on_top (f ∷ st) = f
+
+-- what is on top is settled
+abbrev pub first_end_step : Place → Standing → Query SiteFault Standing
+first_end_step p [] = Give []
+first_end_step p (f ∷ st) = bind (settled p f) (λ v. Give (value v ∷ st))
+
+-- from the lower to the upper
+abbrev pub range_found : Place → names.Found → names.Found → Query SiteFault names.Found
+range_found p f g = bind (settled p f) (λ v. range_from p v g)
 
 abbrev pub range_step : Place → Standing → Query SiteFault Standing
 range_step p (b ∷ a ∷ st) = pushed st (range_found p a b)
@@ -43,6 +52,7 @@ module _ (excerpts : Excerpting) (p : Place) (vars : Pairs) where
   one_step (steps.Variable x) st = pushed st (named p vars x)
   one_step (steps.Member x) st = member_step excerpts p x st
   one_step steps.Index st = index_step excerpts p st
+  one_step steps.FirstEnd st = first_end_step p st
   one_step steps.Range st = range_step p st
 
   abbrev pub all_steps : List Step → Standing → Query SiteFault Standing

@@ -1,6 +1,5 @@
 -- Where an evaluation stands: the file and the line, the item, what the text around is, and the variables of the loops and includes around.
-use Rattle.std.specs.Prelude.{ℕ, Bool, true, false, List, [], ◌∷◌, ◌++◌, if◌then◌else◌, ◌==◌, Result, Ok, Err}
-use Rattle.std.specs.Str.{bytes_eq}
+use Rattle.std.specs.Prelude.{ℕ, Bool, true, false, List, [], Result, Ok, Err}
 use Rattle.site_base.specs.Plain.{Plain, nil}
 use Rattle.site_base.specs.declared.faults.FaultKind.{FaultKind}
 use Rattle.site_base.specs.declared.faults.SiteFault.{SiteFault}
@@ -28,23 +27,29 @@ pub record Place : Type 0 where
   pub looping : Bool
   -- text stands in a block that writes nothing
   pub quiet : Bool
+  -- what is undefined is a fault where the site wants that
+  pub tested : Bool
 
 abbrev pub at_line : ℕ → Place → Place
-at_line line p = record { file = p.file; line = line; page = p.page; manner = p.manner; locals = p.locals; around = p.around; looping = p.looping; quiet = p.quiet }
+at_line line p = record { file = p.file; line = line; page = p.page; manner = p.manner; locals = p.locals; around = p.around; looping = p.looping; quiet = p.quiet; tested = p.tested }
 
 abbrev pub silenced : Bool → Place → Place
-silenced quiet p = record { file = p.file; line = p.line; page = p.page; manner = p.manner; locals = p.locals; around = p.around; looping = p.looping; quiet = quiet }
+silenced quiet p = record { file = p.file; line = p.line; page = p.page; manner = p.manner; locals = p.locals; around = p.around; looping = p.looping; quiet = quiet; tested = p.tested }
+
+-- what is undefined is nil, whatever the site wants
+abbrev pub untested : Place → Place
+untested p = record { file = p.file; line = p.line; page = p.page; manner = p.manner; locals = p.locals; around = p.around; looping = p.looping; quiet = p.quiet; tested = false }
 
 abbrev pub in_loop : List (List ℕ × Plain) → Plain → Place → Place
-in_loop locals around p = record { file = p.file; line = p.line; page = p.page; manner = p.manner; locals = locals; around = around; looping = true; quiet = p.quiet }
+in_loop locals around p = record { file = p.file; line = p.line; page = p.page; manner = p.manner; locals = locals; around = around; looping = true; quiet = p.quiet; tested = p.tested }
 
 -- in the text of an include, which is read from its first line
 abbrev pub in_include : List ℕ → List (List ℕ × Plain) → Place → Place
-in_include file locals p = record { file = file; line = 0; page = p.page; manner = p.manner; locals = locals; around = p.around; looping = p.looping; quiet = p.quiet }
+in_include file locals p = record { file = file; line = 0; page = p.page; manner = p.manner; locals = locals; around = p.around; looping = p.looping; quiet = p.quiet; tested = p.tested }
 
 -- at the front of a whole text
 abbrev pub at_start : List ℕ → ItemName → Manner → Place
-at_start file page manner = record { file = file; line = 0; page = page; manner = manner; locals = []; around = nil; looping = false; quiet = false }
+at_start file page manner = record { file = file; line = 0; page = page; manner = manner; locals = []; around = nil; looping = false; quiet = false; tested = true }
 
 -- the fault of the tag
 abbrev pub fault_at : Place → FaultKind → SiteFault

@@ -53,4 +53,5 @@ place_of p = record {
   around = around_value p.around;
   looping = p.looping;
   quiet = p.quiet;
+  tested = p.tested;
 }

@@ -17,6 +17,7 @@ use crate::members::{element_at, member_value};
 use crate::place::Place;
 use crate::site_members::{ends_keys, site_member, with_key};
 use crate::stop::Stop;
+use crate::strict_options::{asked, looked_up, reached};
 use read_record::{Key, Look, ask};
 use site_base::{ItemName, List, Text, Value};
 use std::alloc::Global;
@@ -37,8 +38,8 @@ pub(crate) fn member<'a, X: Excerpts, L: Look>(
         Found::Site => site_member(alloc, place, name, look),
         Found::Data(keys) => data_member(alloc, excerpts, place, keys, name, look),
         Found::Value(value) => value_member(alloc, excerpts, place, &value, name, look),
-        Found::ForLoop(turn) => Ok(Found::Value(for_loop_member(alloc, turn, name)?)),
-        Found::RowLoop(turn) => Ok(Found::Value(row_loop_member(alloc, turn, name)?)),
+        Found::ForLoop(turn) => reached(alloc, place, for_loop_member(alloc, turn, name)?, look),
+        Found::RowLoop(turn) => reached(alloc, place, row_loop_member(alloc, turn, name)?, look),
     }
 }
 
@@ -73,7 +74,7 @@ fn member_of_data<'a, X: Excerpts, L: Look>(
     ensures same { L.view look.new ≡ L.view look.old }
     ensures gives { Finds (run (L.view look.old) (L.trace look.old) (member_of_data (X.excerpts place.now.levels) (place_of place.now) keys name.now)) (in_found result) (L.trace look.new) }
 {
-    let value = ask(alloc, &Key::Data(keys), look)?;
+    let value = asked(alloc, place, &Key::Data(keys), look)?;
     value_member(alloc, excerpts, place, &value, name, look)
 }
 
@@ -90,7 +91,7 @@ fn value_member<'a, X: Excerpts, L: Look>(
 {
     match value {
         Value::Item(item) => item_member(alloc, excerpts, place, item, name, look),
-        _ => Ok(Found::Value(member_value(alloc, value, name)?)),
+        _ => reached(alloc, place, member_value(alloc, value, name)?, look),
     }
 }
 
@@ -111,7 +112,7 @@ fn item_member<'a, X: Excerpts, L: Look>(
         "excerpt" => excerpts.excerpt(alloc, place, item, look),
         _ => {
             let key = Key::Var(item.copy(alloc)?, Text::copy(alloc, name)?);
-            Ok(Found::Value(ask(alloc, &key, look)?))
+            looked_up(alloc, place, &key, look)
         }
     }
 }
@@ -184,7 +185,7 @@ pub(crate) fn index_found<'a, X: Excerpts, L: Look>(
     ensures same { L.view look.new ≡ L.view look.old }
     ensures gives { Finds (run (L.view look.old) (L.trace look.old) (index_found (X.excerpts place.now.levels) (place_of place.now) (found_of found.entry) (found_of index.entry))) (in_found result) (L.trace look.new) }
 {
-    let index = index.into_value(alloc, look)?;
+    let index = index.into_value(alloc, place, look)?;
     indexed(alloc, excerpts, place, found, &index, look)
 }
 
@@ -202,31 +203,37 @@ fn indexed<'a, X: Excerpts, L: Look>(
 {
     match index {
         Value::Text(name) => member(alloc, excerpts, place, found, name.as_str(), look),
-        Value::Int(number) => numbered(alloc, found, *number, look),
-        _ => unnamed(alloc, found, look),
+        Value::Int(number) => numbered(alloc, place, found, *number, look),
+        _ => unnamed(alloc, place, found, look),
     }
 }
 
 #[tactic(auto, using(read_record::proofs::CallLaws::binds))]
 fn numbered<'a, L: Look>(
     alloc: Global,
+    place: &Place<'a>,
     found: Found<'a>,
     number: i64,
     look: &mut L,
 ) -> Result<Found<'a>, Stop>
     ensures same { L.view look.new ≡ L.view look.old }
-    ensures gives { Finds (run (L.view look.old) (L.trace look.old) (numbered (found_of found.entry) number)) (in_found result) (L.trace look.new) }
+    ensures gives { Finds (run (L.view look.old) (L.trace look.old) (numbered (place_of place.now) (found_of found.entry) number)) (in_found result) (L.trace look.new) }
 {
-    let value = found.into_value(alloc, look)?;
-    Ok(Found::Value(element_at(alloc, &value, number)?))
+    let value = found.into_value(alloc, place, look)?;
+    reached(alloc, place, element_at(alloc, &value, number)?, look)
 }
 
-// What neither a text nor a number names is nil. Data is looked up all the same.
+// What neither a text nor a number names is undefined. Data is looked up all the same.
 #[tactic(auto, using(read_record::proofs::CallLaws::binds))]
-fn unnamed<'a, L: Look>(alloc: Global, found: Found<'a>, look: &mut L) -> Result<Found<'a>, Stop>
+fn unnamed<'a, L: Look>(
+    alloc: Global,
+    place: &Place<'a>,
+    found: Found<'a>,
+    look: &mut L,
+) -> Result<Found<'a>, Stop>
     ensures same { L.view look.new ≡ L.view look.old }
-    ensures gives { Finds (run (L.view look.old) (L.trace look.old) (unnamed (found_of found.entry))) (in_found result) (L.trace look.new) }
+    ensures gives { Finds (run (L.view look.old) (L.trace look.old) (unnamed (place_of place.now) (found_of found.entry))) (in_found result) (L.trace look.new) }
 {
-    let _value = found.into_value(alloc, look)?;
-    Ok(Found::Value(Value::Nil))
+    let _value = found.into_value(alloc, place, look)?;
+    reached(alloc, place, None, look)
 }

@@ -15,6 +15,7 @@ mod place;
 mod site_members;
 mod stack;
 mod stop;
+mod strict_options;
 
 pub use excerpts::{Excerpts, own_excerpt};
 pub use filters::apply_liquid;
@@ -26,3 +27,4 @@ pub use operands::operand;
 pub use place::Place;
 pub use site_members::{holds_item, items_in};
 pub use stop::Stop;
+pub use strict_options::unknown_filter;

@@ -1,5 +1,6 @@
 // `forloop` and `tablerowloop` as values.
 ghost use Rattle.std.specs.Prelude.{◌≡◌, IfOk, OnOk};
+ghost use Rattle.std.specs.Option.{option_map};
 ghost use Rattle.std.specs.Str.{bytes_eq};
 ghost use Rattle.site_base.specs.Plain.{onto_pairs, pair, no_pairs};
 ghost use Rattle.site_base.specs.View.{plain};
@@ -52,28 +53,37 @@ pub(crate) fn row_loop_value(alloc: Global, turn: &RowLoop) -> Result<Value, Mem
     Ok(Value::Hash(hash))
 }
 
-/// A member of `forloop`.
-pub(crate) fn for_loop_member(alloc: Global, turn: &ForLoop, name: &str) -> Result<Value, Memory>
-    ensures { IfOk result (λ value. plain value ≡ member_value name.now (loop_value turn.now)) }
+/// A member of `forloop`, where it has one of the name.
+pub(crate) fn for_loop_member(
+    alloc: Global,
+    turn: &ForLoop,
+    name: &str,
+) -> Result<Option<Value>, Memory>
+    ensures { IfOk result (λ value. option_map plain value ≡ member_value name.now (loop_value turn.now)) }
 {
     let (all, before) = (u128::from(turn.len), u128::from(turn.passed));
-    match name {
-        "length" => Ok(count_value(all)),
-        "index" => Ok(count_value(before + 1)),
-        "index0" => Ok(count_value(before)),
-        "rindex" => Ok(count_value(all.saturating_sub(before))),
-        "rindex0" => Ok(count_value(all.saturating_sub(before).saturating_sub(1))),
-        "first" => Ok(Value::Bool(before == 0)),
-        "last" => Ok(Value::Bool(before + 1 == all)),
-        "parentloop" => parent_value(alloc, turn),
-        "size" => Ok(count_value(8)),
-        _ => Ok(Value::Nil),
-    }
+    let value = match name {
+        "length" => count_value(all),
+        "index" => count_value(before + 1),
+        "index0" => count_value(before),
+        "rindex" => count_value(all.saturating_sub(before)),
+        "rindex0" => count_value(all.saturating_sub(before).saturating_sub(1)),
+        "first" => Value::Bool(before == 0),
+        "last" => Value::Bool(before + 1 == all),
+        "parentloop" => parent_value(alloc, turn)?,
+        "size" => count_value(8),
+        _ => return Ok(None),
+    };
+    Ok(Some(value))
 }
 
-/// A member of `tablerowloop`.
-pub(crate) fn row_loop_member(alloc: Global, turn: &RowLoop, name: &str) -> Result<Value, Memory>
-    ensures { IfOk result (λ value. plain value ≡ member_value name.now (row_value turn.now)) }
+/// A member of `tablerowloop`, where it has one of the name.
+pub(crate) fn row_loop_member(
+    alloc: Global,
+    turn: &RowLoop,
+    name: &str,
+) -> Result<Option<Value>, Memory>
+    ensures { IfOk result (λ value. option_map plain value ≡ member_value name.now (row_value turn.now)) }
 {
     let value = row_loop_value(alloc, turn)?;
     member_value(alloc, &value, name)

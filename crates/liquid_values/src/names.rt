@@ -1,5 +1,6 @@
 // What first names stand for, and the members of `site`.
 ghost use Rattle.std.specs.Prelude.{◌≡◌, IfOk, OnOk};
+ghost use Rattle.std.specs.Option.{option_map};
 ghost use Rattle.site_base.specs.View.{plain};
 ghost use Rattle.site_base.specs.Plain.{onto_pairs, pair, no_pairs, text};
 ghost use Rattle.read_record.specs.Queries.{run};
@@ -13,7 +14,8 @@ use crate::found::Found;
 use crate::locals::local;
 use crate::place::Place;
 use crate::stop::Stop;
-use read_record::{Key, Look, ask};
+use crate::strict_options::{looked_up, reached};
+use read_record::{Key, Look};
 use site_base::{Hash, Memory, Text, Value, copy};
 use std::alloc::Global;
 
@@ -52,10 +54,10 @@ fn standing<'a, L: Look>(
         "page" => Ok(Found::Value(Value::Item(place.page.copy(alloc)?))),
         "paginator" => {
             let key = Key::Paginator(place.page.copy(alloc)?);
-            Ok(Found::Value(ask(alloc, &key, look)?))
+            looked_up(alloc, place, &key, look)
         }
         "jekyll" => Ok(Found::Value(jekyll(alloc)?)),
-        _ => Ok(Found::Value(layout_name(alloc, place.mode, name)?)),
+        _ => reached(alloc, place, layout_name(alloc, place.mode, name)?, look),
     }
 }
 
@@ -78,8 +80,8 @@ fn push_text(alloc: Global, hash: &mut Hash, key: &str, words: &str) -> Result<(
 }
 
 // The names that only a layout has.
-fn layout_name(alloc: Global, mode: &Mode, name: &str) -> Result<Value, Memory>
-    ensures { IfOk result (λ made. plain made ≡ layout_name name.now (manner_of mode.now)) }
+fn layout_name(alloc: Global, mode: &Mode, name: &str) -> Result<Option<Value>, Memory>
+    ensures { IfOk result (λ made. option_map plain made ≡ layout_name name.now (manner_of mode.now)) }
 {
     match mode {
         Mode::Layout {
@@ -87,11 +89,11 @@ fn layout_name(alloc: Global, mode: &Mode, name: &str) -> Result<Value, Memory>
             content,
             layout,
         } => match name {
-            "content" => Ok(Value::Text(content.share(alloc)?)),
-            "layout" => copy(alloc, layout),
-            _ => Ok(Value::Nil),
+            "content" => Ok(Some(Value::Text(content.share(alloc)?))),
+            "layout" => Ok(Some(copy(alloc, layout)?)),
+            _ => Ok(None),
         },
-        Mode::Body => Ok(Value::Nil),
-        Mode::Excerpt => Ok(Value::Nil),
+        Mode::Body => Ok(None),
+        Mode::Excerpt => Ok(None),
     }
 }

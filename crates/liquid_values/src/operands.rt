@@ -7,7 +7,7 @@ ghost use Rattle.read_record.specs.Answers.{Finds};
 ghost use Rattle.liquid_values.specs.Answers.{found_of, in_found, in_plain, Advances, FoundAt};
 ghost use Rattle.liquid_values.specs.Names.{named as variable};
 ghost use Rattle.liquid_values.specs.Operands as operands;
-ghost use Rattle.liquid_values.specs.OperandSteps.{stack_of, pushed, member_step, index_step, range_step, one_step};
+ghost use Rattle.liquid_values.specs.OperandSteps.{stack_of, pushed, member_step, index_step, first_end_step, range_found, range_step, one_step};
 ghost use Rattle.liquid_values.specs.Standing.{place_of};
 
 use crate::excerpts::Excerpts;
@@ -27,7 +27,9 @@ use std::alloc::Global;
 /// reached, from left to right.
 ///
 /// It stops at the first fault, which has the file and the line of the tag: Overflow and Fraction where an end of a range is no number
-/// of 64 bits or has a decimal point, and whatever the excerpt of an item meets. It stops, too, where an item has to be done first.
+/// of 64 bits or has a decimal point; Undefined where a name or a member is undefined, the place is tested, and the site's `liquid` sets
+/// `strict_variables`; and whatever the excerpt of an item meets. It stops, too, where an item has to be done first, and where memory is
+/// wanting.
 #[tactic(auto, using(read_record::proofs::CallLaws::binds))]
 pub fn operand<'a, X: Excerpts, L: Look>(
     alloc: Global,
@@ -41,7 +43,7 @@ pub fn operand<'a, X: Excerpts, L: Look>(
     ensures gives { Finds (run (L.view look.old) (L.trace look.old) (operands.operand (X.excerpts place.now.levels) (place_of place.now) assigned.now operand.now)) (in_plain result) (L.trace look.new) }
 {
     let found = found(alloc, excerpts, place, assigned, operand, look)?;
-    found.into_value(alloc, look)
+    found.into_value(alloc, place, look)
 }
 
 // What an operand stands for, by its steps.
@@ -84,6 +86,7 @@ fn take_step<'a, X: Excerpts, L: Look>(
         Step::Variable(name) => take_variable(alloc, place, assigned, name.as_str(), stack, look),
         Step::Member(name) => take_member(alloc, excerpts, place, name.as_str(), stack, look),
         Step::Index => take_index(alloc, excerpts, place, stack, look),
+        Step::FirstEnd => take_first_end(alloc, place, stack, look),
         Step::Range => take_range(alloc, place, stack, look),
     }
 }
@@ -157,6 +160,24 @@ fn take_index<'a, X: Excerpts, L: Look>(
     Ok(stack.push(found)?)
 }
 
+// The value of the one on top.
+#[tactic(auto, using(read_record::proofs::CallLaws::binds))]
+fn take_first_end<'a, L: Look>(
+    alloc: Global,
+    place: &Place<'a>,
+    stack: &mut Stack<'a>,
+    look: &mut L,
+) -> Result<(), Stop>
+    ensures same { L.view look.new ≡ L.view look.old }
+    ensures gives { Advances (run (L.view look.old) (L.trace look.old) (first_end_step (place_of place.now) (stack_of stack.old))) result (stack_of stack.new) (L.trace look.new) }
+{
+    let Some(found) = stack.pop() else {
+        return Ok(());
+    };
+    let value = found.into_value(alloc, place, look)?;
+    Ok(stack.push(Found::Value(value))?)
+}
+
 // The range of the two on top.
 #[tactic(auto, using(read_record::proofs::CallLaws::binds))]
 fn take_range<'a, L: Look>(
@@ -187,9 +208,9 @@ fn range_found<'a, L: Look>(
     look: &mut L,
 ) -> Result<Found<'a>, Stop>
     ensures same { L.view look.new ≡ L.view look.old }
-    ensures gives { Finds (run (L.view look.old) (L.trace look.old) (operands.range_found (place_of place.now) (found_of first.entry) (found_of last.entry))) (in_found result) (L.trace look.new) }
+    ensures gives { Finds (run (L.view look.old) (L.trace look.old) (range_found (place_of place.now) (found_of first.entry) (found_of last.entry))) (in_found result) (L.trace look.new) }
 {
-    let first = first.into_value(alloc, look)?;
+    let first = first.into_value(alloc, place, look)?;
     range_from(alloc, place, &first, last, look)
 }
 
@@ -205,7 +226,7 @@ fn range_from<'a, L: Look>(
     ensures same { L.view look.new ≡ L.view look.old }
     ensures gives { Finds (run (L.view look.old) (L.trace look.old) (operands.range_from (place_of place.now) (plain first.now) (found_of last.entry))) (in_found result) (L.trace look.new) }
 {
-    let last = last.into_value(alloc, look)?;
+    let last = last.into_value(alloc, place, look)?;
     let range = ranged(alloc, place, first, &last)?;
     Ok(Found::Value(range))
 }

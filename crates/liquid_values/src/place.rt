@@ -1,7 +1,7 @@
 // Where an evaluation stands.
 ghost use Rattle.std.specs.Prelude.{◌≡◌};
 ghost use Rattle.liquid_values.specs.Answers.{IsFault, FoundAt, AnsweredAt, IsKnown};
-ghost use Rattle.liquid_values.specs.Places.{at_line, fault_at, silenced};
+ghost use Rattle.liquid_values.specs.Places.{at_line, fault_at, silenced, untested};
 ghost use Rattle.liquid_values.specs.Standing.{place_of};
 
 use crate::Mode;
@@ -26,6 +26,8 @@ pub struct Place<'a> {
     pub looping: bool,
     /// Text stands in a block that writes nothing.
     pub quiet: bool,
+    /// What is undefined is a fault where the site wants that.
+    pub tested: bool,
     /// How many blocks, includes and excerpts may be entered yet.
     pub levels: u32,
 }
@@ -45,6 +47,17 @@ impl<'a> Place<'a> {
         ensures levels { result.levels ≡ self.now.levels }
     {
         Place { quiet, ..*self }
+    }
+
+    /// The same place, at which what is undefined is nil, whatever the site wants.
+    pub fn untested(&self) -> Place<'a>
+        ensures at { place_of result ≡ untested (place_of self.now) }
+        ensures levels { result.levels ≡ self.now.levels }
+    {
+        Place {
+            tested: false,
+            ..*self
+        }
     }
 
     /// The same place, from which so many blocks, includes and excerpts may be entered yet.

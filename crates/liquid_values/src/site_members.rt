@@ -16,6 +16,7 @@ use crate::filters::apply_liquid;
 use crate::found::Found;
 use crate::place::Place;
 use crate::stop::Stop;
+use crate::strict_options::looked_up;
 use liquid_filters::FilterName;
 use read_record::{Key, Look, ask};
 use site_base::{ItemName, List, Memory, Text, Value, copy};
@@ -45,7 +46,10 @@ pub(crate) fn site_member<'a, L: Look>(
             let posts = site_variable(alloc, "posts", look)?;
             Ok(Found::Value(related(alloc, place.page, &posts)?))
         }
-        _ => Ok(Found::Value(site_variable(alloc, name, look)?)),
+        _ => {
+            let key = Key::SiteVar(Text::copy(alloc, name)?);
+            looked_up(alloc, place, &key, look)
+        }
     }
 }
 
@@ -94,7 +98,8 @@ fn words(alloc: Global, words: &str) -> Result<Value, Memory>
     Ok(Value::Text(Text::copy(alloc, words)?))
 }
 
-fn site_variable<L: Look>(alloc: Global, name: &str, look: &mut L) -> Result<Value, Stop>
+/// A variable of the site.
+pub(crate) fn site_variable<L: Look>(alloc: Global, name: &str, look: &mut L) -> Result<Value, Stop>
     ensures same { L.view look.new ≡ L.view look.old }
     ensures gives { Finds (run (L.view look.old) (L.trace look.old) (Ask (SiteVar name.now) Give)) (in_plain result) (L.trace look.new) }
 {

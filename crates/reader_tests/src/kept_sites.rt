@@ -287,6 +287,51 @@ fn a_configuration_is_never_kept(rt: HostRuntime) {
     assert!(rt; all_do(rt.alloc(), CONFIGURATIONS));
 }
 
+// Two documents of one date, whose paths and variables sort them differently.
+const DOCUMENTS: &[Change] = &[
+    ("_config.yml", Some("collections: [c]\n")),
+    ("_c/1.md", Some("---\nw: 2\n---\n")),
+    ("_c/2.md", Some("---\nw: 1\n---\n")),
+];
+
+const ORDERS: &[Step] = &[
+    Step {
+        changes: DOCUMENTS,
+        want: "/c/1.html /c/2.html ",
+        parsed: 2,
+        calls: 2,
+        ..START
+    },
+    // Sorted by a list, no more, and by a variable, which changes then.
+    Step {
+        changes: &[("_config.yml", Some("collections: {c: {order: [2.md]}}\n"))],
+        want: "/c/2.html /c/1.html ",
+        ..START
+    },
+    Step {
+        changes: &[("_config.yml", Some("collections: [c]\n"))],
+        want: "/c/1.html /c/2.html ",
+        ..START
+    },
+    Step {
+        changes: &[("_config.yml", Some("collections: {c: {sort_by: w}}\n"))],
+        want: "/c/2.html /c/1.html ",
+        ..START
+    },
+    Step {
+        changes: &[("_c/2.md", Some("---\nw: 3\n---\n"))],
+        want: "/c/1.html /c/2.html ",
+        parsed: 1,
+        calls: 1,
+        ..START
+    },
+];
+
+#[test]
+fn an_order_is_never_kept(rt: HostRuntime) {
+    assert!(rt; all_do(rt.alloc(), ORDERS));
+}
+
 const BYTES: &[Step] = &[
     FIRST,
     // The same bytes, put again, and after they were deleted.

@@ -1,4 +1,4 @@
--- What a configuration says, key by key, with the default of each, after Jekyll 4's manual, "Configuration Options" and "Front Matter Defaults".
+-- What a configuration says, key by key, with the default of each, after Jekyll 4's manual, "Configuration Options", "Collections" and "Front Matter Defaults".
 use Rattle.std.specs.Prelude.{ℕ, ℤ, pos, nat_le, Bool, true, false, List, [], ◌∷◌, ◌++◌, codes, map, Option, Some, None, if◌then◌else◌, unwrap_or, fold, filter_map}
 use Rattle.std.specs.List.{list_any}
 use Rattle.std.specs.Option.{option_and_then}
@@ -9,6 +9,8 @@ use Rattle.site_config.specs.Forms.{setting, pair_list}
 use Rattle.site_config.specs.declared.config.Config.{Config}
 use Rattle.site_config.specs.declared.collection.Collection.{Collection}
 use Rattle.site_config.specs.declared.scope.Scope.{Scope}
+use Rattle.site_config.specs.declared.sorting.Sorting.{Sorting}
+use Rattle.site_config.specs.declared.sorting.Sorting.TheVariants.{ByDate, By, Listed}
 
 abbrev pub text_or : List ℕ → Plain → List ℕ
 text_or other (text s) = s
@@ -47,13 +49,25 @@ excluded =
     codes "Gemfile" ∷ codes "Gemfile.lock" ∷ codes "node_modules" ∷ codes "vendor/bundle" ∷ codes "vendor/cache" ∷ codes "vendor/gems"
     ∷ codes "vendor/ruby" ∷ codes ".sass-cache" ∷ codes ".jekyll-cache" ∷ codes "gemfiles" ∷ []
 
+abbrev pub by_variable : Plain → Sorting
+by_variable (text name) = By name
+by_variable v = ByDate
+
+-- the list `order` wins over `sort_by`, also where it is empty
+abbrev pub sorting_by : Plain → Plain → Sorting
+sorting_by (list is) sort_by = Listed (texts_in is)
+sorting_by order sort_by = by_variable sort_by
+
+abbrev pub sorting : Plain → Sorting
+sorting v = sorting_by (setting (codes "order") v) (setting (codes "sort_by") v)
+
 -- a collection and its settings
 abbrev pub collection : List ℕ → Plain → Collection
-collection name v = record { name = name; output = flag (setting (codes "output") v); permalink = optional_text (setting (codes "permalink") v) }
+collection name v = record { name = name; output = flag (setting (codes "output") v); permalink = optional_text (setting (codes "permalink") v); sorting = sorting v }
 
--- the posts are a collection with output, whatever the configuration says
+-- the posts are a collection with output and by date, whatever the configuration says
 abbrev pub posts : Plain → Collection
-posts v = record { name = codes "posts"; output = true; permalink = optional_text (setting (codes "permalink") (setting (codes "posts") v)) }
+posts v = record { name = codes "posts"; output = true; permalink = optional_text (setting (codes "permalink") (setting (codes "posts") v)); sorting = ByDate }
 
 abbrev pub is_named : List ℕ → List Collection → Bool
 is_named name cs = list_any (λ c. bytes_eq name c.name) cs

@@ -50,6 +50,11 @@ is_optional_text nil = true
 is_optional_text (text s) = true
 is_optional_text v = false
 
+abbrev pub are_optional_texts : Plain → Bool
+are_optional_texts nil = true
+are_optional_texts (list is) = are_texts is
+are_optional_texts v = false
+
 -- what stands behind the name of a collection: nothing, or a hash with `output` and `permalink`
 abbrev pub is_collection : Plain → Bool
 is_collection nil = true
@@ -61,8 +66,12 @@ abbrev pub pair_list : Pairs → List (List ℕ × Plain)
 pair_list no_pairs = []
 pair_list (pair k v ps) = (k, v) ∷ pair_list ps
 
+-- `order` and `sort_by` have their forms, which only collections other than the posts ask
+abbrev pub is_sorted : Plain → Bool
+is_sorted v = are_optional_texts (setting (codes "order") v) && is_optional_text (setting (codes "sort_by") v)
+
 abbrev pub is_named_collection : List ℕ × Plain → Bool
-is_named_collection p = is_name p.0 && is_collection p.1
+is_named_collection p = is_name p.0 && is_collection p.1 && (bytes_eq p.0 (codes "posts") || is_sorted p.1)
 
 abbrev pub are_collections : Pairs → Bool
 are_collections ps = list_all is_named_collection (pair_list ps)
@@ -109,6 +118,10 @@ abbrev pub holds_number : List ℕ → Bool
 holds_number [] = false
 holds_number (c ∷ cs) = starts_with nat_eq (c ∷ cs) (codes ":num") || holds_number cs
 
+-- both options are bools, where they are there
+abbrev pub is_liquid : Pairs → Bool
+is_liquid ps = is_flag (setting (codes "strict_variables") (hash ps)) && is_flag (setting (codes "strict_filters") (hash ps))
+
 -- the value has the form, where `collections` has its own; nil stands for what is absent
 abbrev pub fits : Plain → Form → Plain → Bool
 fits collections f nil = true
@@ -122,4 +135,5 @@ fits collections form.PagePath (text s) = holds_number s
 fits collections form.Separator (text s) = not (length s == 0)
 fits collections form.Offset (text s) = is_some (read_offset s)
 fits collections form.Flag (bool b) = true
+fits collections form.Liquid (hash ps) = is_liquid ps
 fits collections f v = false

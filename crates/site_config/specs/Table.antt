@@ -1,4 +1,4 @@
--- The table of the keys that have a meaning, in its order; the keys are those of Jekyll 4's manual, "Configuration Options".
+-- The table of the keys that have a meaning, in its order; the keys are those of Jekyll 4's manual, "Configuration Options" and "Liquid Options".
 use Rattle.std.specs.Prelude.{ℕ, not, List, [], ◌∷◌, codes, Option}
 use Rattle.std.specs.List.{find}
 use Rattle.std.specs.Option.{option_map}
@@ -13,7 +13,8 @@ rows =
     ∷ (codes "include", form.Texts) ∷ (codes "exclude", form.Texts) ∷ (codes "keep_files", form.Texts)
     ∷ (codes "collections", form.Collections) ∷ (codes "defaults", form.Scopes) ∷ (codes "paginate", form.Count)
     ∷ (codes "paginate_path", form.PagePath) ∷ (codes "excerpt_separator", form.Separator) ∷ (codes "timezone", form.Offset)
-    ∷ (codes "future", form.Flag) ∷ (codes "unpublished", form.Flag) ∷ (codes "show_drafts", form.Flag) ∷ []
+    ∷ (codes "future", form.Flag) ∷ (codes "unpublished", form.Flag) ∷ (codes "show_drafts", form.Flag)
+    ∷ (codes "liquid", form.Liquid) ∷ []
 
 -- the first key of the table whose value has another form than the table asks
 abbrev pub wrong_key : Plain → Option (List ℕ)

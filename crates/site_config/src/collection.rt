@@ -5,6 +5,7 @@ ghost use Rattle.site_config.specs.Config.{collection, posts};
 
 use crate::reading::{flag, optional_text};
 use crate::settings::setting;
+use crate::sorting::Sorting;
 use site_base::{Memory, Text, Value};
 use std::alloc::Global;
 
@@ -16,6 +17,7 @@ pub struct Collection {
     pub output: bool,
     /// The template of its documents' URLs, where it has one of its own.
     pub permalink: Option<Text>,
+    pub sorting: Sorting,
 }
 
 impl Collection {
@@ -31,10 +33,11 @@ impl Collection {
             name: Text::copy(alloc, name)?,
             output: flag(setting("output", value)),
             permalink: optional_text(alloc, setting("permalink", value))?,
+            sorting: Sorting::read(alloc, value)?,
         })
     }
 
-    /// The posts, whose documents are written whatever is said of them.
+    /// The posts, whose documents are written and sorted by date whatever is said of them.
     pub(crate) fn posts(alloc: Global, value: Option<&Value>) -> Result<Collection, Memory>
         ensures { IfOk result (λ made. made ≡ posts (given value.entry)) }
     {
@@ -42,6 +45,7 @@ impl Collection {
             name: Text::copy(alloc, "posts")?,
             output: true,
             permalink: optional_text(alloc, setting("permalink", setting("posts", value)))?,
+            sorting: Sorting::ByDate,
         })
     }
 }

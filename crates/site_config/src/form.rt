@@ -12,4 +12,5 @@ pub(crate) enum Form {
     Separator,
     Offset,
     Flag,
+    Liquid,
 }

@@ -1,7 +1,7 @@
 // The forms that values of a configuration have.
 ghost use Rattle.std.specs.Prelude.{◌≡◌};
 ghost use Rattle.site_base.specs.View.{plain};
-ghost use Rattle.site_config.specs.Forms.{given, fits, is_text, are_texts, is_name, are_names, is_collection, are_collections, names, is_kind, is_kind_text, is_name_text, has_text, is_hash, is_scope, are_scopes, holds_number, is_flag, is_optional_text};
+ghost use Rattle.site_config.specs.Forms.{given, fits, is_text, are_texts, is_name, are_names, is_collection, are_collections, names, is_kind, is_kind_text, is_name_text, has_text, is_hash, is_scope, are_scopes, holds_number, is_flag, is_optional_text, are_optional_texts, is_named_collection, is_sorted, is_liquid};
 
 use crate::form::Form;
 use crate::settings::setting;
@@ -25,6 +25,7 @@ pub(crate) fn fits(collections: Option<&Value>, form: Form, value: Option<&Value
         (Form::Separator, Some(Value::Text(text))) => !text.is_empty(),
         (Form::Offset, Some(Value::Text(text))) => read_offset(text.as_str()).is_some(),
         (Form::Flag, Some(Value::Bool(_))) => true,
+        (Form::Liquid, Some(Value::Hash(hash))) => is_liquid(hash),
         _ => false,
     }
 }
@@ -61,7 +62,15 @@ fn is_name(text: &str) -> bool
 fn are_collections(hash: &Hash) -> bool
     ensures { result ≡ are_collections hash.now }
 {
-    hash.as_slice().iter().all(|pair| is_name(pair.key.as_str()) && is_collection(&pair.value))
+    hash.as_slice()
+        .iter()
+        .all(|pair| is_named_collection(pair.key.as_str(), &pair.value))
+}
+
+fn is_named_collection(name: &str, value: &Value) -> bool
+    ensures { result ≡ is_named_collection (name.now, plain value.now) }
+{
+    is_name(name) && is_collection(value) && (name == "posts" || is_sorted(value))
 }
 
 fn is_collection(value: &Value) -> bool
@@ -74,6 +83,21 @@ fn is_collection(value: &Value) -> bool
     }
 }
 
+// Whether `order` and `sort_by` have their forms.
+fn is_sorted(value: &Value) -> bool
+    ensures { result ≡ is_sorted (plain value.now) }
+{
+    are_optional_texts(setting("order", Some(value)))
+        && is_optional_text(setting("sort_by", Some(value)))
+}
+
+// Whether both options are bools, where they are there.
+fn is_liquid(hash: &Hash) -> bool
+    ensures { result ≡ is_liquid hash.now }
+{
+    is_flag(hash.get("strict_variables")) && is_flag(hash.get("strict_filters"))
+}
+
 fn is_flag(value: Option<&Value>) -> bool
     ensures { result ≡ is_flag (given value.entry) }
 {
@@ -84,6 +108,16 @@ fn is_optional_text(value: Option<&Value>) -> bool
     ensures { result ≡ is_optional_text (given value.entry) }
 {
     matches!(value, None | Some(Value::Nil | Value::Text(_)))
+}
+
+fn are_optional_texts(value: Option<&Value>) -> bool
+    ensures { result ≡ are_optional_texts (given value.entry) }
+{
+    match value {
+        None | Some(Value::Nil) => true,
+        Some(Value::List(list)) => are_texts(list),
+        _ => false,
+    }
 }
 
 fn is_text(value: Option<&Value>) -> bool

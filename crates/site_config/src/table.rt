@@ -14,7 +14,7 @@ struct Row {
     form: Form,
 }
 
-const ROWS: [Row; 16] = [
+const ROWS: [Row; 17] = [
     Row {
         key: "baseurl",
         form: Form::Text,
@@ -78,6 +78,10 @@ const ROWS: [Row; 16] = [
     Row {
         key: "show_drafts",
         form: Form::Flag,
+    },
+    Row {
+        key: "liquid",
+        form: Form::Liquid,
     },
 ];
 

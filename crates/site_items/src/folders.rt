@@ -25,8 +25,8 @@ pub(crate) fn path_part<'a>(config: &Config, kind: Kind, path: &'a str) -> &'a s
     }
 }
 
-// What of a path is below the folder of the item's kind.
-fn below_folder<'a>(config: &Config, kind: Kind, path: &'a str) -> &'a str
+/// What of a path is below the folder of the item's kind.
+pub fn below_folder<'a>(config: &Config, kind: Kind, path: &'a str) -> &'a str
     ensures { result.now ≡ below_folder config.now kind path.entry.now }
 {
     match kind {

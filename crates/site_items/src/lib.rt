@@ -31,7 +31,7 @@ pub use cuts::cut_at;
 pub use defaults::{by_strength, variables};
 pub use extensions::output_ext;
 pub use file_content::FileContent;
-pub use folders::{behind, without_extension};
+pub use folders::{behind, below_folder, without_extension};
 pub use front_parser::{FrontParser, PlainParser};
 pub use include_file::IncludeFile;
 pub use item::{Item, Rules};

@@ -24,7 +24,7 @@ module _ (w : List ℕ → ℕ) where
   with_item_adds : (config : Config) (k : Kind) (path : List ℕ) (made : Option Item) (ranked : Ranked) → ranks (with_item config k path made ranked) ≤ ranks ranked + w path
   with_item_adds config k path None ranked = omega arith
   with_item_adds config k path (Some made) ranked =
-      omega (arith, weight-insert_entry rank_cmp (λ r. w r.path) (rank config k path made.moment) made ranked)
+      omega (arith, weight-insert_entry rank_cmp (λ r. w r.path) (rank config k path made) made ranked)
 
   add_kind_adds : (config : Config) (scopes : List Scope) (now : ℤ) (future : Bool) (f : File) (k : Option Kind) (ranked more : Ranked)
       → sites.add_kind config scopes now future f k ranked ≡ Ok more → ranks more ≤ ranks ranked + w f.0

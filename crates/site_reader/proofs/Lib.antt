@@ -3,6 +3,7 @@ mod ConfigurationLaws
 mod DataLaws
 mod Differing
 mod EachLaws
+mod FirstPlaceLaws
 mod IncludeLaws
 mod ItemLaws
 mod KeptLaws
@@ -14,6 +15,8 @@ mod PageRows
 mod PagedItems
 mod PlacementLaws
 mod RankOrder
+mod RankRows
 mod RisingLaws
+mod SorterLaws
 mod VariableLaws
 mod Weights

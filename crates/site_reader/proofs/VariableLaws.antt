@@ -241,7 +241,7 @@ module _ (config : Config) (scopes : List Scope) (now : ℤ) (future : Bool) whe
   with_known : (k : Kind) (path : List ℕ) (made : Option Item) (es : Ranked) → ((item : Item) → made ≡ Some item → IsKnown config (group_of config k) path item) → AreKnown config es → AreKnown config (with_item config k path made es)
   with_known k path None es known all = all
   with_known k path (Some item) es known all =
-      known_inserted config (rank config k path item.moment) item es
+      known_inserted config (rank config k path item) item es
       (known item refl) all
 
   add_known : (f : File) (k : Option Kind) (made more : Ranked) → sites.add_kind config scopes now future f k made ≡ Ok more → AreKnown config made → AreKnown config more

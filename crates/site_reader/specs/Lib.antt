@@ -1,6 +1,7 @@
 pub mod Found
 pub mod Placing
 pub mod Data
+pub mod FirstPlaces
 pub mod Ranks
 pub mod Neighbours
 pub mod Outputs
@@ -11,3 +12,4 @@ pub mod Lawful
 pub mod Kept
 pub mod Placements
 pub mod Ruled
+pub mod Sorters

@@ -9,6 +9,7 @@ ghost use Rattle.site_items.specs.Seeking as items;
 ghost use Rattle.site_reader.specs.Found.{IsFirst};
 ghost use Rattle.site_reader.specs.Placing.{seen};
 ghost use Rattle.site_reader.specs.Ranks.{in_order, with_item};
+ghost use Rattle.site_reader.specs.Sorters.{AreSorters};
 ghost use Rattle.site_reader.specs.Ruled.{AreRuled, IsRuled, ruled_item, ruled_items, ruled_kind, ruled_ranks};
 
 use crate::neighbours::site_items;
@@ -16,6 +17,7 @@ use crate::placed_file::PlacedFile;
 use crate::rank::Rank;
 use crate::site_error::{SiteError, error_at};
 use crate::site_item::SiteItem;
+use crate::sorter::{Sorter, sorters};
 use site_base::{Memory, Sequence, SitePath};
 use site_config::Config;
 use site_items::{Item, ItemError, Kind, LineFault, Rules, Timeless};
@@ -77,9 +79,10 @@ fn read_items(
     ensures { let found = ruled_ranks rules.entry.now (map seen files.entry.now) in
         MatchResult result (λ made. found ≡ Ok (in_order made.items)) (IsFirst found) }
 {
+    let sorters = sorters(alloc, rules.config)?;
     let mut items = Vec::with_capacity(alloc, files.len())?;
     for file in files {
-        add_item(alloc, rules, file, &mut items)?;
+        add_item(alloc, rules, &sorters, file, &mut items)?;
     }
     Ok(items)
 }
@@ -87,17 +90,19 @@ fn read_items(
 fn add_item(
     alloc: Global,
     rules: &Rules,
+    sorters: &[Sorter],
     file: &PlacedFile,
     items: &mut Vec<(Rank, Item)>,
 ) -> Result<(), SiteError>
     requires offset { IsOffset rules.now.config.now.timezone }
     requires known { IsRuled rules.now file.now }
     requires now { IsMoment rules.now.now }
+    requires sorters { AreSorters rules.now.config.now sorters.now }
     ensures { let found = ruled_item rules.entry.now (seen file.entry.now) (in_order items.old.items) in
         MatchResult result (λ _. found ≡ Ok (in_order items.new.items)) (IsFirst found) }
 {
     match file.as_item() {
-        Some(kind) => add_kind(alloc, rules, kind, file, items),
+        Some(kind) => add_kind(alloc, rules, sorters, kind, file, items),
         None => Ok(()),
     }
 }
@@ -105,6 +110,7 @@ fn add_item(
 fn add_kind(
     alloc: Global,
     rules: &Rules,
+    sorters: &[Sorter],
     kind: Kind,
     file: &PlacedFile,
     items: &mut Vec<(Rank, Item)>,
@@ -112,11 +118,12 @@ fn add_kind(
     requires offset { IsOffset rules.now.config.now.timezone }
     requires known { IsRuled rules.now file.now }
     requires now { IsMoment rules.now.now }
+    requires sorters { AreSorters rules.now.config.now sorters.now }
     ensures { let found = ruled_kind rules.entry.now kind (seen file.entry.now).1 (in_order items.old.items) in
         MatchResult result (λ _. found ≡ Ok (in_order items.new.items)) (IsFirst found) }
 {
     match read_item(alloc, rules, kind, file) {
-        Ok(made) => Ok(put_item(alloc, rules.config, kind, file.path, made, items)?),
+        Ok(made) => Ok(put_item(alloc, rules.config, sorters, kind, file.path, made, items)?),
         Err(error) => Err(error_at(alloc, file.path, error)),
     }
 }
@@ -163,16 +170,18 @@ fn item_at(
 fn put_item(
     alloc: Global,
     config: &Config,
+    sorters: &[Sorter],
     kind: Kind,
     path: &SitePath,
     made: Option<Item>,
     items: &mut Vec<(Rank, Item)>,
 ) -> Result<(), Memory>
+    requires { AreSorters config.now sorters.now }
     ensures { OnOk result (in_order items.new.items ≡ with_item config.now kind path.now made (in_order items.old.items)) }
 {
     match made {
         Some(item) => {
-            let rank = Rank::of(alloc, config, kind, path, item.moment)?;
+            let rank = Rank::of(alloc, config, sorters, kind, path, &item)?;
             Ok(items.push((rank, item))?)
         }
         None => Ok(()),

@@ -10,7 +10,7 @@ use std::alloc::Global;
 use std::cmp::Ordering;
 use std::marker::Model;
 
-/// The name of a file or of a layout. Names are ordered by their bytes.
+/// The name of a file or of a layout, or a text that is sorted as these are: by its bytes.
 #[derive(Drop)]
 pub(crate) struct Name {
     text: Text,

@@ -1,12 +1,15 @@
 // The order in which items are rendered.
 ghost use Rattle.std.specs.Prelude.{◌≡◌, ◌<◌, ◌^◌, IfOk, length};
 ghost use Rattle.site_reader.specs.Ranks.{group_of, group_place, rank};
+ghost use Rattle.site_reader.specs.Sorters.{AreSorters};
 
 use crate::name::Name;
+use crate::sort_key::SortKey;
+use crate::sorter::{Sorter, sort_key};
 use site_base::{Memory, SitePath};
 use site_config::Config;
 use site_files::file_name;
-use site_items::Kind;
+use site_items::{Item, Kind};
 use std::alloc::Global;
 
 /// Where an item stands in the order. What comes first decides.
@@ -14,11 +17,12 @@ use std::alloc::Global;
 pub(crate) struct Rank {
     /// The place of its collection; behind all of them, that of pages.
     pub(crate) group: u64,
+    pub(crate) key: SortKey,
     pub(crate) place: GroupPlace,
     pub(crate) path: SitePath,
 }
 
-/// Where an item stands in its group, before its path decides.
+/// Where an item stands in its group among those of its key, before its path decides.
 #[derive(PartialEq, Eq, PartialOrd, Ord, Drop)]
 pub(crate) enum GroupPlace {
     /// A document, by the moment of its date.
@@ -30,19 +34,22 @@ pub(crate) enum GroupPlace {
 }
 
 impl Rank {
-    /// The rank of an item of a kind at a path, whose date is this moment.
+    /// The rank of an item of a kind at a path.
     pub(crate) fn of(
         alloc: Global,
         config: &Config,
+        sorters: &[Sorter],
         kind: Kind,
         path: &SitePath,
-        moment: Option<i64>,
+        item: &Item,
     ) -> Result<Rank, Memory>
-        ensures { IfOk result (λ made. made ≡ rank config.now kind path.now moment) }
+        requires { AreSorters config.now sorters.now }
+        ensures { IfOk result (λ made. made ≡ rank config.now kind path.now item.now) }
     {
         Ok(Rank {
             group: group_of(config, kind),
-            place: GroupPlace::of(alloc, kind, path, moment)?,
+            key: sort_key(alloc, config, sorters, kind, path.text(), &item.vars)?,
+            place: GroupPlace::of(alloc, kind, path, item.moment)?,
             path: path.copy(alloc)?,
         })
     }

@@ -1,7 +1,7 @@
 -- The variables of a small site, name by name.
-use Rattle.std.proofs.Common.{◌≡◌, refl, ℕ, List, [], ◌∷◌, None}
+use Rattle.std.proofs.Common.{◌≡◌, refl, ℕ, false, List, [], ◌∷◌, None}
 use Rattle.std.specs.Prelude.{codes, pos}
-use Rattle.site_base.specs.Plain.{Plain, nil, text, list, hash, site_item, Items, no_items, item, Pairs, no_pairs, pair}
+use Rattle.site_base.specs.Plain.{Plain, nil, bool, text, list, hash, site_item, Items, no_items, item, Pairs, no_pairs, pair}
 use Rattle.site_base.specs.declared.value.Value.TheVariants as value
 use Rattle.site_config.specs.Config.{config}
 use Rattle.site_reader.specs.declared.site.Site.{Site}
@@ -108,3 +108,7 @@ title = refl
 absent : site_variable sample (codes "absent") ≡ nil
 unfolding variables
 absent = refl
+
+liquid : site_variable sample (codes "liquid") ≡ hash (pair (codes "strict_variables") (bool false) (pair (codes "strict_filters") (bool false) no_pairs))
+unfolding variables
+liquid = refl

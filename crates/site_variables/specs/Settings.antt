@@ -1,5 +1,5 @@
--- The keys of a configuration that have a meaning, each with its value or its default. After Jekyll 4's manual, "Configuration Options".
-use Rattle.std.specs.Prelude.{ℕ, List, codes, if◌then◌else◌}
+-- The keys of a configuration that have a meaning, each with its value or its default. After Jekyll 4's manual, "Configuration Options" and "Liquid Options".
+use Rattle.std.specs.Prelude.{ℕ, false, List, codes, if◌then◌else◌}
 use Rattle.site_base.specs.Plain.{Plain, nil, bool, text, list, hash, no_items, Pairs, no_pairs, pair, onto_pairs}
 use Rattle.site_config.specs.Forms.{setting}
 use Rattle.site_config.specs.declared.config.Config.{Config}
@@ -31,12 +31,17 @@ flags config =
 abbrev pub given_or : Plain → Config → List ℕ → Plain
 given_or other config key = let v = setting key (hash config.all) in if is_nil v then other else v
 
+-- Liquid passes over what is not defined
+abbrev pub lenient : Pairs
+lenient = pair (codes "strict_variables") (bool false) (pair (codes "strict_filters") (bool false) no_pairs)
+
 -- keys whose values stand as they are given; `paginate` is nil where it is off
 abbrev pub as_given : Config → Pairs
 as_given config =
     pair (codes "defaults") (given_or (list no_items) config (codes "defaults"))
     (pair (codes "paginate") (given_or nil config (codes "paginate"))
-    (pair (codes "timezone") (given_or (text (codes "UTC")) config (codes "timezone")) no_pairs))
+    (pair (codes "timezone") (given_or (text (codes "UTC")) config (codes "timezone"))
+    (pair (codes "liquid") (given_or (hash lenient) config (codes "liquid")) no_pairs)))
 
 -- all keys of the table but `collections`, which a site has of itself
 abbrev pub settings : Config → Pairs

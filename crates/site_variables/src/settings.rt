@@ -4,7 +4,7 @@ ghost use Rattle.site_base.specs.Plain.{list, no_items, set, text, bool};
 ghost use Rattle.site_base.specs.View.{plain};
 ghost use Rattle.site_items.specs.Defaults.{set_all};
 ghost use Rattle.site_items.specs.Labels.{text_items};
-ghost use Rattle.site_variables.specs.Settings.{as_given, flags, given_or, lists, settings, texts};
+ghost use Rattle.site_variables.specs.Settings.{as_given, flags, given_or, lenient, lists, settings, texts};
 
 use site_base::{Hash, List, Memory, Text, TextList, Value, copy};
 use site_config::Config;
@@ -57,7 +57,19 @@ fn set_given(alloc: Global, made: &mut Hash, config: &Config) -> Result<(), Memo
     set(alloc, made, "paginate", paginate)?;
     let utc = Value::Text(Text::copy(alloc, "UTC")?);
     let timezone = given_or(alloc, utc, config, "timezone")?;
-    set(alloc, made, "timezone", timezone)
+    set(alloc, made, "timezone", timezone)?;
+    let liquid = given_or(alloc, Value::Hash(lenient(alloc)?), config, "liquid")?;
+    set(alloc, made, "liquid", liquid)
+}
+
+// The options of Liquid where the configuration has none.
+fn lenient(alloc: Global) -> Result<Hash, Memory>
+    ensures { IfOk result (λ made. made ≡ lenient) }
+{
+    let mut made = Hash::new(alloc);
+    set(alloc, &mut made, "strict_variables", Value::Bool(false))?;
+    set(alloc, &mut made, "strict_filters", Value::Bool(false))?;
+    Ok(made)
 }
 
 // The value of a key, or another where it is absent or nil.

@@ -3,9 +3,10 @@ use crate::rows::{EXCERPT, LAYOUT, asks, asks_at};
 use std::test::Fail;
 
 const BY_NAMES_AND_FILTERS: &[(&str, &str)] = &[
+    ("plain {{ 1 }}{{ page }}{{ site }}{{ jekyll.version }}", ""),
     (
-        "plain {{ 1 }}{{ page }}{{ site }}{{ nope }}{{ jekyll.version }}{{ content }}{{ layout }}{{ include.x }}{{ site[0] }}",
-        "",
+        "{{ nope }}{{ content }}{{ layout }}{{ include.x }}{{ site[0] }}",
+        "site liquid",
     ),
     (
         "{{ page.title }}{{ page.title }}{{ page.num }}{{ page[\"title\"] }}",
@@ -17,23 +18,23 @@ const BY_NAMES_AND_FILTERS: &[(&str, &str)] = &[
     ),
     (
         "{{ site.title }}{{ site.data.people[0].name }}{{ site.data.conf }}{{ site.nope.a }}",
-        "site title, data people, data conf, site nope",
+        "site title, data people, data conf, site nope, site liquid",
     ),
     (
         "{{ site.data.people.size }}{{ site.data.people.first.name }}{{ site[\"data\"][\"conf\"][\"x y\"] }}{{ site.data.conf.size.x }}{{ site.data.a.b.c }}",
-        "data people, data conf.x y, data conf, data a.b.c",
+        "data people, data conf.x y, data conf, site liquid, data a.b.c",
     ),
     (
         "{{ site.data.first }}{{ site.data[\"last\"].a }}{{ site.data[nil] }}{{ site.data }}{{ site.data.conf[true].a }}",
-        "data, data conf",
+        "data, site liquid, data conf",
     ),
     (
         "{{ site.data[page.title].a[site.data.conf.a] }}{{ site.data.people[page.zero] }}",
-        "var p.html title, data conf.a, data Page.a, var p.html zero, data people",
+        "var p.html title, data conf.a, data Page.a, site liquid, var p.html zero, data people",
     ),
     (
         "{{ (site.data.conf.a..page.num) }}{% assign d = site.data %}{{ d.people.size }}",
-        "var p.html num, data conf.a, data",
+        "data conf.a, var p.html num, data",
     ),
     ("{{ site.time }}", "moment, site timezone"),
     ("{{ site.related_posts }}{{ site.posts }}", "site posts"),
@@ -63,7 +64,7 @@ const BY_NAMES_AND_FILTERS: &[(&str, &str)] = &[
         "site faulty, var _posts/2023-02-04-self.html excerpt, site documents, var _posts/2023-02-04-self.html excerpt_separator, source _posts/2023-02-04-self.html, var _posts/2023-02-04-self.html title, site posts, source _posts/2024-01-01-first.md, var _posts/2023-02-04-self.html ext, site markdown_ext",
     ),
     ("{% link p.html %}", "link p.html, site baseurl"),
-    ("{% link {{ page.file }} %}", "var p.html file"),
+    ("{% link {{ page.file }} %}", "var p.html file, site liquid"),
     ("{% link no.md %}", "link no.md"),
     ("{% link away.html %}", "link away.html"),
     ("{% link ../p.html %}", ""),
@@ -129,10 +130,10 @@ const BY_NAMES_AND_FILTERS: &[(&str, &str)] = &[
         "site posts",
     ),
     ("{{ site.posts | where: \"title\" }}", "site posts"),
-    ("{{ \"a\" | nope: page.title, site.x }}", ""),
+    ("{{ \"a\" | nope: page.title, site.x }}", "site liquid"),
     (
         "{{ page.a | nope: page.b | default: page.c }}",
-        "var p.html a, var p.html c",
+        "var p.html a, site liquid, var p.html c",
     ),
 ];
 
@@ -147,7 +148,7 @@ fn names_and_filters_look_up(rt: HostRuntime) -> Result<(), Fail> {
 const BY_TAGS: &[(&str, &str)] = &[
     (
         "{{ page.a | append: page.b | replace: page.c, page.d | plus: page.e }}",
-        "var p.html a, var p.html b, var p.html c, var p.html d",
+        "var p.html a, site liquid, var p.html b, var p.html c, var p.html d",
     ),
     (
         "{{ 1 | plus: page.num, page.zero }}",
@@ -171,15 +172,15 @@ const BY_TAGS: &[(&str, &str)] = &[
     ),
     (
         "{% if page.nay %}{{ page.a }}{% elsif page.flag %}{{ page.b }}{% elsif page.c %}{% else %}{{ page.d }}{% endif %}",
-        "var p.html nay, var p.html flag, var p.html b",
+        "var p.html nay, var p.html flag, var p.html b, site liquid",
     ),
     (
         "{% unless page.flag %}{{ page.a }}{% elsif page.nay %}{{ page.b }}{% else %}{{ page.c }}{% endunless %}",
-        "var p.html flag, var p.html nay, var p.html c",
+        "var p.html flag, var p.html nay, var p.html c, site liquid",
     ),
     (
         "{% case page.num %}{{ page.z }}{% when page.a, page.num, page.b %}{{ page.c }}{% when page.d %}{% else %}{{ page.e }}{% endcase %}",
-        "var p.html num, var p.html a, var p.html c",
+        "var p.html num, var p.html a, var p.html c, site liquid",
     ),
     (
         "{% for i in page.list offset:page.zero limit:page.num %}{{ page.title }}{% endfor %}",
@@ -199,11 +200,11 @@ const BY_TAGS: &[(&str, &str)] = &[
     ),
     (
         "{% tablerow i in page.nope cols:page.one %}{% endtablerow %}",
-        "var p.html nope",
+        "var p.html nope, site liquid",
     ),
     (
         "{% for i in page.nope %}{{ page.a }}{% else %}{{ page.b }}{% endfor %}",
-        "var p.html nope, var p.html b",
+        "var p.html nope, site liquid, var p.html b",
     ),
     (
         "{% for p in site.posts %}{{ p.title }}{% break %}{{ p.url }}{% endfor %}{{ page.num }}",
@@ -215,15 +216,15 @@ const BY_TAGS: &[(&str, &str)] = &[
     ),
     (
         "{% cycle page.a: page.b, page.c %}{% cycle page.a: page.b, page.c %}",
-        "var p.html a, var p.html b, var p.html c",
+        "var p.html a, site liquid, var p.html b, var p.html c",
     ),
     (
         "{% cycle page.a, page.b %}{% assign x = page.num %}{% capture y %}{{ page.title }}{% endcapture %}",
-        "var p.html a, var p.html num, var p.html title",
+        "var p.html a, site liquid, var p.html num, var p.html title",
     ),
     (
         "{% include n.html x=page.title y=page.num %}{% include n.html %}",
-        "include n.html, var p.html title, var p.html num",
+        "include n.html, var p.html title, var p.html num, site liquid",
     ),
     (
         "{% include {{ page.title }}.html x=page.num %}",
@@ -238,7 +239,7 @@ const BY_TAGS: &[(&str, &str)] = &[
     ),
     (
         "{{ page[page.title].a }}{{ site[page.nope] }}{{ (page.num..page.zero) }}",
-        "var p.html title, var p.html Page, var p.html nope, var p.html num, var p.html zero",
+        "var p.html title, var p.html Page, site liquid, var p.html nope, var p.html num, var p.html zero",
     ),
     (
         "{% assign x = site.posts %}{{ x[0].title }}{% assign y = page %}{% if y == page %}{{ y.url }}{% endif %}",
@@ -246,7 +247,15 @@ const BY_TAGS: &[(&str, &str)] = &[
     ),
     (
         "{{ page.list[page.zero] }}{{ page.hash[page.nope].a }}",
-        "var p.html list, var p.html zero, var p.html hash, var p.html nope",
+        "var p.html list, var p.html zero, var p.html hash, var p.html nope, site liquid",
+    ),
+    (
+        "{% if page.a.b[page.c] == page.d %}{% endif %}{{ page.e | default: page.title }}",
+        "var p.html a, var p.html c, var p.html d, var p.html e, var p.html title",
+    ),
+    (
+        "{% case page.a | default: page.b %}{% when page.c %}{% endcase %}",
+        "var p.html a, var p.html b, site liquid, var p.html c",
     ),
     ("{{ 1 | divided_by: 0 }}{{ page.title }}", ""),
     ("{% break %}{{ page.title }}", ""),
@@ -276,7 +285,7 @@ const BY_A_LAYOUT: &[(&str, &str)] = &[
     ),
     (
         "{{ site.posts[1].excerpt }}{% include_relative side.txt %}",
-        "site posts, var _posts/2024-01-02-second.md excerpt, file side.txt, var p.html title",
+        "site posts, var _posts/2024-01-02-second.md excerpt, file side.txt, var p.html title, site liquid",
     ),
 ];
 

@@ -125,6 +125,7 @@ fn has(alloc: Global, mode: &Mode, row: &(&str, &str)) -> Result<bool, Memory> {
         around: Some(&turn),
         looping: true,
         quiet: false,
+        tested: true,
         levels: 100,
     };
     let expr = match read_expr(alloc, row.0) {

@@ -19,13 +19,14 @@ WHOLE = 1 << 20
 # The keys that have a form: docs/PROFILE.md, "The configuration".
 KEYS = (
     "baseurl", "url", "permalink", "markdown_ext", "include", "exclude", "keep_files", "collections", "defaults", "paginate", "paginate_path",
-    "excerpt_separator", "timezone", "future", "unpublished", "show_drafts",
+    "excerpt_separator", "timezone", "future", "unpublished", "show_drafts", "liquid",
 )
 # What to do where the program's own sentence says too little.
 REMEDIES = {
     "permalink": "it is a text: date, pretty, ordinal, none, or a template",
     "include": "it is a list of paths",
     "exclude": "it is a list of paths",
+    "collections": "it is a list of names, or a mapping from names to mappings: output is true or false, permalink and sort_by are texts, order is a list of texts",
     "defaults": 'each entry has a scope with a path (perhaps ""), perhaps a type that there is, and values; `site adopt` writes what is missing',
     "paginate": "it is a whole number from 1; `site adopt` takes 0 and false out",
     "excerpt_separator": 'it is a text that is not empty; `site adopt` writes excerpt: "" into defaults',
@@ -33,6 +34,7 @@ REMEDIES = {
     "future": "it is true or false",
     "unpublished": "it is true or false",
     "show_drafts": "it is true or false",
+    "liquid": "it is a mapping, in which strict_variables and strict_filters are true or false",
 }
 TEXTS = ("_layouts/", "_includes/", "_data/", CONFIG)
 

@@ -7,7 +7,7 @@ from adopting.globs import is_glob
 from adopting.kept_back import READ_FOLDERS, Lists, Program, Rules, leaks, lists_of_paths, shortened
 from adopting.scopes import mend
 from adopting.settings import kept_by_front, lacks_pagination, rules_of, texts, unpublished_copies
-from configuration import CONFIG
+from configuration import CONFIG, mapping
 from notes.site import Notes, Site
 
 ADOPT = "`site adopt` does that"
@@ -19,7 +19,6 @@ WITHOUT_MEANING = {
     "kramdown": ("a key without a meaning: every text is CommonMark", "take it out"),
     "markdown": ("a key without a meaning: every text is CommonMark", "take it out"),
     "highlighter": ("a key without a meaning: code comes out without colours", "colour it in the browser by the class language-.."),
-    "liquid": ("a key without a meaning: each fault of a template ends the build", "take it out"),
     "lsi": ("a key without a meaning: related posts are the newest", "take it out"),
     "encoding": ("a key without a meaning: all files are UTF-8", "take it out"),
     "limit_posts": ("a key without a meaning: all posts come out", "take it out, or name the posts in exclude"),
@@ -37,6 +36,10 @@ WITHOUT_MEANING = {
 # What has the value of Jekyll's own default says nothing.
 USUAL = {"markdown": "kramdown", "highlighter": "rouge", "encoding": "utf-8", "lsi": False, "limit_posts": 0, "collections_dir": "",
          "layouts_dir": "_layouts", "includes_dir": "_includes", "data_dir": "_data", "destination": "_site", "plugins_dir": "_plugins"}
+# The keys that have a meaning in `liquid`, and in a collection; in `posts`, which have an order of their own, the last two have none.
+OPTIONS = ("strict_variables", "strict_filters")
+OF_COLLECTIONS = ("output", "permalink", "order", "sort_by")
+ORDERS = ("order", "sort_by")
 # Plugins whose work is done by what `site adopt` writes, and the file that shows it.
 DONE_BY = {"jekyll-feed": "feed.xml", "jekyll-sitemap": "sitemap.xml"}
 # Plugins that leave nothing to do: their tags are faults, or the program does their work.
@@ -47,7 +50,7 @@ WITHOUT_WORK = {
 
 
 def add(notes: Notes, site: Site) -> None:
-    for part in (add_keys, add_plugins, add_lists, add_kept, add_scopes, add_permalinks, add_collections):
+    for part in (add_keys, add_options, add_plugins, add_lists, add_kept, add_scopes, add_permalinks, add_collections):
         with notes.of(CONFIG):
             part(notes, site)
 
@@ -61,6 +64,14 @@ def add_keys(notes: Notes, site: Site) -> None:
     for key, said in WITHOUT_MEANING.items():
         if said and key in config and config[key] != USUAL.get(key, object()) and config[key] is not None:
             notes.add(CONFIG, settings.line(key), f"{key}: {said[0]}", said[1])
+
+
+def add_options(notes: Notes, site: Site) -> None:
+    """Members of `liquid` beside the two options."""
+    for key in mapping(site.config.get("liquid")):
+        if key not in OPTIONS:
+            what = f"{key} of liquid has no meaning" + (": each fault of a template ends the build" if key == "error_mode" else "")
+            notes.add(CONFIG, site.settings.line_with("liquid", key), what, "take it out")
 
 
 def add_plugins(notes: Notes, site: Site) -> None:
@@ -141,12 +152,21 @@ def add_permalinks(notes: Notes, site: Site) -> None:
 
 
 def add_collections(notes: Notes, site: Site) -> None:
-    collections = site.config.get("collections")
-    for name, meta in collections.items() if isinstance(collections, dict) else []:
-        for key in meta if isinstance(meta, dict) else ():
+    for name, meta in mapping(site.config.get("collections")).items():
+        for key, value in mapping(meta).items():
             line = site.settings.line_with("collections", key)
-            if key in ("sort_by", "order"):
-                what = f"{key} of the collection {name} has no meaning: documents are in the order of date and path"
-                notes.add(CONFIG, line, what, "sort them where they are listed")
-            elif key not in ("output", "permalink"):
+            if name == "posts" and key in ORDERS:
+                notes.add(CONFIG, line, f"{key} of posts has no meaning: they are in the order of date and path", "take it out, and sort them where they are listed")
+            elif key not in OF_COLLECTIONS:
                 notes.add(CONFIG, line, f"{key} of the collection {name} is nil in templates", "put it into a key of its own, or a data file")
+            elif key == "order":
+                add_slashes(notes, site, name, value)
+
+
+def add_slashes(notes: Notes, site: Site, name: str, order: object) -> None:
+    """Entries of `order` that begin with a slash."""
+    for entry in texts(order):
+        path = entry.lstrip("/")
+        if path != entry and f"_{name}/{path}" in site.files:
+            line = site.settings.line_with("collections", entry)
+            notes.add(CONFIG, line, f'"{entry}" in order of the collection {name} names no document (in Jekyll {path})', "write it without the slash in front")

@@ -96,6 +96,9 @@ class Site:
     def defaults(self) -> list[Hash]:
         return [one for one in self.list_of("defaults") if isinstance(one, dict) and isinstance(one.get("values"), dict)]
 
+    def has_strict_filters(self) -> bool:
+        return mapping(self.config.get("liquid")).get("strict_filters") is True
+
     def decimals(self) -> set[str]:
         """The keys of front matter that have a decimal somewhere."""
         if self.found_decimals is None:

@@ -66,7 +66,8 @@ def add_piece(notes: Notes, site: Site, path: str, line: int, piece: Piece) -> N
     whole = piece.text
     bare = QUOTED.sub("''", whole)
     for name in FILTER.findall(bare):
-        if name not in FILTERS:
+        # With strict filters it is a fault.
+        if name not in FILTERS and not site.has_strict_filters():
             notes.add(path, line, f"the filter {name} is not known and leaves its input as it is", REMEDIES.get(name, "do without it"))
     if EMPTY_ON_THE_LEFT.search(bare):
         notes.add(path, line, "empty is nil on the left of a comparison", "write it on the right")

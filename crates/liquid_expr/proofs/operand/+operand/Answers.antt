@@ -151,7 +151,7 @@ range-returns-in_err-to-clause-value t c =
     let behind : tokens_of c.rest-behind.result ≡ drop n ts = c.rest-behind.ensures.seen in
     let past : tokens_of c.rest-behind-2.result ≡ drop 1 (drop n ts) = c.rest-behind-2.ensures.seen ∙ ap (drop 1) behind in
     let goes : goes_to (drop n ts) ≡ true = ap goes_to (sym behind) ∙ sym c.goes_to.ensures ∙ c.if-not-goes_to.false in
-    rw (e.1, e.2) (pass_error steps_of steps_of mid c.operand-2.new.steps.items old c.operand-2.new.steps.items (operand_in (d - 1) (tokens_of c.rest-behind-2.result)) (range_at (operand_inside d) ts) c.in_err-to.field-0.0 c.in_err-to.ensures.value
+    rw (e.1, e.2) (pass_error steps_of steps_of c.push.new.self.items c.operand-2.new.steps.items old c.operand-2.new.steps.items (operand_in (d - 1) (tokens_of c.rest-behind-2.result)) (range_at (operand_inside d) ts) c.in_err-to.field-0.0 c.in_err-to.ensures.value
     (λ none. range_wrong_end (operand_inside d) ts old mid n from goes (sym (inside_is d (drop 1 (drop n ts)) c.if-depth-eq0.false) ∙ ap (operand_in (d - 1)) (sym past) ∙ none)))
 
 pub range-returns-then-not-closes_range-clause-value : goal.range-returns-then-not-closes_range-clause-value
@@ -167,7 +167,8 @@ range-returns-then-not-closes_range-clause-value t c =
     let behind : tokens_of c.rest-behind.result ≡ drop n ts = c.rest-behind.ensures.seen in
     let past : tokens_of c.rest-behind-2.result ≡ drop 1 (drop n ts) = c.rest-behind-2.ensures.seen ∙ ap (drop 1) behind in
     let goes : goes_to (drop n ts) ≡ true = ap goes_to (sym behind) ∙ sym c.goes_to.ensures ∙ c.if-not-goes_to.false in
-    let to : added steps_of mid (operand_inside d (drop 1 (drop n ts))) ≡ Some (new, m) = ap (added steps_of mid) (sym (inside_is d (drop 1 (drop n ts)) c.if-depth-eq0.false) ∙ ap (operand_in (d - 1)) (sym past)) ∙ c.in_ok-to.ensures.value in
+    let to : added steps_of (mid ++ step.FirstEnd ∷ []) (operand_inside d (drop 1 (drop n ts))) ≡ Some (new, m) =
+    ap (λ l. added steps_of l (operand_inside d (drop 1 (drop n ts)))) (sym c.in_ok-push.ensures.items) ∙ ap (added steps_of c.push.new.self.items) (sym (inside_is d (drop 1 (drop n ts)) c.if-depth-eq0.false) ∙ ap (operand_in (d - 1)) (sym past)) ∙ c.in_ok-to.ensures.value in
     let last : tokens_of c.rest.result ≡ drop m (drop 1 (drop n ts)) = c.rest.ensures.seen ∙ ap (drop m) past in
     range_open (operand_inside d) ts old mid new n m from goes to (ap closes_range (sym last) ∙ sym c.closes_range.ensures ∙ c.if-not-closes_range.true)
 
@@ -184,7 +185,8 @@ range-returns-clause-value t c =
     let behind : tokens_of c.rest-behind.result ≡ drop n ts = c.rest-behind.ensures.seen in
     let past : tokens_of c.rest-behind-2.result ≡ drop 1 (drop n ts) = c.rest-behind-2.ensures.seen ∙ ap (drop 1) behind in
     let goes : goes_to (drop n ts) ≡ true = ap goes_to (sym behind) ∙ sym c.goes_to.ensures ∙ c.if-not-goes_to.false in
-    let to : added steps_of mid (operand_inside d (drop 1 (drop n ts))) ≡ Some (new, m) = ap (added steps_of mid) (sym (inside_is d (drop 1 (drop n ts)) c.if-depth-eq0.false) ∙ ap (operand_in (d - 1)) (sym past)) ∙ c.in_ok-to.ensures.value in
+    let to : added steps_of (mid ++ step.FirstEnd ∷ []) (operand_inside d (drop 1 (drop n ts))) ≡ Some (new, m) =
+    ap (λ l. added steps_of l (operand_inside d (drop 1 (drop n ts)))) (sym c.in_ok-push.ensures.items) ∙ ap (added steps_of c.push.new.self.items) (sym (inside_is d (drop 1 (drop n ts)) c.if-depth-eq0.false) ∙ ap (operand_in (d - 1)) (sym past)) ∙ c.in_ok-to.ensures.value in
     let last : tokens_of c.rest.result ≡ drop m (drop 1 (drop n ts)) = c.rest.ensures.seen ∙ ap (drop m) past in
     range_adds (operand_inside d) ts old mid new n m from goes to (ap closes_range (sym last) ∙ sym c.closes_range.ensures ∙ c.if-not-closes_range.false)
-    ∙ ap (λ l. Some (l, n + 1 + m + 1)) (sym c.in_ok-push.ensures.items)
+    ∙ ap (λ l. Some (l, n + 1 + m + 1)) (sym c.in_ok-push-2.ensures.items)

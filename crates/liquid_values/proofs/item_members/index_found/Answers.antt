@@ -14,5 +14,5 @@ returns-clause-gives g c =
     let view = g.L.Look.view c.args.look.now in let t = g.L.Look.trace c.args.look.now in
     let other = g.L.Look.view c.into_value.new.look in let u = g.L.Look.trace c.into_value.new.look in
     let next : Plain → Query SiteFault Found = λ v. indexed (g.X.Excerpts.excerpts c.args.place.now.levels) (place_of c.args.place.now) (found_of c.args.found) v in
-    finds_next view other t (settled (found_of c.args.index)) next (plain c.in_ok-index.index) u c.in_ok-index.ensures.same c.in_ok-index.ensures.gives
+    finds_next view other t (settled (place_of c.args.place.now) (found_of c.args.index)) next (plain c.in_ok-index.index) u c.in_ok-index.ensures.same c.in_ok-index.ensures.gives
     (in_found c.indexed.result) (g.L.Look.trace c.indexed.new.look) c.indexed.ensures.gives

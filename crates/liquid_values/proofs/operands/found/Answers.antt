@@ -2,7 +2,6 @@ use Rattle.std.proofs.Common.{◌∙◌, ◌+◌, ap, sym, refl, subst, [], drop
 use Rattle.std.proofs.lemmas.Result.{err_from_is_err_and}
 use Rattle.read_record.specs.Answers.{Stops}
 use Rattle.read_record.specs.Queries.{run}
-use Rattle.liquid_values.specs.Operands as operands
 use Rattle.liquid_values.specs.OperandSteps.{stack_of, last_found}
 use Rattle.liquid_values.specs.Standing.{place_of}
 use Rattle.liquid_values.proofs.StepLaws.{operand-found, step_taken, step_stops}

@@ -20,11 +20,11 @@ returns-in_err-range-clause-gives g c =
     let p = place_of c.args.place.now in let v = plain c.args.first.now in let w = plain c.in_ok-last.last in
     let next : Plain → Query SiteFault Found = λ w. bind (found_at p (range_of v w)) given in
     let stop = c.in_err-range.field-0.0 in let e = err_from_is_err_and c.from_residual-in_err-range.result c.from_residual-in_err-range.ensures.1 in
-    rw (e.1, e.2) (stops_then view t (settled (found_of c.args.last)) next w u stop u c.in_ok-last.ensures.gives (found_stops view u p (range_of v w) given stop c.in_err-range.ensures))
+    rw (e.1, e.2) (stops_then view t (settled p (found_of c.args.last)) next w u stop u c.in_ok-last.ensures.gives (found_stops view u p (range_of v w) given stop c.in_err-range.ensures))
 
 pub returns-clause-gives : goal.returns-clause-gives
 returns-clause-gives g c =
     let view = g.L.Look.view c.args.look.now in let t = g.L.Look.trace c.args.look.now in let u = g.L.Look.trace c.into_value.new.look in
     let p = place_of c.args.place.now in let v = plain c.args.first.now in let w = plain c.in_ok-last.last in
     let next : Plain → Query SiteFault Found = λ w. bind (found_at p (range_of v w)) given in
-    run_gave view t (settled (found_of c.args.last)) next w u c.in_ok-last.ensures.gives ∙ found_gave view u p (range_of v w) given (plain c.in_ok-range.range) c.in_ok-range.ensures
+    run_gave view t (settled p (found_of c.args.last)) next w u c.in_ok-last.ensures.gives ∙ found_gave view u p (range_of v w) given (plain c.in_ok-range.range) c.in_ok-range.ensures

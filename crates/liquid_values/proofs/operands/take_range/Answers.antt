@@ -3,8 +3,7 @@ use Rattle.read_record.specs.Queries.{Give, RanTo, run}
 use Rattle.read_record.proofs.QueryLaws.{run_gave}
 use Rattle.liquid_values.specs.Answers.{found_of}
 use Rattle.liquid_values.specs.Names.{Found}
-use Rattle.liquid_values.specs.Operands.{range_found}
-use Rattle.liquid_values.specs.OperandSteps.{Standing, range_step, stack_of}
+use Rattle.liquid_values.specs.OperandSteps.{Standing, range_found, range_step, stack_of}
 use Rattle.liquid_values.specs.Standing.{place_of}
 use Rattle.liquid_values.proofs.operands.take_range.Goals as goal
 

@@ -1,4 +1,4 @@
-use Rattle.std.proofs.Common.{◌∙◌, ◌+◌, ◌-◌, ◌==◌, ap, sym, refl, drop}
+use Rattle.std.proofs.Common.{◌∙◌, ◌+◌, ◌-◌, ap, sym, drop}
 use Rattle.site_base.specs.Plain.{onto, item, no_items}
 use Rattle.site_base.specs.View.{plain, items_of}
 use Rattle.liquid_values.specs.Names.{others}

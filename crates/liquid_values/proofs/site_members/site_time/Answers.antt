@@ -1,5 +1,4 @@
 use Rattle.std.proofs.Common.{subst}
-use Rattle.site_base.specs.View.{plain}
 use Rattle.read_record.specs.Answers.{Finds, in_plain}
 use Rattle.read_record.specs.Queries.{run}
 use Rattle.liquid_values.specs.Standing.{place_of}
