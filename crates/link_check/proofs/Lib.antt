@@ -1,8 +1,11 @@
 mod Comments
 mod Cuts
 mod LinkLaws
+mod NoteLaws
+mod NumberLaws
 mod PathLaws
 mod Rows
 mod Runs
 mod SegmentLaws
+mod TableLaws
 mod ValueLaws

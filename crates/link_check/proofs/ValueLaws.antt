@@ -18,7 +18,7 @@ plain_falls : Falls length [] plain_step
 plain_falls f g [] h = refl
 plain_falls f g (c ∷ cs) h = ap (λ (t : List ℕ). c ∷ t) (h (drop (first_len (c ∷ cs)) (c ∷ cs)) (omega (arith, some_len (c ∷ cs), length-drop (first_len (c ∷ cs)) (c ∷ cs))))
 
-plain_is : (t : List ℕ) → plain t ≡ plain_step plain t
+pub plain_is : (t : List ℕ) → plain t ≡ plain_step plain t
 unfolding plain
 plain_is t = down_is length [] plain_step plain_falls t
 
@@ -47,7 +47,7 @@ decoded_falls f g (c ∷ cs) h = go (c == 37) (hex_pair cs) where
   go true (Some byte) = ap (onto byte) (h (drop 2 cs) (omega (arith, length-drop 2 cs)))
   go false o = ap (onto c) (h cs (omega arith))
 
-decoded_is : (t : List ℕ) → decoded t ≡ decoded_step decoded t
+pub decoded_is : (t : List ℕ) → decoded t ≡ decoded_step decoded t
 unfolding decoded
 decoded_is t = down_is length None decoded_step decoded_falls t
 

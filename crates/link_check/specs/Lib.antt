@@ -1,7 +1,10 @@
 pub mod Answered
 pub mod Links
+pub mod Notes
+pub mod Numbers
 pub mod Quotes
 pub mod Reads
 pub mod Segments
+pub mod Table
 pub mod Tags
 pub mod Targets

@@ -83,7 +83,11 @@ pub fn is_broken<P: Paths>(
     }
 }
 
-fn is_missing<P: Paths>(alloc: Global, paths: &P, path: &SitePath) -> Result<bool, Memory>
+pub(crate) fn is_missing<P: Paths>(
+    alloc: Global,
+    paths: &P,
+    path: &SitePath,
+) -> Result<bool, Memory>
     ensures { IfOk result (λ missing. missing ≡ not (answered.is_answered (P.paths paths.now) path.now)) }
 {
     let answered = is_answered(alloc, paths, path)?;

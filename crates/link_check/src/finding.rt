@@ -6,12 +6,12 @@ ghost use Rattle.link_check.specs.Links.{after_comment, after_less_than, comment
 ghost use Rattle.link_check.specs.Reads.{attribute_of, count_of, values_in};
 
 use crate::tags::{Attribute, attribute_at, tag_end, tag_name_len};
-use site_base::{Memory, TextList};
+use site_base::{Memory, Sequence, Text};
 use site_text::begins;
 use std::alloc::{AllocError, Global};
 
 /// What links lead to, as it is written, in the order in which the links stand.
-pub type LinkList = TextList;
+pub type LinkList = Sequence<Text>;
 
 /// The links of a page: the values of `href` and `src`, in any ASCII capitals, of its open tags. Tags in comments are none, and a
 /// tag that does not end gives none. Bytes that are not UTF-8 have no links.
@@ -104,7 +104,7 @@ fn push_all(alloc: Global, list: &mut LinkList, values: &[&str]) -> Result<(), M
     ensures { OnOk result (list.new ≡ list.old ++ map (λ v. v.now) values.now) }
 {
     for value in values {
-        list.push(alloc, value)?;
+        list.push(Text::shared(alloc, value)?)?;
     }
     Ok(())
 }

@@ -135,7 +135,7 @@ fn beside(alloc: Global, from: &str, path: &str) -> Result<String, AllocError>
 }
 
 // A path up to its last `/`, and with it.
-fn folder_of(path: &str) -> &str
+pub(crate) fn folder_of(path: &str) -> &str
     ensures { result.now ≡ targets.folder_of path.now }
 {
     &path[..path.len() - name_len(path.as_bytes())]
