@@ -41,6 +41,7 @@ fn shown(alloc: Global, line: &Line) -> Result<String, AllocError> {
     match line {
         Line::Scan => format!(in alloc; "scan"),
         Line::Build => format!(in alloc; "build"),
+        Line::Links => format!(in alloc; "links"),
         Line::End => format!(in alloc; "end"),
         Line::Eof => format!(in alloc; "eof"),
         Line::Failed => format!(in alloc; "failed"),

@@ -7,4 +7,5 @@ pub mod Outcomes
 pub mod Paths
 pub mod Picked
 pub mod Trying
+pub mod Unlisted
 pub mod ValuesLemmas

@@ -13,6 +13,16 @@ use Rattle.out_tree.specs.declared.state.State.TheVariants.{Known, Marked}
 abbrev pub Belief : Type 0
 Belief = FinMap path_cmp State
 
+-- the bytes that are known, if they are
+abbrev pub known_bytes : State → Option (List ℕ)
+known_bytes (Known bytes) = Some bytes
+known_bytes Marked = None
+
+-- known with these bytes, or marked without any
+abbrev pub state_of : Option (List ℕ) → State
+state_of (Some bytes) = Known bytes
+state_of None = Marked
+
 -- the paths that are believed; none where the output has not been listed
 abbrev pub believed : Option Belief → Belief
 believed None = empty

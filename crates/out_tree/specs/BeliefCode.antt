@@ -1,19 +1,10 @@
 -- By what a belief is told from another.
-use Rattle.std.specs.Prelude.{◌≡◌, ℕ, List, Option, Some, None, refl}
+use Rattle.std.specs.Prelude.{◌≡◌, ℕ, List, Option, refl}
 use Rattle.std.specs.FinMap as finmap
 use Rattle.std.specs.Coded.{Coded, code_by, coded_ℕ, coded_list, coded_option}
-use Rattle.out_tree.specs.Belief.{Belief}
+use Rattle.out_tree.specs.Belief.{Belief, known_bytes, state_of}
 use Rattle.out_tree.specs.declared.state.State.{State}
 use Rattle.out_tree.specs.declared.state.State.TheVariants.{Known, Marked}
-
--- the bytes that are known, if they are
-abbrev pub known_bytes : State → Option (List ℕ)
-known_bytes (Known bytes) = Some bytes
-known_bytes Marked = None
-
-abbrev pub state_of : Option (List ℕ) → State
-state_of (Some bytes) = Known bytes
-state_of None = Marked
 
 abbrev pub state_back : (s : State) → state_of (known_bytes s) ≡ s
 state_back (Known bytes) = refl

@@ -22,7 +22,8 @@ pub trait OutTree {
     /// How often it has failed.
     ghost failures: { Self → ℕ };
 
-    /// The paths of its files, each once. It changes nothing, and `Failed` is a failure of the output.
+    /// The paths of its files, each once. It changes none of the files; it may make the folder for them, and remove what a run left there that was cut off.
+    /// `Failed` is a failure of the output.
     fn list(&mut self, alloc: Global) -> Result<Vec<SitePath>, ListError>
         ensures lists { Lists (contents self.old) result }
         ensures same { contents self.new ≡ contents self.old }

@@ -1,11 +1,12 @@
 // What is believed of an output, and how it is made equal to a tree.
-ghost use Rattle.std.specs.Prelude.{◌≡◌, ◌≤◌, ◌∷◌, [], ℕ, List, length, is_some, true, IfOk, OnOk, OnErr, IsOk, IsSome, Some, None, if◌then◌else◌};
+ghost use Rattle.std.specs.Prelude.{◌≡◌, ◌≤◌, ◌<◌, ◌∷◌, [], ℕ, List, length, is_some, true, slice_index_or, IfOk, OnOk, OnErr, IsOk, IsSome, Some, None, if◌then◌else◌};
 ghost use Rattle.std.specs.FinMap as finmap;
+ghost use Rattle.std.specs.Option.{option_copied};
 ghost use Rattle.site_base.specs.Places.{Files, is_listed, AllDiffer};
 ghost use Rattle.site_base.specs.Ends.{HasCauseOf};
 ghost use Rattle.site_base.specs.PathMap.{as_map};
 ghost use Rattle.out_tree.specs.Device.{Calls};
-ghost use Rattle.out_tree.specs.Belief.{believed, all_marked, after, HoldsOf};
+ghost use Rattle.out_tree.specs.Belief.{believed, state_of, all_marked, after, HoldsOf};
 ghost use Rattle.out_tree.specs.Plan.{steps_of, plan_of, planned, removals, writes};
 ghost use Rattle.out_tree.specs.Tries.{InOrder, DoneBut, StaysTrue, CallsFor, RoseBy};
 ghost use Rattle.out_tree.specs.Exact.{MadeBut, MarksThose, Settles};
@@ -15,7 +16,7 @@ ghost use Rattle.out_tree.specs.declared.step.Call.TheVariants as call;
 use crate::attempts::try_all;
 use crate::planning::plan_for;
 use crate::{KeepList, OutTree, Plan, State, Tree};
-use site_base::{ListError, Memory, PathList, PathMap, SitePath};
+use site_base::{ListError, Memory, PathList, PathMap, SharedBytes, SitePath};
 use std::alloc::Global;
 use std::marker::Model;
 
@@ -63,6 +64,51 @@ impl OutKeeper {
         ensures { result ≡ is_some self.now }
     {
         self.belief.is_some()
+    }
+
+    /// How many paths are believed; 0 where the output has not been listed.
+    pub fn entries(&self) -> u64
+        ensures { result ≡ finmap.len (believed self.now) }
+    {
+        match &self.belief {
+            Some(belief) => belief.len() as u64,
+            None => 0,
+        }
+    }
+
+    /// The believed path at a place of the byte order, counted from 0, with its bytes; `None` where it is marked.
+    pub fn entry(&self, place: u64) -> (&SitePath, Option<&[u8]>)
+        requires { place < finmap.len (believed self.now) }
+        ensures { (result.0.now, state_of (option_copied result.1)) ≡ slice_index_or
+            (finmap.entries (believed self.now)) place (result.0.now, state_of (option_copied result.1)) }
+    {
+        let (path, bytes) = self.shared_entry(place);
+        match bytes {
+            Some(bytes) => (path, Some(bytes.as_slice())),
+            None => (path, None),
+        }
+    }
+
+    /// The same with the holder of the bytes.
+    pub fn shared_entry(&self, place: u64) -> (&SitePath, Option<&SharedBytes>)
+        requires { place < finmap.len (believed self.now) }
+        ensures { (result.0.now, state_of (option_copied result.1)) ≡ slice_index_or
+            (finmap.entries (believed self.now)) place (result.0.now, state_of (option_copied result.1)) }
+    {
+        match &self.belief {
+            Some(belief) => entry_of(belief, place as usize),
+            None => unreachable!(),
+        }
+    }
+
+    /// Whether the path is believed: known, or marked.
+    pub fn has(&self, path: &SitePath) -> bool
+        ensures { result ≡ finmap.contains_key (believed self.now) path.now }
+    {
+        match &self.belief {
+            Some(belief) => belief.get(path).is_some(),
+            None => false,
+        }
     }
 
     /// Lists the output, unless that has succeeded before: every path that is there becomes marked.
@@ -197,6 +243,19 @@ impl OutKeeper {
             removed,
             failed: PathList::from_vec(failed),
         }
+    }
+}
+
+// The path at a place of a belief, with the holder of its bytes where they are known.
+fn entry_of(belief: &PathMap<State>, place: usize) -> (&SitePath, Option<&SharedBytes>)
+    requires { place < finmap.len (as_map belief.now) }
+    ensures { (result.0.now, state_of (option_copied result.1)) ≡ slice_index_or
+        (finmap.entries (as_map belief.now)) place (result.0.now, state_of (option_copied result.1)) }
+{
+    let (path, state) = belief.at(place);
+    match state {
+        State::Known(bytes) => (path, Some(bytes)),
+        State::Marked => (path, None),
     }
 }
 

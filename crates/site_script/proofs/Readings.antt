@@ -162,6 +162,7 @@ length_drop (suc n) (x ∷ l) = let less : length (drop n l) ≤ length l = leng
 rest_length : (number : ℕ) (h : Head) (rest : List ℕ) → length (whole_line number h rest).1 ≤ length rest
 rest_length number head.Scan rest = omega arith
 rest_length number head.Build rest = omega arith
+rest_length number head.Links rest = omega arith
 rest_length number head.End rest = omega arith
 rest_length number (head.Delete path) rest = omega arith
 rest_length number (head.Time seconds) rest = omega arith
@@ -348,6 +349,7 @@ never_failed number (b ∷ text) e = by (head_of (content (b ∷ text))) e
     by : (h : Head) → (whole_line number h (after_line (b ∷ text))).0 ≡ line.Failed → ⊥
     by head.Scan e = cc (e)
     by head.Build e = cc (e)
+    by head.Links e = cc (e)
     by head.End e = cc (e)
     by (head.Delete path) e = cc (e)
     by (head.Time seconds) e = cc (e)

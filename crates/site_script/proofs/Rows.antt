@@ -19,6 +19,22 @@ unknown : first_line 1 (codes "x\n") ≡ (line.Bad 1 kind.Unknown, [])
 unfolding is_utf8 chars lib.Utf8.encode
 unknown = refl
 
+links : first_line 1 (codes "links\r\nend\n") ≡ (line.Links, codes "end\n")
+unfolding is_utf8 chars lib.Utf8.encode
+links = refl
+
+links_of : first_line 1 (codes "links x\n") ≡ (line.Bad 1 kind.Unknown, [])
+unfolding is_utf8 chars lib.Utf8.encode
+links_of = refl
+
+links_with_capital : first_line 1 (codes "Links\n") ≡ (line.Bad 1 kind.Unknown, [])
+unfolding is_utf8 chars lib.Utf8.encode
+links_with_capital = refl
+
+links_behind_space : first_line 1 (codes " links\n") ≡ (line.Bad 1 kind.Unknown, [])
+unfolding is_utf8 chars lib.Utf8.encode
+links_behind_space = refl
+
 empty_line : first_line 7 (codes "\nscan\n") ≡ (line.Bad 7 kind.Unknown, codes "scan\n")
 unfolding is_utf8 chars lib.Utf8.encode
 empty_line = refl

@@ -45,7 +45,8 @@ long_time line =
 form_time : (line : List ℕ) → HasTime (form_of line)
 form_time line =
     either (bytes_eq line (codes "scan")) head.Scan _ tt
-    (either (bytes_eq line (codes "build")) head.Build _ tt (either (bytes_eq line (codes "end")) head.End (long_form line) tt (long_time line)))
+    (either (bytes_eq line (codes "build")) head.Build _ tt
+    (either (bytes_eq line (codes "links")) head.Links _ tt (either (bytes_eq line (codes "end")) head.End (long_form line) tt (long_time line))))
 
 pub head_time : (line : List ℕ) → HasTime (head_of line)
 head_time line =

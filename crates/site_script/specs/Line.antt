@@ -4,7 +4,7 @@ use Rattle.site_base.specs.Limits.{last_moment}
 use Rattle.site_script.specs.declared.head.Head.{Head}
 use Rattle.site_script.specs.declared.head.Head.TheVariants as head
 use Rattle.site_script.specs.declared.line.Line.{Line}
-use Rattle.site_script.specs.declared.line.Line.TheVariants.{Scan, Put, Delete, Time, Build, End, Eof, Bad, Failed, Memory}
+use Rattle.site_script.specs.declared.line.Line.TheVariants.{Scan, Put, Delete, Time, Build, Links, End, Eof, Bad, Failed, Memory}
 use Rattle.site_script.specs.declared.line.ScriptKind.{ScriptKind}
 use Rattle.site_script.specs.declared.line.ScriptKind.TheVariants as kind
 
@@ -35,6 +35,7 @@ ends (Put path bytes) = false
 ends (Delete path) = false
 ends (Time seconds) = false
 ends Build = false
+ends Links = false
 
 -- from the first second of 1970 to the last of the year 9999 that every offset can name
 abbrev pub is_moment : ℤ → Bool
@@ -53,12 +54,14 @@ IsInTime Scan = Unit {0}
 IsInTime (Put path bytes) = Unit {0}
 IsInTime (Delete path) = Unit {0}
 IsInTime Build = Unit {0}
+IsInTime Links = Unit {0}
 
 -- the same of a line's content
 abbrev pub HasTime : Head → Type 0
 HasTime (head.Time seconds) = is_moment seconds ≡ true
 HasTime head.Scan = Unit {0}
 HasTime head.Build = Unit {0}
+HasTime head.Links = Unit {0}
 HasTime head.End = Unit {0}
 HasTime (head.Put path count) = Unit {0}
 HasTime (head.Delete path) = Unit {0}

@@ -11,7 +11,7 @@ use Rattle.site_script.specs.Number.{number_up_to}
 use Rattle.site_script.specs.declared.head.Head.{Head}
 use Rattle.site_script.specs.declared.head.Head.TheVariants as head
 use Rattle.site_script.specs.declared.line.Line.{Line}
-use Rattle.site_script.specs.declared.line.Line.TheVariants.{Scan, Put, Delete, Time, Build, End, Eof, Bad, Failed, Memory}
+use Rattle.site_script.specs.declared.line.Line.TheVariants.{Scan, Put, Delete, Time, Build, Links, End, Eof, Bad, Failed, Memory}
 use Rattle.site_script.specs.declared.line.ScriptKind.TheVariants.{LongLine, NotText, Unknown, Path, Length, Cut, Seconds}
 
 -- Lines end with LF, and the last may lack its end.
@@ -69,6 +69,7 @@ abbrev pub form_of : List ℕ → Head
 form_of line =
     if bytes_eq line (codes "scan") then head.Scan
     else if bytes_eq line (codes "build") then head.Build
+    else if bytes_eq line (codes "links") then head.Links
     else if bytes_eq line (codes "end") then head.End
     else long_form line
 
@@ -83,6 +84,7 @@ head_of line =
 abbrev pub whole_line : ℕ → Head → List ℕ → Line × List ℕ
 whole_line number head.Scan rest = (Scan, rest)
 whole_line number head.Build rest = (Build, rest)
+whole_line number head.Links rest = (Links, rest)
 whole_line number head.End rest = (End, rest)
 whole_line number (head.Delete path) rest = (Delete path, rest)
 whole_line number (head.Time seconds) rest = (Time seconds, rest)
@@ -116,6 +118,7 @@ abbrev pub lacks_body : Head → List ℕ → Bool
 lacks_body (head.Put path count) body = nat_lt (length body) count
 lacks_body head.Scan body = false
 lacks_body head.Build body = false
+lacks_body head.Links body = false
 lacks_body head.End body = false
 lacks_body (head.Delete path) body = false
 lacks_body (head.Time seconds) body = false

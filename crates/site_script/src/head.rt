@@ -16,6 +16,7 @@ const MOST_LINE_BYTES: usize = 2048;
 pub enum Head {
     Scan,
     Build,
+    Links,
     End,
     Put(SitePath, u64),
     Delete(SitePath),
@@ -42,6 +43,7 @@ fn read_form(alloc: Global, text: &str) -> Result<Head, Memory>
     match text {
         "scan" => Ok(Head::Scan),
         "build" => Ok(Head::Build),
+        "links" => Ok(Head::Links),
         "end" => Ok(Head::End),
         _ => read_long_form(alloc, text),
     }

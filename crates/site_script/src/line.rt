@@ -46,6 +46,8 @@ pub enum Line {
     /// The moment, in seconds from 1970 in UTC.
     Time(i64),
     Build,
+    /// Look for broken links.
+    Links,
     End,
     /// The input is at its end, or an earlier line ended the script.
     Eof,

@@ -125,6 +125,7 @@ fn finish<I: ByteSource>(alloc: Global, number: u64, head: Head, input: &mut I) 
     match head {
         Head::Scan => Line::Scan,
         Head::Build => Line::Build,
+        Head::Links => Line::Links,
         Head::End => Line::End,
         Head::Delete(path) => Line::Delete(path),
         Head::Time(seconds) => Line::Time(seconds),

@@ -101,7 +101,7 @@ pub fn script_sentence(kind: ScriptKind) -> &'static str
         ScriptKind::LongLine => "the line is longer than 2,048 bytes; make it shorter",
         ScriptKind::NotText => "the line is not UTF-8; write it as UTF-8",
         ScriptKind::Unknown =>
-            "the line is not one that a session understands; write scan, put, delete, time, build or end",
+            "the line is not one that a session understands; write scan, put, delete, time, build, links or end",
         ScriptKind::Path =>
             "the path is not a valid path of a site; write a relative path of at most 1,024 bytes, without . or .. as a part",
         ScriptKind::Length =>
