@@ -15,6 +15,7 @@ use Rattle.site_session.specs.Standing.{Standing}
 use Rattle.site_session.specs.Session.{Given, Event, Nothing, TheScan, TheList, TheSteps, event_of, first_fault, full_now, plan, rendered_now, scan, build, build_tree, build_reply, failed_in, output_failures, source_failures}
 use Rattle.site_session.specs.Replies.{LeavesBy, Leaves, has_called_output}
 use Rattle.site_session.specs.declared.reply.Reply.{Reply}
+use Rattle.site_session.specs.declared.reply.Reply.TheVariants as the_reply
 use Rattle.site_session.specs.declared.reply.Reply.TheVariants.{Scanned, ScanFailed, Faulty, Fine, Absent, Built, Marked, Unlisted, BadLine, Silent}
 use Rattle.site_session.specs.Bytes.{reply_bytes, written}
 use Rattle.site_program.specs.Once.{after_scan, site_fault, LeftBut, Ended, Replies, Took, Untouched, scanned}
@@ -51,6 +52,8 @@ scan_case given old reply new answers = by (scan_fault (entries given.source)) r
     by (Some fault) (BadLine number kind) is e = let r : Faulty fault ≡ BadLine number kind = ap (λ (p : Standing × Reply). p.1) e in absurd (cc (r))
     by None Silent is e = let r : Scanned (len given.source) ≡ Silent = ap (λ (p : Standing × Reply). p.1) e in absurd (cc (r))
     by (Some fault) Silent is e = let r : Faulty fault ≡ Silent = ap (λ (p : Standing × Reply). p.1) e in absurd (cc (r))
+    by None (the_reply.Links report) is e = let r : Scanned (len given.source) ≡ the_reply.Links report = ap (λ (p : Standing × Reply). p.1) e in absurd (cc (r))
+    by (Some fault) (the_reply.Links report) is e = let r : Faulty fault ≡ the_reply.Links report = ap (λ (p : Standing × Reply). p.1) e in absurd (cc (r))
 
 -- where the output has not been listed before
 pub data BuildCase (given : Given) (now : Standing) (reply : Reply) : Type 0 where
@@ -147,6 +150,7 @@ untouched_quiet (Marked paths) u = absurd u
 untouched_quiet Unlisted u = absurd u
 untouched_quiet (BadLine number kind) u = refl
 untouched_quiet Silent u = refl
+untouched_quiet (the_reply.Links report) u = refl
 
 pub out_rose : (reply : Reply) (count : ℕ) → reply_status reply ≡ OutFault count → output_failures reply ≡ max count 1
 out_rose (Scanned n) count e = absurd (cc (e))
@@ -159,6 +163,7 @@ out_rose (Marked paths) count e = let same : length paths ≡ count = cc in ap (
 out_rose Unlisted count e = let same : 0 ≡ count = cc in ap (λ (n : ℕ). max n 1) same
 out_rose (BadLine number kind) count e = absurd (cc (e))
 out_rose Silent count e = absurd (cc (e))
+out_rose (the_reply.Links report) count e = absurd (cc (e))
 
 pub source_rose : (reply : Reply) → reply_status reply ≡ SourceFault → source_failures reply ≡ 1
 source_rose (Scanned n) e = absurd (cc (e))
@@ -171,6 +176,7 @@ source_rose (Marked paths) e = absurd (cc (e))
 source_rose Unlisted e = absurd (cc (e))
 source_rose (BadLine number kind) e = absurd (cc (e))
 source_rose Silent e = absurd (cc (e))
+source_rose (the_reply.Links report) e = absurd (cc (e))
 
 -- what is told of a run that ended at the reply to its scan
 pub record Tells (given : Given) (now : Standing) (told tells : Option Files) (status : Status) (whole : List ℕ) : Type 0 where

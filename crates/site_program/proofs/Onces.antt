@@ -10,6 +10,7 @@ use Rattle.site_session.specs.Replies.{AllLeave, LineLeaves}
 use Rattle.site_session.specs.Scenes.{Scene}
 use Rattle.site_session.specs.Bytes.{reply_bytes}
 use Rattle.site_session.specs.declared.reply.Reply.{Reply}
+use Rattle.site_session.specs.declared.reply.Reply.TheVariants as the_reply
 use Rattle.site_session.specs.declared.reply.Reply.TheVariants.{Scanned, ScanFailed, Faulty, Fine, Absent, Built, Marked, Unlisted, BadLine, Silent}
 use Rattle.site_program.specs.Runs.{Stopped, IsCut, OnceRun, Whole, CutShort, once_lines, reply_status}
 use Rattle.site_program.specs.Stages.{Stage}
@@ -39,6 +40,7 @@ alone (Marked paths) other = refl
 alone Unlisted other = refl
 alone (BadLine number kind) other = refl
 alone Silent other = refl
+alone (the_reply.Links report) other = refl
 
 pub whole_one : {S D : Type 0} (given : Given) (first last : Standing) (before : List ℕ) (was now : Stage S D) (status : Status) (reply : Reply)
     → ((count : ℕ) → reply ≡ Scanned count → ⊥) → Answers given first 1 line.Scan reply last → LineLeaves first line.Scan reply last.belief was.scene now.scene → now.sink.taken ≡ Some (before ++ reply_bytes given.why reply) → Holds now.scene.output.files last.belief given.output

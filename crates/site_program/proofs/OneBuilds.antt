@@ -20,6 +20,7 @@ use Rattle.site_session.specs.Standing.{Standing, Holds}
 use Rattle.site_session.specs.Scenes.{OutputSeen, Scene, SourceSeen, output_seen}
 use Rattle.site_session.specs.declared.build.Rebuilt.{Rebuilt}
 use Rattle.site_session.specs.declared.reply.Reply.{Reply}
+use Rattle.site_session.specs.declared.reply.Reply.TheVariants as the_reply
 use Rattle.site_session.specs.declared.reply.Reply.TheVariants.{Scanned, ScanFailed, Faulty, Fine, Absent, Built, Marked, Unlisted, BadLine, Silent}
 use Rattle.site_session.proofs.Lines.{build_line, build_spares, scan_line, scan_spares}
 use Rattle.site_session.proofs.Rebuilding.{answer-quiet, output_left, output_spared}
@@ -83,6 +84,7 @@ plain (Marked paths) = Is (λ kind e. cc) (λ e. cc) (λ e. cc)
 plain Unlisted = Is (λ kind e. cc) (λ e. cc) (λ e. cc)
 plain (BadLine number kind) = Is (λ kind e. cc) (λ e. cc) (λ e. cc)
 plain Silent = Is (λ kind e. cc) (λ e. cc) (λ e. cc)
+plain (the_reply.Links report) = Is (λ kind e. cc) (λ e. cc) (λ e. cc)
 
 plain_usage : (s : Status) → Plain s → (kind : UsageKind) → s ≡ status.Usage kind → ⊥
 plain_usage s (Is usage input sink) = usage

@@ -29,6 +29,7 @@ use Rattle.site_session.specs.Tallied.{LineTallied}
 use Rattle.site_session.specs.Session.{Given, Answers, Run, Nothing, event_of, step, put, scan, build, build_reply, build_tree, failed_in, full_now, plan, rendered_now, source_failures, output_failures}
 use Rattle.site_session.specs.Bytes.{reply_bytes, written}
 use Rattle.site_session.specs.declared.reply.Reply.{Reply}
+use Rattle.site_session.specs.declared.reply.Reply.TheVariants as the_reply
 use Rattle.site_session.specs.declared.reply.Reply.TheVariants.{Scanned, ScanFailed, Faulty, Fine, Absent, Built, Marked, Unlisted, BadLine, Silent}
 use Rattle.site_program.specs.Runs.{Stopped, IsCut}
 use Rattle.site_program.specs.Sessions.{Counted, OneSession, Gone, Going, SoFar, SessionRun, AtEnd, AtBad, AtInput, AtLine, next_of, IsRead, Undone, Halted, TellsBad, EndsAt, GoesOn, EndsSession, bad_status}
@@ -55,6 +56,7 @@ outcome (Built report) = Goes refl
 outcome (Marked paths) = Goes refl
 outcome Unlisted = Goes refl
 outcome Silent = Goes refl
+outcome (the_reply.Links report) = Goes refl
 
 -- a line that does not end the script
 goes_on : (given : Given) (old new : Standing) (number : ℕ) (at : Line) (reply : Reply) → (at ≡ line.End → ⊥) → (at ≡ line.Eof → ⊥) → IsRead at
@@ -64,6 +66,7 @@ goes_on given old new number (line.Put path bytes) reply end eof read answers go
 goes_on given old new number (line.Delete path) reply end eof read answers good = refl
 goes_on given old new number (line.Time seconds) reply end eof read answers good = refl
 goes_on given old new number line.Build reply end eof read answers good = refl
+goes_on given old new number line.Links reply end eof read answers good = refl
 goes_on given old new number line.End reply end eof read answers good = absurd (end refl)
 goes_on given old new number line.Eof reply end eof read answers good = absurd (eof refl)
 goes_on given old new number (line.Bad bad kind) reply end eof read answers good = let wrong : Some (status.Script bad kind) ≡ None = ap (λ (s : Standing × Reply). bad_status s.1) answers ∙ good in absurd (cc (wrong))
@@ -105,6 +108,7 @@ bad_same given old new number (line.Put path bytes) bad kind e = bad_put old new
 bad_same given old new number (line.Delete path) bad kind e = absurd (bad_delete (contains_key old.files path) bad kind (reply_is e))
 bad_same given old new number (line.Time seconds) bad kind e = let r = reply_is e in absurd (cc (r))
 bad_same given old new number line.Build bad kind e = absurd (bad_build given (rendered_now old) new bad kind (full_now old) e)
+bad_same given old new number line.Links bad kind e = let r = reply_is e in absurd (cc (r))
 bad_same given old new number (line.Bad at kind') bad kind e = sym (ap (λ (p : Standing × Reply). p.0) e)
 bad_same given old new number line.End bad kind e = let r = reply_is e in absurd (cc (r))
 bad_same given old new number line.Eof bad kind e = let r = reply_is e in absurd (cc (r))
@@ -115,6 +119,7 @@ bad_same given old new number line.Memory bad kind e = let r = reply_is e in abs
 bad_tally : (given : Given) (old new : Standing) (number : ℕ) (at : Line) (bad : ℕ) (kind : ScriptKind) → Answers given old number at (BadLine bad kind) new → (before after : List ItemName) → LineTallied in_any_order old at before after → after ≡ before
 bad_tally given old new number line.Build bad kind e before after t = absurd (bad_build given (rendered_now old) new bad kind (full_now old) e)
 bad_tally given old new number line.Scan bad kind e before after t = t
+bad_tally given old new number line.Links bad kind e before after t = t
 bad_tally given old new number (line.Put path bytes) bad kind e before after t = t
 bad_tally given old new number (line.Delete path) bad kind e before after t = t
 bad_tally given old new number (line.Time seconds) bad kind e before after t = t
@@ -227,6 +232,7 @@ good_line (line.Put path bytes) e = refl
 good_line (line.Delete path) e = refl
 good_line (line.Time seconds) e = refl
 good_line line.Build e = refl
+good_line line.Links e = refl
 good_line line.End e = refl
 good_line line.Eof e = refl
 good_line line.Failed e = refl

@@ -42,14 +42,14 @@ pub record Listed (was now : Option Belief) (told : Option Files) : Type 0 where
   pub again : IsSome was → now ≡ was
   pub marks : was ≡ None → (files : Files) → told ≡ Some files → now ≡ Some (all_marked files)
 
-pub make_answers : (given : Given) (now : Standing) (output : Output) (reply : Reply) (was mid new : Option Belief) (told : Option Files)
+pub make_answers : (given : Given) (now : Standing) (output : Output) (reply : Reply) (was mid new : Option Belief) (base : List ℕ) (told : Option Files)
     → Listed was mid told → Holds told was given.output
     → (event_of reply ≡ TheList → ⊥)
-    → build_listed now output (believed mid) (failed_of (event_of reply)) ≡ (record now { belief = new }, reply)
-    → build_tree given now output was (event_of reply) ≡ (record now { belief = new }, reply)
-make_answers given now output reply (Some belief) mid new told l h other is =
+    → build_listed now output (believed mid) (failed_of (event_of reply)) ≡ (record now { belief = new; base = base }, reply)
+    → build_tree given now output was (event_of reply) ≡ (record now { belief = new; base = base }, reply)
+make_answers given now output reply (Some belief) mid new base told l h other is =
     ap (λ (b : Option Belief). build_listed now output (believed b) (failed_of (event_of reply))) (sym (l.again refl)) ∙ is
-make_answers given now output reply None mid new told l h other is =
+make_answers given now output reply None mid new base told l h other is =
     let marked : mid ≡ Some (all_marked given.output) = l.marks refl given.output (h.told_is ∙ ap Some h.is_true) in
     listed_now given now output (event_of reply) other ∙ ap (λ (b : Option Belief). build_listed now output (believed b) (failed_of (event_of reply))) (sym marked) ∙ is
 
@@ -61,27 +61,27 @@ nothing (x ∷ xs) e = absurd (omega arith)
 pub all_done : (now : Standing) (output : Output) (belief : Belief) (new : Option Belief) (failed : List (List ℕ)) (made : Report) (reply : Reply)
     → failed ≡ [] → InOrder (plan belief output.written) failed → new ≡ Some (after belief (plan belief output.written) failed)
     → made ≡ report belief output → Some (Built made) ≡ Some reply
-    → build_listed now output belief (failed_of (event_of reply)) ≡ (record now { belief = new }, reply)
+    → build_listed now output belief (failed_of (event_of reply)) ≡ (record now { belief = new; base = output.written.base }, reply)
 all_done now output belief new failed made reply none order new_is made_is is =
     let steps = plan belief output.written in
     let reply_is : Built made ≡ reply = cc in
     let order : [] ≡ failed_in steps [] = subst (λ (f : List (List ℕ)). f ≡ failed_in steps f) none order in
     let belief_is : Some (after belief steps []) ≡ new = ap (λ (f : List (List ℕ)). Some (after belief steps f)) (sym none) ∙ sym new_is in
     let told : build_reply belief output (failed_in steps []) ≡ Built made = ap (build_reply belief output) (sym order) ∙ ap Built (sym made_is) in
-    subst (λ (r : Reply). build_listed now output belief (failed_of (event_of r)) ≡ (record now { belief = new }, r)) reply_is
-    (λ i. (record now { belief = belief_is i }, told i))
+    subst (λ (r : Reply). build_listed now output belief (failed_of (event_of r)) ≡ (record now { belief = new; base = output.written.base }, r)) reply_is
+    (λ i. (record now { belief = belief_is i; base = output.written.base }, told i))
 
 -- the reply of a build of which something failed
 pub some_failed : (now : Standing) (output : Output) (belief : Belief) (new : Option Belief) (failed : List (List ℕ)) (reply : Reply)
     → (failed ≡ [] → ⊥) → InOrder (plan belief output.written) failed → new ≡ Some (after belief (plan belief output.written) failed)
     → Some (Marked failed) ≡ Some reply
-    → build_listed now output belief (failed_of (event_of reply)) ≡ (record now { belief = new }, reply)
+    → build_listed now output belief (failed_of (event_of reply)) ≡ (record now { belief = new; base = output.written.base }, reply)
 some_failed now output belief new [] reply some order new_is is = absurd (some refl)
 some_failed now output belief new (path ∷ paths) reply some order new_is is =
     let reply_is : Marked (path ∷ paths) ≡ reply = cc in
     let told = ap (build_reply belief output) (sym order) in
-    subst (λ (r : Reply). build_listed now output belief (failed_of (event_of r)) ≡ (record now { belief = new }, r)) reply_is
-    (λ i. (record now { belief = sym new_is i }, told i))
+    subst (λ (r : Reply). build_listed now output belief (failed_of (event_of r)) ≡ (record now { belief = new; base = output.written.base }, r)) reply_is
+    (λ i. (record now { belief = sym new_is i; base = output.written.base }, told i))
 
 -- after all steps were tried the belief holds
 pub holds_after : (was now : Option Belief) (told tells : Option Files) (steps : List Step) (failed : List (List ℕ)) (old first : Files)

@@ -6,5 +6,7 @@ mod MadeLaws
 pub mod RoundLaws
 pub mod Rebuilding
 pub mod Lines
+mod Looking
 pub mod Resting
 mod Unchanged
+mod BaseLaws

@@ -1,6 +1,8 @@
 -- What a line leaves, by what was done at it.
-use Rattle.std.proofs.Common.{◌≡◌, ◌∙◌, ℕ, inl, false, List, Option, Result, Ok, Err, OnErr, refl, sym, subst, arith}
+use Rattle.std.proofs.Common.{◌≡◌, ◌∙◌, ℕ, ap, inl, false, List, Option, Result, Ok, Err, OnErr, refl, sym, subst, arith}
+use Rattle.std.specs.FinMap.{get}
 use Rattle.std.specs.Result.{IfOk, OnOk}
+use Rattle.site_session.specs.Pages.{LooksAtSome}
 use Rattle.out_tree.specs.Belief.{Belief}
 use Rattle.site_base.specs.Places.{Files}
 use Rattle.site_base.specs.declared.errors.Memory.{Memory}
@@ -15,6 +17,7 @@ use Rattle.site_session.specs.Scenes.{OutputSeen, Rises, Scene, SourceSeen}
 use Rattle.site_session.specs.Session.{Reply, Scanned, ScanFailed, Faulty, Fine, Absent, Built, Marked, Unlisted, BadLine, Silent, names_now, names_past_now, output_failures, source_failures}
 use Rattle.site_session.specs.Standing.{Standing, Holds}
 use Rattle.site_session.specs.Tallied.{LineTallied}
+use Rattle.site_session.specs.declared.reply.Reply.TheVariants as replies
 use Rattle.site_session.proofs.Builds.{no_calls}
 
 -- ---- ends that were left alone
@@ -33,6 +36,7 @@ module _ {D : Type 0} (now : Standing) (belief : Option Belief) (at : OutputSeen
   quiet_left (Marked paths) q = absurd (cc (q))
   quiet_left Unlisted q = absurd (cc (q))
   quiet_left (BadLine number kind) q = tt
+  quiet_left (replies.Links report) q = tt
   quiet_left Silent q = tt
 
   quiet_called : (first : Files) (reply : Reply) → has_called_output reply ≡ false → CalledBy now first reply at.calls at.calls
@@ -45,6 +49,7 @@ module _ {D : Type 0} (now : Standing) (belief : Option Belief) (at : OutputSeen
   quiet_called first (Marked paths) q = absurd (cc (q))
   quiet_called first Unlisted q = absurd (cc (q))
   quiet_called first (BadLine number kind) q = no_calls at.calls
+  quiet_called first (replies.Links report) q = no_calls at.calls
   quiet_called first Silent q = no_calls at.calls
 
   pub quiet_output : (reply : Reply) → belief ≡ now.belief → IsQuiet reply → OutputLeft now reply belief at at
@@ -140,3 +145,7 @@ if_ok_with (Err e) f p r = tt
 pub if_short : {P Q : Type 0} (result : Result Reply Memory) → (P → Q) → OnErr result P → OnErr result Q
 if_short (Ok reply) f p = tt
 if_short (Err e) f p = f p
+
+-- no page was looked at
+pub looks_at_none : (old new : Files) (belief : Belief) → new ≡ old → LooksAtSome old belief new
+looks_at_none old new belief same = λ path. inl (ap (λ (m : Files). get m path) same)

@@ -1,5 +1,5 @@
 -- What a rebuild does, from what it found and what came of its output.
-use Rattle.std.proofs.Common.{◌≡◌, ◌∙◌, ◌+◌, ◌-◌, ◌^◌, ◌≤◌, ◌++◌, ℕ, min, inl, true, false, List, [], ◌∷◌, Option, Some, Result, Ok, Err, OnOk, refl, sym, ap, subst, arith}
+use Rattle.std.proofs.Common.{◌≡◌, ◌∙◌, ◌+◌, ◌-◌, ◌^◌, ◌≤◌, ◌++◌, ℕ, min, inl, true, false, List, [], ◌∷◌, Option, Some, Result, Ok, Err, OnErr, OnOk, refl, sym, ap, subst, arith}
 use Rattle.std.specs.FinMap.{empty}
 use Rattle.out_tree.specs.Belief.{Belief}
 use Rattle.out_tree.specs.Device.{Calls}
@@ -21,7 +21,7 @@ use Rattle.site_session.specs.Scenes.{Rises, output_seen}
 use Rattle.site_session.specs.Tallied.{Tallied}
 use Rattle.render_workers.specs.Tallies.{Grows, HasBetween}
 use Rattle.site_script.specs.declared.line.Line.TheVariants as line
-use Rattle.site_session.specs.Replies.{ListsAtMost, OutputLeft, OutputSpared, built_reply, Called}
+use Rattle.site_session.specs.Replies.{ListsAtMost, OutputLeft, OutputSpared, based_by, built_reply, Called}
 use Rattle.site_session.specs.Rounds.{Adds, in_any_order, in_order}
 use Rattle.site_session.specs.Session.{Given, TheList, Reply, Built, Faulty, Marked, Unlisted, Nothing, build, event_of, full_now, names_now, names_past_now, output_failures, plan, rendered_now, site_now, source_failures}
 use Rattle.site_session.specs.Standing.{Standing, Holds}
@@ -42,23 +42,28 @@ tallied-by : (adds : Adds) → AddsLaws adds → (now : Standing) (result : Resu
 tallied-by adds laws now (Ok made) before after t = t
 tallied-by adds laws now (Err e) before after t = laws.grows (names_now now) (names_past_now now) before after t
 
-new-is : (old new : Standing) → Stays old new → new.kept ≡ (rendered_now old).kept → record (rendered_now old) { belief = new.belief } ≡ new
-new-is old new stays kept_is = λ i. record { files = sym stays.0 i; moment = sym stays.1 i; settings = sym stays.2 i; kept = sym kept_is i; belief = new.belief }
+new-is : (old new : Standing) → Stays old new → new.scanned ≡ old.scanned → new.kept ≡ (rendered_now old).kept → record (rendered_now old) { belief = new.belief; base = new.base } ≡ new
+new-is old new stays looked kept_is = λ i. record { files = sym stays.0 i; moment = sym stays.1 i; settings = sym stays.2 i; kept = sym kept_is i; belief = new.belief; base = new.base; scanned = sym looked i }
+
+-- for want of memory the base is as before
+base-kept : (result : Result Rebuilt Memory) (base old made : List ℕ) → base ≡ based_by result old made → OnErr result (base ≡ old)
+base-kept (Ok made) base old new is = tt
+base-kept (Err e) base old new is = is
 
 alone-ok : (result : Result Rebuilt Memory) (before after : List ItemName) → after ≡ before → OnOk result (after ≡ before)
 alone-ok (Ok made) before after is = is
 alone-ok (Err e) before after is = tt
 
-module _ {D : Type 0} (adds : Adds) (laws : AddsLaws adds) (contents : D → Option Files) (calls : D → Option (List Call)) (failures : D → ℕ) (old new : Standing) (before : D) (tally tally' : List ItemName) (stays : Stays old new) where
+module _ {D : Type 0} (adds : Adds) (laws : AddsLaws adds) (contents : D → Option Files) (calls : D → Option (List Call)) (failures : D → ℕ) (old new : Standing) (before : D) (tally tally' : List ItemName) (stays : Stays old new) (looked : new.scanned ≡ old.scanned) where
   -- the output was made what the held files stand for
-  found : (output : Output) (result : Result Rebuilt Memory) (after : D) → IsOutput adds old.files old.kept (site_now old) (Ok output) new.kept tally tally' → Makes contents calls failures output result old.belief new.belief before after
+  found : (output : Output) (result : Result Rebuilt Memory) (after : D) → IsOutput adds old.files old.kept (site_now old) (Ok output) new.kept tally tally' → Makes contents calls failures output result old.belief new.belief old.base new.base before after
       → Rebuilds adds contents calls failures old new result before after tally tally'
   found output result after o m =
       let full_is : full_now old ≡ Ok output = o.0 in
       let written_is : full old.files old.moment old.settings ≡ Ok output.written = written-of old.files old.kept (site_now old) output o.0 in
       record {
         answers = λ given number reply h is.
-            ap (λ f. build given (rendered_now old) f (event_of reply)) full_is ∙ m.answers given (rendered_now old) reply refl h is ∙ (λ i. (new-is old new stays o.1.kept_is i, reply));
+            ap (λ f. build given (rendered_now old) f (event_of reply)) full_is ∙ m.answers given (rendered_now old) reply refl refl h is ∙ (λ i. (new-is old new stays looked o.1.kept_is i, reply));
         belief = m.belief;
         leaves = λ first failed h is.
             let made = m.made first failed h is in
@@ -70,6 +75,11 @@ module _ {D : Type 0} (adds : Adds) (laws : AddsLaws adds) (contents : D → Opt
             let same : output.written ≡ written = cc (written_is, is) in
             subst (λ (w : Written). Called old.belief first w result (calls before) (calls after)) same (m.called first h);
         tallied = tallied-by adds laws old result tally tally' o.1.tally;
+        based = λ written is.
+            let same : output.written ≡ written = cc (written_is, is) in
+            m.based ∙ ap (λ (w : Written). based_by result old.base w.base) same;
+        looked = looked;
+        unbased = base-kept result new.base old.base output.written.base m.based;
         later = m.later;
         cause = m.cause;
         steady = m.steady;
@@ -89,12 +99,12 @@ module _ {D : Type 0} (adds : Adds) (laws : AddsLaws adds) (contents : D → Opt
       }
 
   -- the held files have a fault
-  faulty : (fault : SiteFault) → IsOutput adds old.files old.kept (site_now old) (Err (error.Fault fault)) new.kept tally tally' → new.belief ≡ old.belief
+  faulty : (fault : SiteFault) → IsOutput adds old.files old.kept (site_now old) (Err (error.Fault fault)) new.kept tally tally' → new.belief ≡ old.belief → new.base ≡ old.base
       → Rebuilds adds contents calls failures old new (Ok (rebuilt.Fault fault)) before before tally tally'
-  faulty fault o belief_is =
+  faulty fault o belief_is base_is =
       let full_is : full_now old ≡ Err fault = o.0 in
       let fault_is : full old.files old.moment old.settings ≡ Err fault = fault-of-output old.files old.kept (site_now old) fault o.0 in
-      let now_is : rendered_now old ≡ new = (λ i. record (rendered_now old) { belief = sym belief_is i }) ∙ new-is old new stays o.1.kept_is in
+      let now_is : rendered_now old ≡ new = (λ i. record (rendered_now old) { belief = sym belief_is i; base = sym base_is i }) ∙ new-is old new stays looked o.1.kept_is in
       record {
         answers = λ given number reply h is.
             let reply_is : Faulty fault ≡ reply = cc in
@@ -108,6 +118,9 @@ module _ {D : Type 0} (adds : Adds) (laws : AddsLaws adds) (contents : D → Opt
             (fault_is ∙ ap Err same, sym now_is, refl);
         quiet = λ f is. refl;
         called = λ first written h is. let wrong : Err fault ≡ Ok written = sym fault_is ∙ is in absurd (cc (wrong));
+        based = λ written is. base_is;
+        looked = looked;
+        unbased = tt;
         tallied = o.1.tally;
         later = omega arith;
         cause = λ reply is.
@@ -122,8 +135,8 @@ module _ {D : Type 0} (adds : Adds) (laws : AddsLaws adds) (contents : D → Opt
       }
 
   -- memory was wanting before the output was touched
-  short : (e : Memory) → Grows tally tally' → new.belief ≡ old.belief → Rebuilds adds contents calls failures old new (Err e) before before tally tally'
-  short e grows belief_is = record {
+  short : (e : Memory) → Grows tally tally' → new.belief ≡ old.belief → new.base ≡ old.base → Rebuilds adds contents calls failures old new (Err e) before before tally tally'
+  short e grows belief_is base_is = record {
     answers = λ given number reply h is. absurd (cc (is));
     belief = λ first h. subst (λ (b : Option Belief). Holds (contents before) b first) (sym belief_is) h;
     leaves = λ first failed h is. absurd is;
@@ -131,6 +144,9 @@ module _ {D : Type 0} (adds : Adds) (laws : AddsLaws adds) (contents : D → Opt
     fault = λ f is. absurd (cc (is));
     quiet = λ f is. refl;
     called = λ first written h is. inl (no_calls (calls before));
+    based = λ written is. base_is;
+    looked = looked;
+    unbased = base_is;
     tallied = grows;
     later = omega arith;
     cause = λ reply is. absurd (cc (is));
@@ -143,15 +159,15 @@ module _ {D : Type 0} (adds : Adds) (laws : AddsLaws adds) (contents : D → Opt
   }
 
 pub rebuilds : {D : Type 0} (adds : Adds) → AddsLaws adds → (contents : D → Option Files) (calls : D → Option (List Call)) (failures : D → ℕ) (old new : Standing) (output : Result Output SiteError) (result : Result Rebuilt Memory) (before after : D) (tally tally' : List ItemName)
-    → IsOutput adds old.files old.kept (site_now old) output new.kept tally tally' → Finishes contents calls failures output result old.belief new.belief before after → Stays old new
+    → IsOutput adds old.files old.kept (site_now old) output new.kept tally tally' → Finishes contents calls failures output result old.belief new.belief old.base new.base before after → Stays old new → new.scanned ≡ old.scanned
     → Rebuilds adds contents calls failures old new result before after tally tally'
-rebuilds adds laws contents calls failures old new (Ok output) result before after tally tally' o f stays = found adds laws contents calls failures old new before tally tally' stays output result after o f
-rebuilds {D} adds laws contents calls failures old new (Err (error.Fault fault)) result before after tally tally' o f stays =
+rebuilds adds laws contents calls failures old new (Ok output) result before after tally tally' o f stays looked = found adds laws contents calls failures old new before tally tally' stays looked output result after o f
+rebuilds {D} adds laws contents calls failures old new (Err (error.Fault fault)) result before after tally tally' o f stays looked =
     subst (λ (r : Result Rebuilt Memory). Rebuilds adds contents calls failures old new r before after tally tally') (sym f.0)
-    (subst (λ (d : D). Rebuilds adds contents calls failures old new (Ok (rebuilt.Fault fault)) before d tally tally') (sym f.2) (faulty adds laws contents calls failures old new before tally tally' stays fault o f.1))
-rebuilds {D} adds laws contents calls failures old new (Err error.Memory) (Err e) before after tally tally' o f stays =
-    subst (λ (d : D). Rebuilds adds contents calls failures old new (Err e) before d tally tally') (sym f.2) (short adds laws contents calls failures old new before tally tally' stays e o f.1)
-rebuilds adds laws contents calls failures old new (Err error.Memory) (Ok made) before after tally tally' o f stays = absurd f.0
+    (subst (λ (d : D). Rebuilds adds contents calls failures old new (Ok (rebuilt.Fault fault)) before d tally tally') (sym f.2) (faulty adds laws contents calls failures old new before tally tally' stays looked fault o f.1.0 f.1.1))
+rebuilds {D} adds laws contents calls failures old new (Err error.Memory) (Err e) before after tally tally' o f stays looked =
+    subst (λ (d : D). Rebuilds adds contents calls failures old new (Err e) before d tally tally') (sym f.2) (short adds laws contents calls failures old new before tally tally' stays looked e o f.1.0 f.1.1)
+rebuilds adds laws contents calls failures old new (Err error.Memory) (Ok made) before after tally tally' o f stays looked = absurd f.0
 
 -- ---- what a build leaves, by its reply
 
@@ -269,6 +285,9 @@ in_some_order contents calls failures old new result before after tally tally' r
   steady = r.steady;
   idle = r.idle;
   settled = r.settled;
+  based = r.based;
+  looked = r.looked;
+  unbased = r.unbased;
   same = r.same;
   err = r.err;
   short = r.short;

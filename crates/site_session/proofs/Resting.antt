@@ -40,7 +40,7 @@ use Rattle.site_session.specs.Full.{given_of, kept_after, kept_by, names_by, nam
 use Rattle.site_session.specs.Makes.{Finishes, Makes}
 use Rattle.site_session.specs.Outputs.{IsOutput, Settled}
 use Rattle.site_session.specs.Rebuilds.{Rebuilds}
-use Rattle.site_session.specs.Replies.{Called, FailedAt, build_calls, built_reply}
+use Rattle.site_session.specs.Replies.{Called, FailedAt, based_by, build_calls, built_reply}
 use Rattle.site_session.specs.Rounds.{Adds}
 use Rattle.site_session.specs.Session.{Given as Told, Reply, Built, build_listed, build_tree, event_of, failed_of, full_now, names_now, output_failures, plan, rendered_now, report, site_now}
 use Rattle.site_session.specs.Settled.{IsSettled, NothingPlanned, Rests, idle_report, items_of}
@@ -179,9 +179,9 @@ kept-twice files kept (Ok site) output e = let g = gave files kept kept site out
 kept-twice files kept (Err fault) output e = refl
 
 -- after a build that did all that it planned, the next has nothing to do
-pub rests : (old : Standing) (kept : Entries) (belief : Option Belief) (output : Output) → full_now old ≡ Ok output → kept ≡ kept_after old.files old.kept (site_now old)
-    → IsSettled (record old { kept = kept; belief = belief }) → Rests (record old { kept = kept; belief = belief }) (output.rendered + output.reused)
-rests old kept belief output is kept_is settled =
+pub rests : (old : Standing) (kept : Entries) (belief : Option Belief) (base : List ℕ) (output : Output) → full_now old ≡ Ok output → kept ≡ kept_after old.files old.kept (site_now old)
+    → base ≡ output.written.base → IsSettled (record old { kept = kept; belief = belief; base = base }) → Rests (record old { kept = kept; belief = belief; base = base }) (output.rendered + output.reused)
+rests old kept belief base output is kept_is base_is settled =
     let found = site_now old in
     let written_is = written-of old.files old.kept found output is in
     let same : output.written ≡ settled.written = cc (written_is, settled.stands_for) in
@@ -190,7 +190,8 @@ rests old kept belief output is kept_is settled =
     record {
       settled = settled;
       found = found-next old.files old.kept kept found output is settled.fresh ∙ (λ i. Ok (idle_output (same i) (output.rendered + output.reused)));
-      kept = λ i. record old { kept = again i; belief = belief };
+      kept = λ i. record old { kept = again i; belief = belief; base = base };
+      based = base_is ∙ ap (λ (w : Written). w.base) same;
     }
 
 -- ---- a build that has nothing to do
@@ -212,7 +213,7 @@ module _ {D : Type 0} (contents : D → Option Files) (calls : D → Option (Lis
   out = idle_output written reused
 
   idle-answers : (given : Told) (standing : Standing) (reply : Reply) → standing.belief ≡ Some belief → Some (Built (idle_report reused)) ≡ Some reply
-      → build_tree given standing out (Some belief) (event_of reply) ≡ (record standing { belief = Some belief }, reply)
+      → build_tree given standing out (Some belief) (event_of reply) ≡ (record standing { belief = Some belief; base = written.base }, reply)
   idle-answers given standing reply believed_is is =
       all_done standing out belief (Some belief) [] (idle_report reused) reply refl (in-order (plan belief written) none)
       (ap (λ (s : List Step). Some (after belief s [])) (sym none)) (idle-told belief written reused none) is
@@ -229,9 +230,10 @@ module _ {D : Type 0} (contents : D → Option Files) (calls : D → Option (Lis
   marks : MarksThose [] written.keep belief belief
   marks = marks_those belief written.tree written.keep [] belief (ap (λ (s : List Step). after belief s []) (sym none)) (in-order (plan belief written) none)
 
-  idle_makes : Makes contents calls failures out (Ok (rebuilt.Built (idle_report reused))) (Some belief) (Some belief) at at
+  idle_makes : Makes contents calls failures out (Ok (rebuilt.Built (idle_report reused))) (Some belief) (Some belief) written.base written.base at at
   idle_makes = record {
-    answers = λ given standing reply believed_is h is. idle-answers given standing reply believed_is is;
+    answers = λ given standing reply believed_is based_is h is. idle-answers given standing reply believed_is is;
+    based = refl;
     belief = λ first h. h;
     made = λ first failed h is.
         makes_but (Some belief) (Some belief) (contents at) (contents at) written (plan belief written) [] failed h.there done
@@ -265,10 +267,11 @@ idle_rebuilds {D} adds laws contents calls failures now reused at tally r =
           subst (λ (due : List ItemName). adds due (names_behind now.files now.kept (site_now now)) tally tally) (sym r.settled.fresh)
           (subst (λ (later : List ItemName). adds [] later tally tally) (sym (none-behind now.files now.kept (site_now now) output r.found)) (laws.none tally));
     } in
-    let made : Makes contents calls failures output (Ok (rebuilt.Built (idle_report reused))) now.belief now.belief at at =
-    subst (λ (b : Option Belief). Makes contents calls failures output (Ok (rebuilt.Built (idle_report reused))) b b at at) (sym nothing.is)
-    (idle_makes contents calls failures written reused nothing.belief nothing.nothing at) in
-    rebuilds adds laws contents calls failures now now (Ok output) (Ok (rebuilt.Built (idle_report reused))) at at tally tally (r.found, kept, r.settled.fresh) made (refl, refl, refl)
+    let made : Makes contents calls failures output (Ok (rebuilt.Built (idle_report reused))) now.belief now.belief now.base now.base at at =
+    subst (λ (b : Option Belief). Makes contents calls failures output (Ok (rebuilt.Built (idle_report reused))) b b now.base now.base at at) (sym nothing.is)
+    (subst (λ (b : List ℕ). Makes contents calls failures output (Ok (rebuilt.Built (idle_report reused))) (Some nothing.belief) (Some nothing.belief) b b at at) (sym r.based)
+    (idle_makes contents calls failures written reused nothing.belief nothing.nothing at)) in
+    rebuilds adds laws contents calls failures now now (Ok output) (Ok (rebuilt.Built (idle_report reused))) at at tally tally (r.found, kept, r.settled.fresh) made (refl, refl, refl) refl
 
 -- ---- what stays known
 
@@ -294,14 +297,25 @@ known_after (Some reused) (Ok rebuilt.Unlisted) new is h = absurd (cc (is))
 known_after (Some reused) (Err e) new is h = absurd (cc (is))
 
 -- the same, by what a build answers
-pub rests_after : {D : Type 0} (adds : Adds) (contents : D → Option Files) (calls : D → Option (List Call)) (failures : D → ℕ) (old : Standing) (kept : Entries) (belief : Option Belief) (output : Result Output SiteError) (result : Result Rebuilt Memory) (before after : D) (tally tally' : List ItemName)
-    → IsOutput adds old.files old.kept (site_now old) output kept tally tally' → Finishes contents calls failures output result old.belief belief before after
-    → Rebuilds adds contents calls failures old (record old { kept = kept; belief = belief }) result before after tally tally'
-    → (report : Report) → result ≡ Ok (rebuilt.Built report) → Rests (record old { kept = kept; belief = belief }) (report.rendered + report.reused)
-rests_after adds contents calls failures old kept belief (Ok output) result before after tally tally' o f r report is =
+pub rests_after : {D : Type 0} (adds : Adds) (contents : D → Option Files) (calls : D → Option (List Call)) (failures : D → ℕ) (old : Standing) (kept : Entries) (belief : Option Belief) (base : List ℕ) (output : Result Output SiteError) (result : Result Rebuilt Memory) (before after : D) (tally tally' : List ItemName)
+    → IsOutput adds old.files old.kept (site_now old) output kept tally tally' → Finishes contents calls failures output result old.belief belief old.base base before after
+    → Rebuilds adds contents calls failures old (record old { kept = kept; belief = belief; base = base }) result before after tally tally'
+    → (report : Report) → result ≡ Ok (rebuilt.Built report) → Rests (record old { kept = kept; belief = belief; base = base }) (report.rendered + report.reused)
+rests_after adds contents calls failures old kept belief base (Ok output) result before after tally tally' o f r report is =
     let counts = f.counts report is in
-    subst (λ (n : ℕ). Rests (record old { kept = kept; belief = belief }) n) (λ i. sym counts.0 i + sym counts.1 i) (rests old kept belief output o.0 o.1.kept_is (r.settled report is))
-rests_after adds contents calls failures old kept belief (Err (error.Fault fault)) result before after tally tally' o f r report is =
+    let set : base ≡ output.written.base = f.based ∙ ap (λ (a : Result Rebuilt Memory). based_by a old.base output.written.base) is in
+    subst (λ (n : ℕ). Rests (record old { kept = kept; belief = belief; base = base }) n) (λ i. sym counts.0 i + sym counts.1 i) (rests old kept belief base output o.0 o.1.kept_is set (r.settled report is))
+rests_after adds contents calls failures old kept belief base (Err (error.Fault fault)) result before after tally tally' o f r report is =
     let wrong : Ok (rebuilt.Fault fault) ≡ Ok (rebuilt.Built report) = sym f.0 ∙ is in absurd (cc (wrong))
-rests_after adds contents calls failures old kept belief (Err error.Memory) (Ok made) before after tally tally' o f r report is = absurd f.0
-rests_after adds contents calls failures old kept belief (Err error.Memory) (Err e) before after tally tally' o f r report is = absurd (cc (is))
+rests_after adds contents calls failures old kept belief base (Err error.Memory) (Ok made) before after tally tally' o f r report is = absurd f.0
+rests_after adds contents calls failures old kept belief base (Err error.Memory) (Err e) before after tally tally' o f r report is = absurd (cc (is))
+
+-- the same when more pages were looked at
+pub rests_looked : (known : Option ℕ) (now : Standing) (scanned : Files) → IfSome known (λ reused. Rests now reused) → IfSome known (λ reused. Rests (record now { scanned = scanned }) reused)
+rests_looked None now scanned h = tt
+rests_looked (Some reused) now scanned h = record {
+  settled = record { written = h.settled.written; stands_for = h.settled.stands_for; fresh = h.settled.fresh; output = h.settled.output };
+  found = h.found;
+  kept = λ i. record (h.kept i) { scanned = scanned };
+  based = h.based;
+}

@@ -5,11 +5,14 @@ use Rattle.site_base.specs.Faults.{fault_number}
 use Rattle.site_base.specs.declared.faults.SiteFault.{SiteFault}
 use Rattle.site_script.specs.Line.{script_number}
 use Rattle.site_sentences.specs.Shown.{shown}
+use Rattle.link_check.specs.declared.answering.Broken.{Broken}
 use Rattle.site_session.specs.declared.build.Report.{Report}
+use Rattle.site_session.specs.declared.links.LinkReport.{LinkReport}
 use Rattle.site_session.specs.KeyTexts.{item_text, key_text}
 use Rattle.read_record.specs.declared.key.Key.{Key}
 use Rattle.render_workers.specs.declared.answers.Why.{Why}
 use Rattle.site_session.specs.declared.reply.Reply.{Reply}
+use Rattle.site_session.specs.declared.reply.Reply.TheVariants as reply
 use Rattle.site_session.specs.declared.reply.Reply.TheVariants.{Scanned, ScanFailed, Faulty, Fine, Absent, Built, Marked, Unlisted, BadLine, Silent}
 
 abbrev pub fault_line : SiteFault → List ℕ
@@ -36,6 +39,14 @@ why_lines tells report = if tells then flat_map why_line report.why else []
 abbrev pub marked_line : List ℕ → List ℕ
 marked_line path = codes "marked " ++ (path ++ codes "\n")
 
+-- a value comes from a page, so control characters in it are shown as question marks
+abbrev pub broken_line : Broken → List ℕ
+broken_line link = codes "broken " ++ (link.from ++ (codes " " ++ (shown link.value ++ codes "\n")))
+
+abbrev pub links_lines : LinkReport → List ℕ
+links_lines report =
+    codes "links " ++ (decimal (length report.broken) ++ (codes " scanned=" ++ (decimal report.scanned ++ (codes "\n" ++ flat_map broken_line report.broken))))
+
 -- each line with its end
 abbrev pub reply_bytes : Bool → Reply → List ℕ
 reply_bytes tells (Scanned count) = codes "scanned " ++ (decimal count ++ codes "\n")
@@ -47,6 +58,7 @@ reply_bytes tells (Built report) = why_lines tells report ++ built_line report
 reply_bytes tells (Marked paths) = codes "out-fault " ++ (decimal (length paths) ++ (codes "\n" ++ flat_map marked_line paths))
 reply_bytes tells Unlisted = codes "out-fault 0\n"
 reply_bytes tells (BadLine number kind) = codes "script " ++ (decimal number ++ (codes " " ++ (decimal (script_number kind) ++ codes "\n")))
+reply_bytes tells (reply.Links report) = links_lines report
 reply_bytes tells Silent = []
 
 -- the replies, one after another

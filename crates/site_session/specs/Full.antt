@@ -23,6 +23,7 @@ use Rattle.site_reader.specs.Found.{Found}
 use Rattle.site_reader.specs.Sites.{site}
 use Rattle.site_reader.specs.declared.site.Site.{Site}
 use Rattle.site_reader.specs.declared.site_item.SiteItem.{SiteItem}
+use Rattle.site_session.specs.Bases.{base_of}
 use Rattle.site_session.specs.declared.group.Group.{Group}
 use Rattle.site_session.specs.declared.group.Group.TheVariants.{Pages, Documents}
 use Rattle.site_session.specs.declared.output.Output.{Output}
@@ -106,13 +107,13 @@ tree_of held site items =
 -- ---- what a site writes
 
 abbrev pub written_by : Files → Whole → Written
-written_by files w = record { tree = tree_of files w.site (made_of w.site.items w.outs); keep = w.site.config.keep_files }
+written_by files w = record { tree = tree_of files w.site (made_of w.site.items w.outs); keep = w.site.config.keep_files; base = base_of w.site.config.baseurl }
 
 -- what the files that make this site stand for
 abbrev pub written_in : Files → Found Site → Found Written
 written_in files found = found >>= λ site. whole files site >>= λ w. Ok (written_by files w)
 
--- the files that a site writes, and the paths that stay though it lacks them; or its first fault, of reading or else of rendering
+-- the files that a site writes, the paths that stay though it lacks them, and the base of its addresses; or its first fault, of reading or else of rendering
 abbrev pub full : Files → ℤ → Settings → Found Written
 full files moment settings = written_in files (site files moment settings)
 

@@ -1,8 +1,11 @@
+pub mod Bases
 pub mod Bytes
 pub mod Full
 pub mod KeyTexts
+pub mod Looking
 pub mod Makes
 pub mod Outputs
+pub mod Pages
 pub mod Replies
 pub mod Scenes
 pub mod Seen

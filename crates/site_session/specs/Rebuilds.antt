@@ -10,7 +10,7 @@ use Rattle.site_script.specs.declared.line.Line.TheVariants as line
 use Rattle.site_session.specs.Rounds.{Adds, in_order}
 use Rattle.site_session.specs.Full.{full}
 use Rattle.site_session.specs.Settled.{IsSettled}
-use Rattle.site_session.specs.Replies.{built_reply, Called, FailedAt, Leaves}
+use Rattle.site_session.specs.Replies.{based_by, built_reply, Called, FailedAt, Leaves}
 use Rattle.site_session.specs.Session.{Given, Reply, Answers, output_failures, rendered_now}
 use Rattle.site_session.specs.Standing.{Standing, Holds}
 use Rattle.site_session.specs.Tallied.{Tallied}
@@ -42,8 +42,12 @@ pub record Rebuilds {D : Type 0} (adds : Adds) (contents : D → Option Files) (
   -- where there is nothing to do, output and tally are the same values; and after a build without a failure there is nothing to do
   pub idle : IsSettled old → (after ≡ before) × OnOk result (tally' ≡ tally)
   pub settled : (report : Report) → result ≡ Ok (rebuilt.Built report) → IsSettled new
+  -- where the output was made what the held files stand for, its addresses have the base of that, and else the one of before; no page is looked at
+  pub based : (written : Written) → full old.files old.moment old.settings ≡ Ok written → new.base ≡ based_by result old.base written.base
   pub same : (new.files ≡ old.files) × (new.moment ≡ old.moment) × (new.settings ≡ old.settings)
+  pub looked : new.scanned ≡ old.scanned
   pub err : OnErr result (contents after ≡ contents before)
+  pub unbased : OnErr result (new.base ≡ old.base)
   -- want of memory is not told in the place of a failure
   pub short : OnErr result (failures after ≡ failures before)
 

@@ -20,6 +20,7 @@ use Rattle.site_session.specs.Scenes.{OutputSeen, SourceSeen, Scene, Rises}
 use Rattle.site_session.specs.Settled.{IsSettled}
 use Rattle.site_session.specs.Tallied.{LineTallied}
 use Rattle.site_session.specs.declared.output.Written.{Written}
+use Rattle.site_session.specs.declared.reply.Reply.TheVariants as replies
 use Rattle.site_session.specs.declared.build.Rebuilt.{Rebuilt}
 use Rattle.site_session.specs.declared.build.Rebuilt.TheVariants as rebuilt
 
@@ -35,6 +36,14 @@ built_reply (Ok (rebuilt.Fault fault)) = Some (Faulty fault)
 built_reply (Ok (rebuilt.Marked paths)) = Some (Marked paths)
 built_reply (Ok rebuilt.Unlisted) = Some Unlisted
 built_reply (Err error) = None
+
+-- a build that took place sets the base of the addresses
+abbrev pub based_by : Result Rebuilt Memory → (base made : List ℕ) → List ℕ
+based_by (Ok (rebuilt.Built report)) base made = made
+based_by (Ok (rebuilt.Marked paths)) base made = made
+based_by (Ok (rebuilt.Fault fault)) base made = base
+based_by (Ok rebuilt.Unlisted) base made = base
+based_by (Err error) base made = base
 
 -- the build took place, and the writes and removals of these paths failed
 abbrev pub FailedAt : Result Rebuilt Memory → List (List ℕ) → Type 0
@@ -62,6 +71,7 @@ LeavesBy now Fine told tells belief = Unit {0}
 LeavesBy now Absent told tells belief = Unit {0}
 LeavesBy now Unlisted told tells belief = tells ≡ told
 LeavesBy now (BadLine number kind) told tells belief = Unit {0}
+LeavesBy now (replies.Links report) told tells belief = Unit {0}
 LeavesBy now Silent told tells belief = Unit {0}
 
 -- a reply to a line that has called the output
@@ -75,6 +85,7 @@ has_called_output (Faulty fault) = false
 has_called_output Fine = false
 has_called_output Absent = false
 has_called_output (BadLine number kind) = false
+has_called_output (replies.Links report) = false
 has_called_output Silent = false
 
 -- a reply that tells of no output
@@ -116,6 +127,7 @@ CalledBy now first (Faulty fault) old new = Calls old new []
 CalledBy now first Fine old new = Calls old new []
 CalledBy now first Absent old new = Calls old new []
 CalledBy now first (BadLine number kind) old new = Calls old new []
+CalledBy now first (replies.Links report) old new = Calls old new []
 CalledBy now first Silent old new = Calls old new []
 
 -- what a line that is replied so has done to the output, of which this is believed then, and is true: a build leaves what `LeavesBy` says, by the calls

@@ -7,16 +7,17 @@ use Rattle.site_base.specs.declared.faults.SiteFault.{SiteFault}
 use Rattle.site_base.specs.declared.settings.Settings.{Settings}
 use Rattle.site_script.specs.Line.{line_number}
 use Rattle.site_script.specs.declared.line.Line.{Line}
-use Rattle.site_script.specs.declared.line.Line.TheVariants.{Scan, Put, Delete, Time, Build, End, Eof, Bad, Failed, Memory}
+use Rattle.site_script.specs.declared.line.Line.TheVariants.{Scan, Put, Delete, Time, Build, Links, End, Eof, Bad, Failed, Memory}
 use Rattle.site_script.specs.declared.line.ScriptKind.TheVariants as kind
 pub use Rattle.site_session.specs.declared.reply.Reply.{Reply}
 pub use Rattle.site_session.specs.declared.reply.Reply.TheVariants.{Scanned, ScanFailed, Faulty, Fine, Absent, Built, Marked, Unlisted, BadLine, Silent}
+use Rattle.site_session.specs.declared.reply.Reply.TheVariants as reply
 use Rattle.source_tree.specs.Put.{put_refusal}
 use Rattle.source_tree.specs.Scan.{scan_fault}
 use Rattle.source_tree.specs.declared.put_error.PutError.{PutError}
 use Rattle.source_tree.specs.declared.put_error.PutError.TheVariants as refusal
 use Rattle.out_tree.specs.Plan.{planned, removals, writes}
-use Rattle.out_tree.specs.Belief.{Belief, after, all_marked}
+use Rattle.out_tree.specs.Belief.{Belief, after, all_marked, believed}
 use Rattle.out_tree.specs.Device.{step_paths}
 use Rattle.out_tree.specs.declared.step.Step.{Step}
 use Rattle.site_session.specs.Standing.{Standing}
@@ -25,13 +26,15 @@ use Rattle.site_reader.specs.Found.{Found}
 use Rattle.site_reader.specs.Sites.{site}
 use Rattle.site_reader.specs.declared.site.Site.{Site}
 use Rattle.site_session.specs.Full.{fault_of, full, output_in, kept_after, names_behind, names_rendered}
+use Rattle.site_session.specs.Pages.{broken, pages, unseen}
 use Rattle.site_session.specs.declared.build.Report.{Report}
+use Rattle.site_session.specs.declared.links.LinkReport.{LinkReport}
 use Rattle.site_session.specs.declared.output.Output.{Output}
 use Rattle.site_session.specs.declared.output.Written.{Written}
 
 -- the session before its first line
 abbrev pub start : Settings → ℤ → Standing
-start settings moment = record { files = empty; moment = moment; settings = settings; kept = empty; belief = None }
+start settings moment = record { files = empty; moment = moment; settings = settings; kept = empty; belief = None; base = []; scanned = empty }
 
 -- what is given: the files of the source, those that the output has at first, and whether reasons are told
 pub record Given : Type 0 where
@@ -57,6 +60,7 @@ event_of Fine = Nothing
 event_of Absent = Nothing
 event_of (Built report) = Nothing
 event_of (BadLine number bad) = Nothing
+event_of (reply.Links report) = Nothing
 event_of Silent = Nothing
 
 -- a scan that does not fail holds the source's files in place of all others, or tells their first fault
@@ -107,10 +111,10 @@ plan belief written = planned belief written.tree written.keep
 abbrev pub failed_in : List Step → List (List ℕ) → List (List ℕ)
 failed_in steps failed = filter (λ path. is_listed path failed) (step_paths steps)
 
--- an output that has been listed is made equal to the tree, but for what failed
+-- an output that has been listed is made equal to the tree, but for what failed; its addresses have the base of what it was made
 abbrev pub build_listed : Standing → Output → Belief → List (List ℕ) → Standing × Reply
 build_listed now output belief failed =
-    (record now { belief = Some (after belief (plan belief output.written) failed) }, build_reply belief output (failed_in (plan belief output.written) failed))
+    (record now { belief = Some (after belief (plan belief output.written) failed); base = output.written.base }, build_reply belief output (failed_in (plan belief output.written) failed))
 
 -- the first build whose list of the output succeeds marks every path that is there
 abbrev pub build_tree : Given → Standing → Output → Option Belief → Event → Standing × Reply
@@ -149,6 +153,14 @@ names_now now = names_rendered now.files now.kept (site_now now)
 abbrev pub names_past_now : Standing → List ItemName
 names_past_now now = names_behind now.files now.kept (site_now now)
 
+-- the links of what is believed of the output, and how many of its pages were not looked at before
+abbrev pub links_now : Standing → LinkReport
+links_now now = record { broken = broken (believed now.belief) now.base; scanned = unseen now.scanned (believed now.belief) }
+
+-- all pages that are known are then looked at
+abbrev pub linked : Standing → Standing
+linked now = record now { scanned = pages (believed now.belief) }
+
 -- what follows a line that has this number, and its reply
 abbrev pub step : Given → Standing → ℕ → Line → Event → Standing × Reply
 step given now number Scan event = scan given now (scan_fault (entries given.source)) event
@@ -157,6 +169,7 @@ step given now number (Delete path) event =
     (record now { files = remove now.files path }, if contains_key now.files path then Fine else Absent)
 step given now number (Time seconds) event = (record now { moment = seconds }, Fine)
 step given now number Build event = build given (rendered_now now) (full_now now) event
+step given now number Links event = (linked now, reply.Links (links_now now))
 step given now number (Bad at bad) event = (now, BadLine at bad)
 step given now number End event = (now, Silent)
 step given now number Eof event = (now, Silent)
@@ -186,6 +199,7 @@ output_failures Fine = 0
 output_failures Absent = 0
 output_failures (Built report) = 0
 output_failures (BadLine number bad) = 0
+output_failures (reply.Links report) = 0
 output_failures Silent = 0
 
 -- by how much the source's count of failures rises at least
@@ -199,4 +213,5 @@ source_failures Fine = 0
 source_failures Absent = 0
 source_failures (Built report) = 0
 source_failures (BadLine number bad) = 0
+source_failures (reply.Links report) = 0
 source_failures Silent = 0

@@ -27,11 +27,12 @@ pub record IsSettled (now : Standing) : Type 0 where
 abbrev pub idle_report : ℕ → Report
 idle_report reused = record { rendered = 0; reused = reused; written = 0; removed = 0; why = [] }
 
--- a build has nothing to do, and keeps so many items: what it would find is known, and it would keep what is kept
+-- a build has nothing to do, and keeps so many items: what it would find is known, the addresses have its base, and it would keep what is kept
 pub record Rests (now : Standing) (reused : ℕ) : Type 0 where
   pub settled : IsSettled now
   pub found : full_now now ≡ Ok (record { written = settled.written; rendered = 0; reused = reused; why = [] })
   pub kept : rendered_now now ≡ now
+  pub based : now.base ≡ settled.written.base
 
 -- how many items a build rendered or kept that did all that it planned
 abbrev pub items_of : Result Rebuilt Memory → Option ℕ

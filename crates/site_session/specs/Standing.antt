@@ -13,22 +13,29 @@ use Rattle.site_base.specs.declared.settings.Settings.{Settings}
 use Rattle.memo_table.specs.Entries.{Entries}
 use Rattle.site_session.specs.declared.output.Written.{Written}
 
--- the files that are held, the moment, the settings, what is kept of the items that were rendered, and what is believed of the
--- output: nothing until it has been listed
+-- the files that are held, the moment, the settings, what is kept of the items that were rendered, what is believed of the
+-- output (nothing until it has been listed), the base of its addresses, and its pages as they were looked at last
 pub record Standing : Type 0 where
   pub files : Files
   pub moment : ℤ
   pub settings : Settings
   pub kept : Entries
   pub belief : Option Belief
+  pub base : List ℕ
+  pub scanned : Files
+
+abbrev files_code : Coded Files
+files_code = map.code (coded_list coded_ℕ) (coded_list coded_ℕ)
 
 abbrev settings_code : Coded Settings
 settings_code = code_by (Bool × Bool) (coded× coded_bool coded_bool) (λ s. (s.drafts, s.future)) (λ p. record { drafts = p.0; future = p.1 }) (λ _. refl)
 
 abbrev pub standing_code : Coded Entries → Coded Standing
 standing_code entries =
-    code_by (Files × (ℤ × (Settings × (Entries × Option Belief)))) (coded× (map.code (coded_list coded_ℕ) (coded_list coded_ℕ)) (coded× coded_ℤ (coded× settings_code (coded× entries belief_code))))
-    (λ s. (s.files, (s.moment, (s.settings, (s.kept, s.belief))))) (λ p. record { files = p.0; moment = p.1.0; settings = p.1.1.0; kept = p.1.1.1.0; belief = p.1.1.1.1 }) (λ _. refl)
+    code_by (Files × (ℤ × (Settings × (Entries × (Option Belief × (List ℕ × Files))))))
+    (coded× files_code (coded× coded_ℤ (coded× settings_code (coded× entries (coded× belief_code (coded× (coded_list coded_ℕ) files_code))))))
+    (λ s. (s.files, (s.moment, (s.settings, (s.kept, (s.belief, (s.base, s.scanned)))))))
+    (λ p. record { files = p.0; moment = p.1.0; settings = p.1.1.0; kept = p.1.1.1.0; belief = p.1.1.1.1.0; base = p.1.1.1.1.1.0; scanned = p.1.1.1.1.1.1 }) (λ _. refl)
 
 -- an output that has not been listed is as it was at first
 abbrev pub TrueTo : Option Belief → Files → Files → Type 0

@@ -18,6 +18,7 @@ Tallied adds now (Err error) before after = Grows before after
 -- and what a line adds
 abbrev pub LineTallied : Adds → Standing → Line → List ItemName → List ItemName → Type 0
 LineTallied adds now line.Build before after = adds (names_now now) (names_past_now now) before after
+LineTallied adds now line.Links before after = after ≡ before
 LineTallied adds now line.Scan before after = after ≡ before
 LineTallied adds now (line.Put path bytes) before after = after ≡ before
 LineTallied adds now (line.Delete path) before after = after ≡ before

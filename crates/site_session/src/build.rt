@@ -8,13 +8,13 @@ ghost use Rattle.site_session.specs.Session.{Given, Reply, event_of, failed_of, 
 ghost use Rattle.out_tree.specs.Tries.{CallsFor};
 ghost use Rattle.site_session.specs.Makes.{Finishes};
 ghost use Rattle.site_session.specs.Settled.{NothingPlanned, idle_report};
-ghost use Rattle.site_session.specs.Replies.{built_reply, Called, FailedAt};
+ghost use Rattle.site_session.specs.Replies.{based_by, built_reply, Called, FailedAt};
 ghost use Rattle.site_session.specs.declared.build.Report.{Report};
 
-use crate::output::Output;
+use crate::output::{Output, Written};
 use out_tree::{OutKeeper, OutTree};
 use render_workers::Whys;
-use site_base::{ListError, Memory, PathList, SiteFault};
+use site_base::{ListError, Memory, PathList, SiteFault, Text};
 use site_reader::SiteError;
 use std::alloc::Global;
 
@@ -61,17 +61,18 @@ pub enum Rebuilt {
     Unlisted,
 }
 
-// Makes the output what a build found that the held files stand for; files with a fault leave it alone.
+// Makes the output what a build found that the held files stand for, and sets the base of its addresses; files with a fault leave both alone.
 pub(crate) fn finish<O: OutTree>(
     keeper: &mut OutKeeper,
+    base: &mut Text,
     alloc: Global,
     output: Result<Output, SiteError>,
     out: &mut O,
 ) -> Result<Rebuilt, Memory>
-    ensures { Finishes O.contents O.calls O.failures output result keeper.old keeper.new out.old out.new }
+    ensures { Finishes O.contents O.calls O.failures output result keeper.old keeper.new base.old base.new out.old out.new }
 {
     match output {
-        Ok(output) => make(keeper, alloc, output, out),
+        Ok(output) => make(keeper, base, alloc, output, out),
         Err(SiteError::Fault(fault)) => Ok(Rebuilt::Fault(fault)),
         Err(SiteError::Memory) => Err(Memory),
     }
@@ -80,13 +81,15 @@ pub(crate) fn finish<O: OutTree>(
 // Lists the output where it has not been listed, and makes it equal to the tree.
 fn make<O: OutTree>(
     keeper: &mut OutKeeper,
+    base: &mut Text,
     alloc: Global,
     output: Output,
     out: &mut O,
 ) -> Result<Rebuilt, Memory>
-    ensures answers { (given : Given) (now : Standing) (reply : Reply) → now.belief ≡ keeper.old → Holds (O.contents out.old) keeper.old given.output →
+    ensures answers { (given : Given) (now : Standing) (reply : Reply) → now.belief ≡ keeper.old → now.base ≡ base.old → Holds (O.contents out.old) keeper.old given.output →
         built_reply result ≡ Some reply →
-        build_tree given now output keeper.old (event_of reply) ≡ (record now { belief = keeper.new }, reply) }
+        build_tree given now output keeper.old (event_of reply) ≡ (record now { belief = keeper.new; base = base.new }, reply) }
+    ensures based { base.new ≡ based_by result base.old output.written.base }
     ensures belief { (first : Files) → Holds (O.contents out.old) keeper.old first → Holds (O.contents out.new) keeper.new first }
     ensures made { (first : Files) (failed : List (List ℕ)) → Holds (O.contents out.old) keeper.old first → FailedAt result failed →
         MakesBut failed output.written (O.contents out.old) (O.contents out.new) × MarksExactly failed output.written.keep keeper.new }
@@ -104,7 +107,7 @@ fn make<O: OutTree>(
     ensures short { OnErr result (O.failures out.new ≡ O.failures out.old) }
 {
     match keeper.list_once(alloc, out) {
-        Ok(()) => make_listed(keeper, alloc, output, out),
+        Ok(()) => make_listed(keeper, base, alloc, output, out),
         Err(ListError::Failed) => Ok(Rebuilt::Unlisted),
         Err(ListError::Memory) => Err(Memory),
     }
@@ -113,13 +116,15 @@ fn make<O: OutTree>(
 // Makes an output that has been listed equal to the tree.
 fn make_listed<O: OutTree>(
     keeper: &mut OutKeeper,
+    base: &mut Text,
     alloc: Global,
     output: Output,
     out: &mut O,
 ) -> Result<Rebuilt, Memory>
     requires some { IsSome keeper.old }
     ensures answers { (now : Standing) (reply : Reply) → built_reply result ≡ Some reply →
-        build_listed now output (believed keeper.old) (failed_of (event_of reply)) ≡ (record now { belief = keeper.new }, reply) }
+        build_listed now output (believed keeper.old) (failed_of (event_of reply)) ≡ (record now { belief = keeper.new; base = base.new }, reply) }
+    ensures based { base.new ≡ based_by result base.old output.written.base }
     ensures belief { (old : Files) → O.contents out.old ≡ Some old → IsTrueOf (believed keeper.old) old →
         Holds (O.contents out.new) keeper.new old }
     ensures made { (old : Files) (failed : List (List ℕ)) → O.contents out.old ≡ Some old → IsTrueOf (believed keeper.old) old → FailedAt result failed →
@@ -137,17 +142,29 @@ fn make_listed<O: OutTree>(
     ensures called { OnOk result (CallsFor (plan (believed keeper.old) output.written) (O.calls out.old) (O.calls out.new)) }
     ensures err { OnErr result ((keeper.new ≡ keeper.old) × (out.new ≡ out.old)) }
 {
-    let applied = match keeper.make_equal(alloc, &output.written.tree, &output.written.keep, out) {
+    let Output {
+        written,
+        rendered,
+        reused,
+        why,
+    } = output;
+    let Written {
+        tree,
+        keep,
+        base: its_base,
+    } = written;
+    let applied = match keeper.make_equal(alloc, &tree, &keep, out) {
         Ok(applied) => applied,
         Err(Memory) => return Err(Memory),
     };
+    *base = its_base;
     if applied.failed.is_empty() {
         return Ok(Rebuilt::Built(Report {
-            rendered: output.rendered,
-            reused: output.reused,
+            rendered,
+            reused,
             written: applied.written,
             removed: applied.removed,
-            why: output.why,
+            why,
         }));
     }
     Ok(Rebuilt::Marked(applied.failed))

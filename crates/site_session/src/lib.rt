@@ -1,9 +1,11 @@
 //! A session over a site: edits of the files that are held, and builds that make the output equal to what they stand for.
 #![tactic(auto)]
 
+mod base;
 mod build;
 mod group;
 mod key_text;
+mod links;
 mod made;
 mod output;
 mod reading;
@@ -14,6 +16,7 @@ mod session;
 mod tree;
 
 pub use build::{Rebuilt, Report};
+pub use links::LinkReport;
 pub use output::{Output, Written};
 pub use render_workers::{Why, Whys};
 pub use reply::Reply;

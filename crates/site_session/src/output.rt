@@ -9,6 +9,7 @@ ghost use Rattle.site_session.specs.Rounds.{in_any_order, in_order};
 ghost use Rattle.site_world.specs.Sights.{item_names};
 ghost use Rattle.source_tree.specs.Limits.{most_files};
 
+use crate::base::base_of;
 use crate::made::made_of;
 use crate::reading::Reading;
 use crate::rounds::{Crew, all_anew, by_crew, one_by_one};
@@ -32,6 +33,8 @@ pub struct Written {
     pub tree: Tree,
     /// The paths that stay, though the site lacks them.
     pub keep: KeepList,
+    /// What stands before each path in an address: empty, or with `/` in front and none at its end.
+    pub base: Text,
 }
 
 /// What a build writes, and what it rendered for that.
@@ -236,6 +239,7 @@ fn written_by(alloc: Global, held: &Held, site: &Site, outs: &Outcomes) -> Resul
     Ok(Written {
         tree: tree_of(alloc, held, site, &items)?,
         keep: keep_list(alloc, &site.config.keep_files)?,
+        base: base_of(alloc, site.config.baseurl.as_str())?,
     })
 }
 

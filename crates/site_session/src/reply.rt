@@ -3,10 +3,11 @@ ghost use Rattle.std.specs.Prelude.{◌≡◌, ◌++◌, ◌∷◌, [], IfOk, On
 ghost use Rattle.std.specs.Fmt.{decimal};
 ghost use Rattle.std.specs.String.{string_bytes};
 ghost use Rattle.site_script.specs.Line.{script_number};
-ghost use Rattle.site_session.specs.Bytes.{fault_line, built_line, marked_line, reason_text, why_line, why_lines};
+ghost use Rattle.site_session.specs.Bytes.{broken_line, fault_line, built_line, links_lines, marked_line, reason_text, why_line, why_lines};
 
 use crate::key_text::{item_text, key_text};
-use crate::{Rebuilt, Report, Why};
+use crate::{LinkReport, Rebuilt, Report, Why};
+use link_check::Broken;
 use read_record::Key;
 use site_base::{PathList, SiteFault};
 use site_script::ScriptKind;
@@ -33,6 +34,8 @@ pub enum Reply {
     Unlisted,
     /// The line of this number is bad, and the session ends.
     BadLine(u64, ScriptKind),
+    /// The links of what is believed of the output.
+    Links(LinkReport),
     /// A line that has no reply.
     Silent,
 }
@@ -67,6 +70,7 @@ impl Reply {
             Reply::Marked(paths) => marked_text(alloc, paths),
             Reply::Unlisted => String::from_str(alloc, "out-fault 0\n"),
             Reply::BadLine(number, kind) => bad_line_text(alloc, *number, *kind),
+            Reply::Links(report) => links_text(alloc, report),
             Reply::Silent => Ok(String::new(alloc)),
         }
     }
@@ -158,4 +162,42 @@ fn bad_line_text(alloc: Global, number: u64, kind: ScriptKind) -> Result<String,
 {
     let kind = kind.number();
     format!(in alloc; "script {number} {kind}\n")
+}
+
+fn links_text(alloc: Global, report: &LinkReport) -> Result<String, AllocError>
+    ensures { IfOk result (λ text. string_bytes text ≡ links_lines report.now) }
+{
+    let broken = report.broken.as_slice();
+    let count = broken.len();
+    let scanned = report.scanned;
+    let mut text = format!(in alloc; "links {count} scanned={scanned}\n")?;
+    text.reserve(room_of(broken))?;
+    for link in broken {
+        push_broken(alloc, &mut text, link)?;
+    }
+    Ok(text)
+}
+
+// How many bytes the lines of these links have at most.
+fn room_of(broken: &[Broken]) -> usize {
+    let mut room: usize = 0;
+    for link in broken {
+        // Nine bytes are the word, the two spaces and the end of the line.
+        room = room
+            .saturating_add(link.from.text().len())
+            .saturating_add(link.value.len())
+            .saturating_add(9);
+    }
+    room
+}
+
+fn push_broken(alloc: Global, text: &mut String, link: &Broken) -> Result<(), AllocError>
+    ensures { OnOk result (string_bytes text.new ≡ string_bytes text.old ++ broken_line link.now) }
+{
+    let value = shown(alloc, link.value.as_str())?;
+    text.push_str("broken ")?;
+    text.push_str(link.from.text())?;
+    text.push(' ')?;
+    text.push_str(value.as_str())?;
+    text.push('\n')
 }

@@ -9,9 +9,11 @@ ghost use Rattle.render_workers.specs.Tallies.{Grows};
 ghost use Rattle.site_script.specs.Line.{IsInTime, is_moment};
 ghost use Rattle.memo_table.specs.Stored.{read_count, HoldsKept};
 ghost use Rattle.text_pool.specs.Texts.{held_ids};
+ghost use Rattle.out_tree.specs.Belief.{believed};
 ghost use Rattle.site_session.specs.Full.{full};
+ghost use Rattle.site_session.specs.Pages.{LooksAtSome, unseen};
 ghost use Rattle.site_session.specs.Standing.{Holds};
-ghost use Rattle.site_session.specs.Session.{Given, Reply, Fine, Absent, Answers, first_fault, names_now, names_past_now, rendered_now, start, output_failures, source_failures};
+ghost use Rattle.site_session.specs.Session.{Given, Reply, Fine, Absent, Answers, first_fault, linked, links_now, names_now, names_past_now, rendered_now, start, output_failures, source_failures};
 ghost use Rattle.site_session.specs.declared.build.Report.{Report};
 ghost use Rattle.site_session.specs.declared.output.Written.{Written};
 ghost use Rattle.site_session.specs.Rebuilds.{BuildsOnce, Rebuilds};
@@ -21,16 +23,18 @@ ghost use Rattle.site_session.specs.Rounds.{in_any_order, in_order};
 ghost use Rattle.site_script.specs.declared.line.Line.TheVariants as line;
 
 use crate::build::{Rebuilt, Report, finish};
+use crate::links::{LinkReport, broken, look};
 use crate::output::{first_fault, output_anew, output_by_crew, output_one_by_one};
 use crate::reading::Reading;
 use crate::reply::Reply;
 use crate::rest::{known_still, reused_after};
 use crate::rounds::Crew;
+use link_check::LinkTable;
 use memo_table::Memo;
 use out_tree::{OutKeeper, OutTree};
 use page_render::PageMeaning;
 use read_record::{ReadStore, Renderer, Tally};
-use site_base::{FileBytes, Memory, Settings, SiteFault, SitePath};
+use site_base::{FileBytes, Memory, Settings, SiteFault, SitePath, Text};
 use site_reader::{KeptReader, SiteError};
 use site_script::{Line, ScriptKind};
 use site_world::KeptVariables;
@@ -40,7 +44,7 @@ use std::marker::Model;
 use std::sync::Wait;
 use std::thread::Threads;
 
-/// The files that are held, the moment, the renders that are kept, and what is believed of the output.
+/// The files that are held, the moment, the renders that are kept, what is believed of the output, and which of its pages were looked at.
 pub struct Session {
     held: Held,
     settings: Settings,
@@ -48,6 +52,12 @@ pub struct Session {
     reading: Reading,
     memo: Memo<PageMeaning>,
     keeper: OutKeeper,
+    // What stands before each path in an address of the output.
+    base: Text,
+    // The pages that were looked at.
+    table: LinkTable,
+    // Whether these are those that are believed now.
+    has_looked: bool,
     // Where it is known that a build has nothing to do: how many items it keeps.
     resting: Option<u32>,
 }
@@ -59,20 +69,24 @@ impl Model for Session {
     ghost use Rattle.read_record.specs.contracts.key.Key as the_key;
     ghost use Rattle.read_record.specs.contracts.outcome.Outcome as the_outcome;
     ghost use Rattle.read_record.specs.Entries.{kept_code};
+    ghost use Rattle.site_session.specs.Looking.{bytes_of};
     ghost use Rattle.site_session.specs.Standing.{Standing, standing_code};
 
     ghost Value = { Standing };
 
     ghost coded = { standing_code (map.code the_name.the_row.coded (kept_code the_name.the_row.coded (coded_list (coded× the_key.the_row.coded (coded_list coded_ℕ))) the_outcome.the_row.coded)) };
 
-    ghost view = { λ s. record { files = s.held; moment = s.moment; settings = s.settings; kept = s.memo; belief = s.keeper } };
+    ghost view = { λ s. record { files = s.held; moment = s.moment; settings = s.settings; kept = s.memo; belief = s.keeper; base = s.base; scanned = bytes_of s.table } };
 
     ghost use Rattle.std.specs.Prelude.{◌≡◌, IfSome, true};
     ghost use Rattle.site_script.specs.Line.{is_moment};
+    ghost use Rattle.out_tree.specs.Belief.{believed};
+    ghost use Rattle.site_session.specs.Pages.{pages};
     ghost use Rattle.site_session.specs.Settled.{Rests};
 
     ghost invariant = { λ s. (is_moment s.moment ≡ true)
-        × IfSome s.resting (λ reused. Rests (record { files = s.held; moment = s.moment; settings = s.settings; kept = s.memo; belief = s.keeper }) reused) };
+        × IfSome s.resting (λ reused. Rests (record { files = s.held; moment = s.moment; settings = s.settings; kept = s.memo; belief = s.keeper; base = s.base; scanned = bytes_of s.table }) reused)
+        × (s.has_looked ≡ true → bytes_of s.table ≡ pages (believed s.keeper)) };
 }
 
 // A call of its own, so that no proof above goes by what all its parts come to.
@@ -85,6 +99,9 @@ impl Drop for Session {
             reading: _,
             memo: _,
             keeper: _,
+            base: _,
+            table: _,
+            has_looked: _,
             resting: _,
         } = self;
     }
@@ -133,6 +150,9 @@ impl Session {
             reading,
             memo: Memo::new(alloc),
             keeper: OutKeeper::open(),
+            base: Text::new(alloc),
+            table: LinkTable::new(alloc),
+            has_looked: false,
             resting: None,
         }
     }
@@ -187,6 +207,7 @@ impl Session {
         ensures answers { (given : Given) (number : ℕ) (reply : Reply) → S.files source.old ≡ Some given.source →
             scan_reply result ≡ Some reply → Answers given self.old number line.Scan reply self.new }
         ensures kept { (self.new.moment ≡ self.old.moment) × (self.new.settings ≡ self.old.settings) × (self.new.kept ≡ self.old.kept) × (self.new.belief ≡ self.old.belief) }
+        ensures looked { (self.new.base ≡ self.old.base) × (self.new.scanned ≡ self.old.scanned) }
         ensures err { OnErr result (self.new ≡ self.old) }
         ensures same { S.files source.new ≡ S.files source.old }
         ensures cause { HasCauseOf ScanError.Failed (S.failures source.old) (S.failures source.new) result }
@@ -235,7 +256,8 @@ impl Session {
             &mut self.memo,
             tally,
         );
-        let rebuilt = finish(&mut self.keeper, alloc, output, out);
+        self.has_looked = false;
+        let rebuilt = finish(&mut self.keeper, &mut self.base, alloc, output, out);
         self.resting = reused_after(&rebuilt);
         rebuilt
     }
@@ -284,7 +306,8 @@ impl Session {
             &mut self.memo,
             tally,
         );
-        let rebuilt = finish(&mut self.keeper, alloc, output, out);
+        self.has_looked = false;
+        let rebuilt = finish(&mut self.keeper, &mut self.base, alloc, output, out);
         self.resting = reused_after(&rebuilt);
         rebuilt
     }
@@ -307,10 +330,42 @@ impl Session {
             reading: _,
             memo: _,
             mut keeper,
+            mut base,
+            table: _,
+            has_looked: _,
             resting: _,
         } = self;
         let output = output_anew(alloc, &held, moment, &settings, renderer, tally);
-        finish(&mut keeper, alloc, output, out)
+        finish(&mut keeper, &mut base, alloc, output, out)
+    }
+
+    /// The broken links of what is believed of the output, and how many of its pages had to be looked at for that: those that changed since the last
+    /// call. Nothing else changes, and no device is called. The only error is want of memory, after which the next call is as exact, and counts
+    /// no page again that it had come to.
+    pub fn links(&mut self, alloc: Global) -> Result<LinkReport, Memory>
+        ensures told { IfOk result (λ report. report ≡ links_now self.old) }
+        ensures ok { OnOk result (self.new ≡ linked self.old) }
+        ensures same { self.new ≡ record self.old { scanned = self.new.scanned } }
+        ensures err { OnErr result (LooksAtSome self.old.scanned (believed self.old.belief) self.new.scanned) }
+    {
+        let scanned = self.look(alloc)?;
+        let broken = broken(alloc, &self.table, &self.keeper, self.base.as_str())?;
+        Ok(LinkReport { broken, scanned })
+    }
+
+    // Looks at the pages that changed, and answers their number.
+    fn look(&mut self, alloc: Global) -> Result<u64, Memory>
+        ensures told { IfOk result (λ count. count ≡ unseen self.old.scanned (believed self.old.belief)) }
+        ensures ok { OnOk result (self.new ≡ linked self.old) }
+        ensures same { self.new ≡ record self.old { scanned = self.new.scanned } }
+        ensures err { OnErr result (LooksAtSome self.old.scanned (believed self.old.belief) self.new.scanned) }
+    {
+        if self.has_looked {
+            return Ok(0);
+        }
+        let count = look(&mut self.table, alloc, &self.keeper)?;
+        self.has_looked = true;
+        Ok(count)
     }
 
     ghost use Rattle.std.specs.Borrow.{sem};
@@ -357,6 +412,9 @@ impl Session {
         ensures spares { let at = scene S.files S.failures O.contents O.calls O.failures in
             OnErr result (LineSpares self.old line (at source.old out.old tally.old) (at source.new out.new tally.new)) }
         ensures kept { OnErr result ((self.new.files ≡ self.old.files) × (self.new.moment ≡ self.old.moment) × (self.new.settings ≡ self.old.settings)) }
+        ensures based { OnErr result (self.new.base ≡ self.old.base) }
+        // Pages that were looked at are not counted again.
+        ensures looked { OnErr result (LooksAtSome self.old.scanned (believed self.old.belief) self.new.scanned) }
     {
         match line {
             Line::Scan => self.answer_scan(alloc, number, source),
@@ -367,6 +425,7 @@ impl Session {
                 Ok(Reply::Fine)
             }
             Line::Build => self.build_line(alloc, number, out, crew, tally),
+            Line::Links => self.links_line(alloc),
             Line::Bad(at, kind) => Ok(Reply::BadLine(at, kind)),
             Line::End | Line::Eof | Line::Failed | Line::Memory => Ok(Reply::Silent),
         }
@@ -422,6 +481,17 @@ impl Session {
         }
     }
 
+    fn links_line(&mut self, alloc: Global) -> Result<Reply, Memory>
+        ensures answers { (given : Given) (number : ℕ) → IfOk result (λ reply. Answers given self.old number line.Links reply self.new) }
+        ensures belief { self.new.belief ≡ self.old.belief }
+        ensures kept { (self.new.files ≡ self.old.files) × (self.new.moment ≡ self.old.moment) × (self.new.settings ≡ self.old.settings) }
+        ensures based { self.new.base ≡ self.old.base }
+        ensures err { OnErr result (LooksAtSome self.old.scanned (believed self.old.belief) self.new.scanned) }
+        ensures quiet { IfOk result (λ reply. IsQuiet reply × (source_failures reply ≡ 0)) }
+    {
+        Ok(Reply::Links(self.links(alloc)?))
+    }
+
     fn build_line<H: Threads + Wait + Sync, O: OutTree, R: Renderer<Meaning = PageMeaning> + Sync>(
         &mut self,
         alloc: Global,
@@ -439,6 +509,8 @@ impl Session {
         ensures spares { let seen = output_seen O.contents O.calls O.failures in
             OnErr result (OutputSpared self.old.belief (seen out.old) (seen out.new) × Grows tally.old tally.new) }
         ensures kept { OnErr result ((self.new.files ≡ self.old.files) × (self.new.moment ≡ self.old.moment) × (self.new.settings ≡ self.old.settings)) }
+        ensures based { OnErr result (self.new.base ≡ self.old.base) }
+        ensures looked { OnErr result (self.new.scanned ≡ self.old.scanned) }
         ensures tallied { OnOk result (in_any_order (names_now self.old) (names_past_now self.old) tally.old tally.new) }
     {
         match self.rebuild_by(alloc, out, crew, tally) {

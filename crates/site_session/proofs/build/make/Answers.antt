@@ -12,8 +12,8 @@ listed g c = record {
 }
 
 pub returns-in-Ok-clause-answers : goal.returns-in-Ok-clause-answers
-returns-in-Ok-clause-answers g c = λ given now reply was h is.
-    make_answers given now c.args.output reply c.args.keeper.now _ _ _ (listed g c) h (c.make_listed.ensures.unlisted reply is) (c.make_listed.ensures.answers now reply is)
+returns-in-Ok-clause-answers g c = λ given now reply was base h is.
+    make_answers given now c.args.output reply c.args.keeper.now _ _ c.make_listed.new.base _ (listed g c) h (c.make_listed.ensures.unlisted reply is) (c.make_listed.ensures.answers now reply is)
 
 pub returns-in-Ok-clause-belief : goal.returns-in-Ok-clause-belief
 returns-in-Ok-clause-belief g c = λ first h.
