@@ -30,6 +30,8 @@ SPOILED = (
     ("a line more", "no line of a session, and no word, is said again", '$REAL "$@"; s=$?; echo ok; exit $s'),
     ("a page that is written before the end", "a list that grows without end is stopped by `ulimit -v`, and nothing is written", 'echo x >_site/a.html; exec $REAL "$@"'),
     ("two documents the other way round", "order: it names half of the documents", '$REAL "$@" | sed "2{h;d};3G"'),
+    ("a broken link that is not told", "links: 16 MiB of comments", '$REAL "$@" | sed "/^broken/d"'),
+    ("pages that are scanned again", "links: 16 MiB of links that are answered", '$REAL "$@" | sed s/scanned=0/scanned=2/'),
     ("threads with another stack", "threads have a stack as large as `ulimit -s` says", 'ulimit -s 512; exec $REAL "$@"'),
 )
 

@@ -16,7 +16,7 @@ def words(room: Path) -> None:
     """What is said when a word, or something that is needed, is missing."""
     for options, status in (((), 2), (("--help",), 0)):
         listed = run(*options, status=status)
-        for word in ("new", "serve", "watch", "check", "build", "why"):
+        for word in ("new", "serve", "watch", "check", "build", "links", "why"):
             expect(f"\n      site {word} " in listed, f"no example of {word}: {listed}")
     expect(run("nope", status=2) == "site: there is no word nope; `site --help` lists them\n", "an unknown word")
     expect("there is no folder" in run("build", room / "none", status=2), "a folder that is not there")

@@ -6,16 +6,18 @@ import os
 import sys
 import threading
 import time
+from collections import Counter
 from pathlib import Path
 from typing import Callable, Optional
 
 import beside
+from broken import counted, news
 from client import Ended
 from configuration import CONFIG
 from faults import ANOTHER_RUN, Fault, explain, fault_of_line, is_in_use
 from inside import OUTPUT
 from notes.telling import Telling
-from session import Built, Failed, LeftToScan, Session, can_be_told, read_source
+from session import Broken, Built, Failed, KnowsNoLinks, LeftToScan, Session, can_be_told, read_source
 from site_files import scratch_outside
 from status import Status
 from watching import Changes, Looking, NotToBeHad, Watch, mark, watch
@@ -88,6 +90,9 @@ class Builder:
         self.edited: set[str] = set()
         # What was saved since then.
         self.saved: set[str] = set()
+        # The links that lead nowhere, as the last answer has them, and whether the program knows the question.
+        self.broken: Optional[Counter[Broken]] = None
+        self.asks_for_links = True
         # What is wrong with the styles.
         self.style_fault: Optional[Fault] = None
         # Before the first scan, so that no save is missed.
@@ -292,7 +297,11 @@ class Builder:
             self.tell(bool(outcome.marked), self.explain(outcome))
         else:
             self.note_names(outcome)
+            # Another `baseurl` may change where links lead, and no page.
+            asks = self.asks_for_links and (outcome.written + outcome.removed > 0 or CONFIG in self.saved)
             self.tell_built(outcome)
+            if asks:
+                self.look_for_links(session)
 
     def note_names(self, built: Built) -> None:
         """Notes what has to be in `_site` from now on: also what has gone, if the build has not removed as much.
@@ -322,6 +331,20 @@ class Builder:
             say(f"built: {built.written} written, {built.removed} removed")
         # It was said when the styles were made.
         self.status.end(changed, self.style_fault)
+
+    def look_for_links(self, session: Session) -> None:
+        """Asks for the links that lead nowhere, and says what is new of them. They are no fault."""
+        try:
+            found = session.links()
+        except KnowsNoLinks as old:
+            self.asks_for_links = False
+            self.begin_again(str(old))
+            return
+        before, self.broken = self.broken, Counter(found)
+        if before is None and found:
+            say(counted(len(found)))
+        for line in news(self.folder, before or Counter(), self.broken):
+            say(line)
 
     def explain(self, failed: Failed) -> Fault:
         return explain(self.program, self.folder, self.options, failed)

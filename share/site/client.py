@@ -83,11 +83,11 @@ class Client:
         return self.hear()
 
     def ask_all(self, line: bytes) -> list[str]:
-        """All lines of the reply to a line: those that tell why come first, and paths that could not be written or removed last."""
+        """All lines of the reply to a line: those that tell why come first, and paths that could not be written or removed, or broken links, last."""
         replies = [self.ask(line)]
         while replies[-1].startswith("why "):
             replies.append(self.hear())
-        count = int(replies[-1].split()[1]) if replies[-1].startswith("out-fault ") else 0
+        count = int(replies[-1].split()[1]) if replies[-1].startswith(("out-fault ", "links ")) else 0
         return replies + [self.hear() for _ in range(count)]
 
     def put(self, path: Union[str, bytes], data: bytes) -> None:

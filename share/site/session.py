@@ -13,7 +13,7 @@ from typing import Callable, Optional, Union
 
 from calling import release, start, tell
 from client import PATIENCE, Client, Ended, begin
-from inside import read_below
+from inside import OUTPUT, read_below
 from words import shown
 
 # The limits of a line: docs/PROFILE.md, "The lines of a session".
@@ -47,6 +47,18 @@ class Failed:
 
     reply: str
     marked: list[str] = field(default_factory=list)
+
+
+@dataclass(frozen=True)
+class Broken:
+    """A link of a built page that leads nowhere: the page's path in `_site`, and the value with `?` for each control character."""
+
+    path: str
+    value: str
+
+
+class KnowsNoLinks(Ended):
+    """The program is one from before it looked for links, and has ended."""
 
 
 class Session(Client):
@@ -93,6 +105,36 @@ class Session(Client):
         at = next(at for at, reply in enumerate(replies) if not reply.startswith("why "))
         return Failed(replies[at], [reply[len("marked ") :] for reply in replies[at + 1 :]])
 
+    def links(self) -> list[Broken]:
+        """The broken links of what the last build made, by their pages and then as they stand there; none before the first build.
+
+        Raises KnowsNoLinks if the program is too old for the line, and Ended if it replies anything else than that many links.
+        """
+        head = self.ask(b"links\n")
+        if UNKNOWN_LINE.fullmatch(head):
+            raise KnowsNoLinks("the program is older than this script, and looks for no links")
+        counts = LINKS.fullmatch(head)
+        if not counts:
+            raise self.not_understood(head)
+        # One after another, since there may be a million, and each page's path is kept once.
+        paths: dict[str, str] = {}
+        found = []
+        for _ in range(int(counts[1])):
+            one = self.hear_broken()
+            found.append(Broken(paths.setdefault(one.path, one.path), one.value))
+        return found
+
+    def hear_broken(self) -> Broken:
+        reply = self.hear()
+        one = split_broken(reply, self.folder)
+        if one is None:
+            raise self.not_understood(reply)
+        return one
+
+    def not_understood(self, reply: str) -> Ended:
+        """What a reply is that has another form than it has to have."""
+        return Ended(self.how_it_ended() if reply.startswith("script ") else f"the program replied {shown(reply)}")
+
     def wait(self) -> None:
         begun = time.monotonic()
         while not self.heard:
@@ -133,6 +175,25 @@ KEYS = {"new", "source", "content", "output", "var", "paginator", "site", "data"
 ALONE = {"new", "moment"}
 # The number of a page that pagination has made.
 PAGE = re.compile(r"#\d+$")
+
+
+# The first line of the reply to `links`, and what a program says of a line that it does not know.
+LINKS = re.compile(r"links (0|[1-9][0-9]{0,17}) scanned=(?:0|[1-9][0-9]{0,17})")
+UNKNOWN_LINE = re.compile(r"script [1-9][0-9]* 3")
+# A path, a space and the first character of a value: the program tells links of such files alone.
+PAGE_END = re.compile(r"\.html(?= .)")
+
+
+def split_broken(reply: str, folder: Path) -> Optional[Broken]:
+    """What a line `broken PATH VALUE` tells; nothing where it has another form. Both may hold spaces: of several paths the first is meant that is there."""
+    if not reply.startswith("broken "):
+        return None
+    rest = reply[len("broken ") :]
+    # No path is longer, however long a value is.
+    ends = [match.end() for match in PAGE_END.finditer(rest, 0, MOST_PATH + 2)]
+    if len(ends) > 1:
+        ends = [end for end in ends if os.path.lexists(folder / OUTPUT / rest[:end])] or ends
+    return Broken(rest[: ends[0]], rest[ends[0] + 1 :]) if ends else None
 
 
 # What it means that a file cannot be opened: it has gone, or there or on the way is a link, a pipe, a socket or a device.

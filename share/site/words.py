@@ -38,6 +38,7 @@ WORDS = {
     "watch": Word("[FOLDER] [--drafts] [--future] [--jobs N]", "builds a site after each save", "site watch my-blog"),
     "check": Word("[FOLDER] [--drafts] [--future]", "reports the first fault of a site, and writes nothing", "site check my-blog"),
     "build": Word("[FOLDER] [--drafts] [--future] [--jobs N]", "builds a site into its folder _site", "site build my-blog --jobs 4"),
+    "links": Word("[FOLDER] [--drafts] [--future] [--jobs N]", "builds a site once, and says which links of its pages lead nowhere", "site links my-blog"),
     "why": Word(
         "FILE [--to PAGE]",
         "shows which pages an edit of a file touches, and why",
