@@ -42,6 +42,8 @@ class Trial:
         self.scanned: dict[str, bytes] = {}
         # The place of a page in which a folder stands, so that no page can be written there.
         self.blocked: Optional[str] = None
+        # The pages that stood at such places, with their bytes: until a build tries to write there, the program knows nothing of it.
+        self.taken: dict[str, bytes] = {}
         # What has come so far: lines `links`, faults, builds that failed to write, links that led nowhere, and the most in one reply.
         self.lines = self.faults = self.failed = self.found = self.most = 0
 
@@ -91,6 +93,8 @@ class Trial:
         if path not in self.edits.files:
             return
         if (self.out / path).is_file():
+            if path not in self.marked:
+                self.taken[path] = (self.out / path).read_bytes()
             (self.out / path).unlink()
         (self.out / path / BLOCKER).mkdir(parents=True, exist_ok=True)
         (self.out / path / BLOCKER / BLOCKER).touch()
@@ -104,6 +108,7 @@ class Trial:
             return
         self.marked = {reply[len("marked ") :] for reply in replies[1:]}
         self.failed += bool(self.marked)
+        self.taken = {path: data for path, data in self.taken.items() if path in self.edits.files and path not in self.marked and not (self.out / path).is_file()}
         self.is_built = True
         self.base = plain.base_of(self.edits.baseurl)
 
@@ -111,7 +116,7 @@ class Trial:
         """The files that the program has written, and all paths that it believes to be there."""
         if not self.is_built:
             return {}, frozenset()
-        known, there = {}, set(self.marked)
+        known, there = dict(self.taken), self.marked | set(self.taken)
         for path, place in files_below(str(self.out)):
             if BLOCKER in path:
                 continue
