@@ -15,6 +15,7 @@ SECONDS = 20
 # As long as a path can be, with folders around it.
 LONGEST = "/".join(["l" * 200] * 5) + f"/{'m' * 14}.html"
 PIECE = 1 << 20
+BASE = b"a" * (MOST // 4)
 
 
 def asked(room: Room, files: Files, script: bytes = SCRIPT) -> tuple[list[str], Took]:
@@ -81,7 +82,7 @@ scanned("a value of 16 MiB of 'b/../'", lambda: {"a.html": filled(b"b/../", b'<a
 scanned("a value of 16 MiB of '/'", lambda: {"a.html": filled(b"/", b'<a href="a/..', b'a">')})
 scanned("a value of 16 MiB behind '?'", lambda: {"a.html": filled(b"%zz", b'<a href="a?', b'">')})
 scanned("a scheme of 16 MiB", lambda: {"a.html": filled(b"a", b'<a href="', b':">')})
-scanned("a base of 8 MiB", lambda: {"_config.yml": b"baseurl: /" + b"a" * (MOST // 2), "a.html": b'<a href="/' + b"a" * (MOST // 2) + b'/a"><a href="/' + b"a" * (MOST // 2 - 1) + b'">'})
+scanned("a base of 4 MiB", lambda: {"_config.yml": b"baseurl: /" + BASE, "a.html": b"<a href=/" + BASE + b"/a><a href=/" + BASE + b"/no><a href=/" + BASE[1:] + b"/no>"}, lambda: [f"broken a.html /{BASE.decode()}/no"])
 
 
 @case("links: ten thousand lines in one session", 120, in_memory=True)
