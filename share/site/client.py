@@ -69,9 +69,9 @@ class Client:
         self.given, self.said = piped(process.stdin).fileno(), piped(process.stdout).fileno()
         # What the pipe does not take at once is written while replies are read.
         os.set_blocking(self.given, False)
-        # The lines that were read and not taken yet, and the front of the next one.
+        # The lines that were read and not taken yet, and the pieces of the next one: it may be long, so they are joined once.
         self.heard: deque[bytes] = deque()
-        self.rest = b""
+        self.rest: list[bytes] = []
 
     def fileno(self) -> int:
         """Between replies, this can be read when the program has ended."""
@@ -144,8 +144,12 @@ class Client:
         piece = os.read(self.said, PIECE)
         if not piece:
             raise Ended(self.how_it_ended())
-        *whole, self.rest = (self.rest + piece).split(b"\n")
-        self.heard.extend(whole)
+        first, *others = piece.split(b"\n")
+        self.rest.append(first)
+        if others:
+            self.heard.append(b"".join(self.rest))
+            self.heard.extend(others[:-1])
+            self.rest = others[-1:]
 
     def too_late(self) -> Ended:
         return Ended(f"the program has not replied within {self.seconds:g} seconds")
