@@ -39,6 +39,8 @@ class Edits:
         self.files: dict[str, bytes] = {}
         self.baseurl = ""
         self.keeps = True
+        # The page that went last, as it was.
+        self.lost: tuple[str, bytes] = (page_path(0), b"")
 
     def value(self) -> str:
         """The value of a link: most lead to a page that may be there."""
@@ -109,7 +111,13 @@ class Edits:
 
     def gone(self) -> list[bytes]:
         """A page that goes, if it is there."""
-        return [self.delete(page_path(self.random.randrange(PAGES)))]
+        path = page_path(self.random.randrange(PAGES))
+        self.lost = (path, self.files.get(path, b""))
+        return [self.delete(path)]
+
+    def back(self) -> list[bytes]:
+        """The page that went last is as it was."""
+        return [self.put(*self.lost)]
 
     def moved(self) -> list[bytes]:
         """A file `f.html` that becomes a folder of that name, or the other way round."""
@@ -123,6 +131,6 @@ class Edits:
     def next(self) -> list[bytes]:
         """The lines of a few edits."""
         choose = self.random
-        ways = ((self.page, 60), (self.gone, 12), (self.moved, 4), (self.settings, 2), (self.faulty, 30 if BAD in self.files else 2))
+        ways = ((self.page, 60), (self.gone, 12), (self.back, 6), (self.moved, 4), (self.settings, 2), (self.faulty, 30 if BAD in self.files else 2))
         chosen = choose.choices([way for way, _ in ways], [weight for _, weight in ways], k=choose.choice((0, 1, 1, 1, 2, 5)))
         return [line for way in chosen for line in way()]
