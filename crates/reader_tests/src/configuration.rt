@@ -46,6 +46,8 @@ fn has_default_values(config: &Config) -> bool {
         && !config.show_drafts
         && config.defaults.as_slice().is_empty()
         && config.all.is_empty()
+        && config.make_archives.as_slice().is_empty()
+        && config.archive_layout.is_none()
 }
 
 #[test]
@@ -63,6 +65,11 @@ const WRONG: &[(&str, &str)] = &[
     ("paginate_path: /page", "paginate_path"),
     ("collections: [a b]", "collections"),
     ("exclude: 1", "exclude"),
+    ("make_archives: [years]", "make_archives"),
+    ("make_archives: [tags, 1]", "make_archives"),
+    ("make_archives: x", "make_archives"),
+    ("make_archives: {tags: true}", "make_archives"),
+    ("archive_layout: [a]", "archive_layout"),
     ("- a", "not a mapping"),
 ];
 

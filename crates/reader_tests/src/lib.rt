@@ -5,6 +5,8 @@
 #[cfg(test)]
 mod addresses;
 #[cfg(test)]
+mod archive_pages;
+#[cfg(test)]
 mod configuration;
 #[cfg(test)]
 mod data;

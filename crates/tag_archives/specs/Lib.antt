@@ -1,0 +1,4 @@
+pub mod Archives
+pub mod Gathering
+pub mod Listing
+pub mod Slugs
