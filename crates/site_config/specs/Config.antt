@@ -1,4 +1,4 @@
--- What a configuration says, key by key, with the default of each, after Jekyll 4's manual, "Configuration Options", "Collections" and "Front Matter Defaults".
+-- What a configuration says, key by key, with the default of each, after Jekyll 4's manual, "Configuration Options", "Collections" and "Front Matter Defaults"; the keys of archives are this program's own.
 use Rattle.std.specs.Prelude.{ℕ, ℤ, pos, nat_le, Bool, true, false, List, [], ◌∷◌, ◌++◌, codes, map, Option, Some, None, if◌then◌else◌, unwrap_or, fold, filter_map}
 use Rattle.std.specs.List.{list_any}
 use Rattle.std.specs.Option.{option_and_then}
@@ -118,5 +118,7 @@ config all = record {
   future = flag (setting (codes "future") all);
   unpublished = flag (setting (codes "unpublished") all);
   show_drafts = flag (setting (codes "show_drafts") all);
+  make_archives = texts_or [] (setting (codes "make_archives") all);
+  archive_layout = optional_text (setting (codes "archive_layout") all);
   all = pairs_in all;
 }

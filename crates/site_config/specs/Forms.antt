@@ -122,6 +122,14 @@ holds_number (c ∷ cs) = starts_with nat_eq (c ∷ cs) (codes ":num") || holds_
 abbrev pub is_liquid : Pairs → Bool
 is_liquid ps = is_flag (setting (codes "strict_variables") (hash ps)) && is_flag (setting (codes "strict_filters") (hash ps))
 
+-- the name of one of the lists of a post's labels
+abbrev pub is_archive : Plain → Bool
+is_archive (text s) = bytes_eq s (codes "tags") || bytes_eq s (codes "categories")
+is_archive v = false
+
+abbrev pub are_archives : Items → Bool
+are_archives is = list_all is_archive (item_list is)
+
 -- the value has the form, where `collections` has its own; nil stands for what is absent
 abbrev pub fits : Plain → Form → Plain → Bool
 fits collections f nil = true
@@ -136,4 +144,5 @@ fits collections form.Separator (text s) = not (length s == 0)
 fits collections form.Offset (text s) = is_some (read_offset s)
 fits collections form.Flag (bool b) = true
 fits collections form.Liquid (hash ps) = is_liquid ps
+fits collections form.Archives (list is) = are_archives is
 fits collections f v = false

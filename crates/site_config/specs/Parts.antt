@@ -2,11 +2,12 @@
 use Rattle.std.specs.Prelude.{◌++◌, [], ◌∷◌, codes}
 use Rattle.site_base.specs.Plain.{Plain}
 use Rattle.site_config.specs.Forms.{setting}
-use Rattle.site_config.specs.Config.{text_or, texts_or, excluded, collections_of, scopes_of}
+use Rattle.site_config.specs.Config.{text_or, optional_text, texts_or, excluded, collections_of, scopes_of}
 use Rattle.site_config.specs.declared.parts.Addresses.{Addresses}
 use Rattle.site_config.specs.declared.parts.Choices.{Choices}
 use Rattle.site_config.specs.declared.parts.Documents.{Documents}
 use Rattle.site_config.specs.declared.parts.Breaks.{Breaks}
+use Rattle.site_config.specs.declared.parts.Archives.{Archives}
 
 abbrev pub addresses : Plain → Addresses
 addresses all = record {
@@ -33,4 +34,10 @@ abbrev pub breaks : Plain → Breaks
 breaks all = record {
   paginate_path = text_or (codes "/page:num") (setting (codes "paginate_path") all);
   excerpt_separator = text_or (10 ∷ 10 ∷ []) (setting (codes "excerpt_separator") all);
+}
+
+abbrev pub archives : Plain → Archives
+archives all = record {
+  make_archives = texts_or [] (setting (codes "make_archives") all);
+  archive_layout = optional_text (setting (codes "archive_layout") all);
 }

@@ -38,6 +38,10 @@ pub struct Config {
     pub unpublished: bool,
     /// Whether drafts are built; `false` by default.
     pub show_drafts: bool,
+    /// The lists of labels, `tags` and `categories`, whose labels have a page each; none by default.
+    pub make_archives: TextList,
+    /// The layout of these pages; none by default.
+    pub archive_layout: Option<Text>,
     /// The whole mapping.
     pub all: Hash,
 }

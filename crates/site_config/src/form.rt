@@ -13,4 +13,5 @@ pub(crate) enum Form {
     Offset,
     Flag,
     Liquid,
+    Archives,
 }

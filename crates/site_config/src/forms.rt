@@ -1,7 +1,7 @@
 // The forms that values of a configuration have.
 ghost use Rattle.std.specs.Prelude.{◌≡◌};
 ghost use Rattle.site_base.specs.View.{plain};
-ghost use Rattle.site_config.specs.Forms.{given, fits, is_text, are_texts, is_name, are_names, is_collection, are_collections, names, is_kind, is_kind_text, is_name_text, has_text, is_hash, is_scope, are_scopes, holds_number, is_flag, is_optional_text, are_optional_texts, is_named_collection, is_sorted, is_liquid};
+ghost use Rattle.site_config.specs.Forms.{given, fits, is_text, are_texts, is_name, are_names, is_collection, are_collections, names, is_kind, is_kind_text, is_name_text, has_text, is_hash, is_scope, are_scopes, holds_number, is_flag, is_optional_text, are_optional_texts, is_named_collection, is_sorted, is_liquid, is_archive, are_archives};
 
 use crate::form::Form;
 use crate::settings::setting;
@@ -26,6 +26,7 @@ pub(crate) fn fits(collections: Option<&Value>, form: Form, value: Option<&Value
         (Form::Offset, Some(Value::Text(text))) => read_offset(text.as_str()).is_some(),
         (Form::Flag, Some(Value::Bool(_))) => true,
         (Form::Liquid, Some(Value::Hash(hash))) => is_liquid(hash),
+        (Form::Archives, Some(Value::List(list))) => are_archives(list),
         _ => false,
     }
 }
@@ -96,6 +97,22 @@ fn is_liquid(hash: &Hash) -> bool
     ensures { result ≡ is_liquid hash.now }
 {
     is_flag(hash.get("strict_variables")) && is_flag(hash.get("strict_filters"))
+}
+
+fn are_archives(list: &List) -> bool
+    ensures { result ≡ are_archives list.now }
+{
+    list.as_slice().iter().all(is_archive)
+}
+
+// Whether a value names one of the lists of a post's labels.
+fn is_archive(value: &Value) -> bool
+    ensures { result ≡ is_archive (plain value.now) }
+{
+    match value {
+        Value::Text(text) => text.as_str() == "tags" || text.as_str() == "categories",
+        _ => false,
+    }
 }
 
 fn is_flag(value: Option<&Value>) -> bool

@@ -1,10 +1,10 @@
 // The parts of a configuration that take memory, a few fields at a time.
 ghost use Rattle.std.specs.Prelude.{◌≡◌, IfOk};
 ghost use Rattle.site_config.specs.Forms.{given};
-ghost use Rattle.site_config.specs.Parts.{addresses, choices, documents, breaks};
+ghost use Rattle.site_config.specs.Parts.{addresses, choices, documents, breaks, archives};
 
 use crate::collections::read_collections;
-use crate::reading::{INCLUDED, KEPT, excluded, text_or, texts_or};
+use crate::reading::{INCLUDED, KEPT, excluded, optional_text, text_or, texts_or};
 use crate::scopes::read_scopes;
 use crate::settings::setting;
 use crate::{Collection, Scope};
@@ -40,6 +40,13 @@ pub(crate) struct Documents {
 pub(crate) struct Breaks {
     pub paginate_path: Text,
     pub excerpt_separator: Text,
+}
+
+/// Which labels have a page each, and the layout of these pages.
+#[derive(Drop)]
+pub(crate) struct Archives {
+    pub make_archives: TextList,
+    pub archive_layout: Option<Text>,
 }
 
 impl Addresses {
@@ -86,6 +93,17 @@ impl Breaks {
         Ok(Breaks {
             paginate_path: text_or(alloc, "/page:num", setting("paginate_path", all))?,
             excerpt_separator: text_or(alloc, "\n\n", setting("excerpt_separator", all))?,
+        })
+    }
+}
+
+impl Archives {
+    pub(crate) fn read(alloc: Global, all: Option<&Value>) -> Result<Archives, Memory>
+        ensures { IfOk result (λ made. made ≡ archives (given all.entry)) }
+    {
+        Ok(Archives {
+            make_archives: texts_or(alloc, &[], setting("make_archives", all))?,
+            archive_layout: optional_text(alloc, setting("archive_layout", all))?,
         })
     }
 }

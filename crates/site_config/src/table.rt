@@ -14,7 +14,7 @@ struct Row {
     form: Form,
 }
 
-const ROWS: [Row; 17] = [
+const ROWS: [Row; 19] = [
     Row {
         key: "baseurl",
         form: Form::Text,
@@ -82,6 +82,14 @@ const ROWS: [Row; 17] = [
     Row {
         key: "liquid",
         form: Form::Liquid,
+    },
+    Row {
+        key: "make_archives",
+        form: Form::Archives,
+    },
+    Row {
+        key: "archive_layout",
+        form: Form::Text,
     },
 ];
 

@@ -112,3 +112,11 @@ absent = refl
 liquid : site_variable sample (codes "liquid") ≡ hash (pair (codes "strict_variables") (bool false) (pair (codes "strict_filters") (bool false) no_pairs))
 unfolding variables
 liquid = refl
+
+make_archives : site_variable sample (codes "make_archives") ≡ list no_items
+unfolding variables
+make_archives = refl
+
+archive_layout : site_variable sample (codes "archive_layout") ≡ nil
+unfolding variables
+archive_layout = refl

@@ -1,4 +1,4 @@
--- The keys of a configuration that have a meaning, each with its value or its default. After Jekyll 4's manual, "Configuration Options" and "Liquid Options".
+-- The keys of a configuration that have a meaning, each with its value or its default. After Jekyll 4's manual, "Configuration Options" and "Liquid Options"; the keys of archives are this program's own.
 use Rattle.std.specs.Prelude.{ℕ, false, List, codes, if◌then◌else◌}
 use Rattle.site_base.specs.Plain.{Plain, nil, bool, text, list, hash, no_items, Pairs, no_pairs, pair, onto_pairs}
 use Rattle.site_config.specs.Forms.{setting}
@@ -35,13 +35,15 @@ given_or other config key = let v = setting key (hash config.all) in if is_nil v
 abbrev pub lenient : Pairs
 lenient = pair (codes "strict_variables") (bool false) (pair (codes "strict_filters") (bool false) no_pairs)
 
--- keys whose values stand as they are given; `paginate` is nil where it is off
+-- keys whose values stand as they are given; `paginate` is nil where it is off, and `archive_layout` where there is none
 abbrev pub as_given : Config → Pairs
 as_given config =
     pair (codes "defaults") (given_or (list no_items) config (codes "defaults"))
     (pair (codes "paginate") (given_or nil config (codes "paginate"))
     (pair (codes "timezone") (given_or (text (codes "UTC")) config (codes "timezone"))
-    (pair (codes "liquid") (given_or (hash lenient) config (codes "liquid")) no_pairs)))
+    (pair (codes "liquid") (given_or (hash lenient) config (codes "liquid"))
+    (pair (codes "make_archives") (given_or (list no_items) config (codes "make_archives"))
+    (pair (codes "archive_layout") (given_or nil config (codes "archive_layout")) no_pairs)))))
 
 -- all keys of the table but `collections`, which a site has of itself
 abbrev pub settings : Config → Pairs

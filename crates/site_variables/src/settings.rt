@@ -51,15 +51,30 @@ fn set_flags(alloc: Global, made: &mut Hash, config: &Config) -> Result<(), Memo
 fn set_given(alloc: Global, made: &mut Hash, config: &Config) -> Result<(), Memory>
     ensures { OnOk result (made.new ≡ set_all (as_given config.now) made.old) }
 {
-    let defaults = given_or(alloc, Value::List(List::new(alloc)), config, "defaults")?;
-    set(alloc, made, "defaults", defaults)?;
-    let paginate = given_or(alloc, Value::Nil, config, "paginate")?;
-    set(alloc, made, "paginate", paginate)?;
-    let utc = Value::Text(Text::copy(alloc, "UTC")?);
-    let timezone = given_or(alloc, utc, config, "timezone")?;
-    set(alloc, made, "timezone", timezone)?;
-    let liquid = given_or(alloc, Value::Hash(lenient(alloc)?), config, "liquid")?;
-    set(alloc, made, "liquid", liquid)
+    let defaults = Value::List(List::new(alloc));
+    set_or(alloc, made, config, "defaults", defaults)?;
+    set_or(alloc, made, config, "paginate", Value::Nil)?;
+    let timezone = Value::Text(Text::copy(alloc, "UTC")?);
+    set_or(alloc, made, config, "timezone", timezone)?;
+    let liquid = Value::Hash(lenient(alloc)?);
+    set_or(alloc, made, config, "liquid", liquid)?;
+    let archives = Value::List(List::new(alloc));
+    set_or(alloc, made, config, "make_archives", archives)?;
+    set_or(alloc, made, config, "archive_layout", Value::Nil)
+}
+
+// Sets a key to its value, or to another where it is absent or nil.
+fn set_or(
+    alloc: Global,
+    made: &mut Hash,
+    config: &Config,
+    key: &str,
+    other: Value,
+) -> Result<(), Memory>
+    ensures { OnOk result (made.new ≡ set key.now (given_or (plain other) config.now key.now) made.old) }
+{
+    let value = given_or(alloc, other, config, key)?;
+    set(alloc, made, key, value)
 }
 
 // The options of Liquid where the configuration has none.
