@@ -41,7 +41,7 @@ pub use kind::Kind;
 pub use layout_file::LayoutFile;
 pub use lookup::variable;
 pub use matter::Matter;
-pub use placed_variables::set_address;
+pub use placed_variables::{set_address, set_page};
 pub use static_file::StaticFile;
 pub use timeless::Timeless;
 pub use titles::title;

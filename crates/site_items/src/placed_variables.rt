@@ -39,6 +39,14 @@ pub(crate) fn set_variables(
     Ok(vars)
 }
 
+/// Sets the variables that a page at a path has by its place in the site, over its own.
+pub fn set_page(alloc: Global, vars: &mut Hash, path: &SitePath, url: &Text) -> Result<(), Memory>
+    ensures { OnOk result (vars.new ≡ page_variables path.now url.now (placed path.now url.now vars.old)) }
+{
+    set_placed(alloc, vars, path, url)?;
+    set_page_variables(alloc, vars, path.text(), url.as_str())
+}
+
 fn set_placed(alloc: Global, vars: &mut Hash, path: &SitePath, url: &Text) -> Result<(), Memory>
     ensures { OnOk result (vars.new ≡ placed path.now url.now vars.old) }
 {

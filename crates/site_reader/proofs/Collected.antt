@@ -46,7 +46,7 @@ module _ {K X : Type 0} {R : K → K → Ordering} (o : IsTotalOrder R) where
   abbrev pub all_put : List (K × X) → List (K × X) → List (K × X)
   all_put es ps = fold (λ made e. insert_entry R made e.0 e.1) es ps
 
-  stays_sorted : (es ps : List (K × X)) → T (is_sorted R es) → T (is_sorted R (all_put es ps))
+  pub stays_sorted : (es ps : List (K × X)) → T (is_sorted R es) → T (is_sorted R (all_put es ps))
   stays_sorted es [] sorted = sorted
   stays_sorted es (p ∷ ps) sorted = stays_sorted (insert_entry R es p.0 p.1) ps (subst (λ l. T (is_sorted R l)) (sym (placed p.0 p.1 es)) (is_sorted-put R o p.0 p.1 es sorted))
 

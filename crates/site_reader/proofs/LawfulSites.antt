@@ -1,8 +1,9 @@
 -- A site is lawful with its files.
-use Rattle.std.proofs.Common.{◌≡◌, ℕ, ◌*◌, ◌≤◌, Bool, true, List, length, map, All, Option, Some, None, Result, Ok, Err, arith, ap, subst, ◌∙◌}
+use Rattle.std.proofs.Common.{◌≡◌, ℕ, ◌+◌, ◌*◌, ◌≤◌, Bool, true, List, length, map, All, Option, Some, None, Result, Ok, Err, arith, ap, subst, ◌∙◌}
 use Rattle.std.specs.FinMap.{contains_key, entries, len, len-entries}
 use Rattle.std.specs.Prelude.{ℤ, IfOk, MatchResult}
 use Rattle.std.proofs.lemmas.List.Elements.{All-from_recursion}
+use Rattle.site_base.specs.Chains.{◌>>=◌}
 use Rattle.site_base.specs.Places.{Files}
 use Rattle.site_base.specs.declared.settings.Settings.{Settings}
 use Rattle.site_config.specs.declared.config.Config.{Config}
@@ -11,7 +12,8 @@ use Rattle.site_items.specs.Defaults.{by_strength}
 use Rattle.site_items.specs.declared.static_file.StaticFile.{StaticFile}
 use Rattle.site_reader.specs.Data.{data_tree}
 use Rattle.site_reader.specs.Found.{IsFirst}
-use Rattle.site_reader.specs.Lawful.{Differ, HasVariables, IsLawful, KnowsItself}
+use Rattle.site_reader.specs.Lawful.{Differ, HasVariables, IsLawful, KnowsItself, most_made}
+use Rattle.site_reader.specs.Making as making
 use Rattle.site_reader.specs.Paginating.{paginated}
 use Rattle.site_reader.specs.Placing.{Placed, builds_drafts, builds_future, placed}
 use Rattle.site_reader.specs.Sites as sites
@@ -24,6 +26,7 @@ use Rattle.site_reader.proofs.Differing.{differ, distinct, distinct_differ, each
 use Rattle.site_reader.proofs.IncludeLaws.{includes_differ}
 use Rattle.site_reader.proofs.ItemLaws.{copies_add, files_placed, items_by_add}
 use Rattle.site_reader.proofs.LayoutLaws.{layouts_differ, layouts_have}
+use Rattle.site_reader.proofs.MadeItems.{AreMade, made_items}
 use Rattle.site_reader.proofs.PagedItems.{ArePaged, paged_items}
 use Rattle.site_reader.proofs.VariableLaws.{AreOwn, items_know}
 use Rattle.site_reader.proofs.Weights.{found_before, found_value, weight, weight_length}
@@ -35,7 +38,9 @@ record Parts (config : Config) (now : ℤ) (future : Bool) (files : List Placed)
   config_is : config ≡ made.config
   read : List SiteItem
   items : sites.items config now future files ≡ Ok read
-  paged : paginated config read ≡ Ok made.items
+  paged : List SiteItem
+  with_pages : paginated config read ≡ Ok paged
+  archived : making.archived config paged ≡ Ok made.items
   layouts : sites.layouts files ≡ Ok made.layouts
   includes : sites.includes files ≡ Ok made.includes
   copies : sites.copies config files ≡ made.statics
@@ -51,13 +56,16 @@ parts config now future files made e =
     let layouts = found_before (sites.layouts files) _ made tree.2 in
     let includes = found_before (sites.includes files) _ made layouts.2 in
     let items = found_before (sites.items config now future files) _ made includes.2 in
-    let paged = found_before (paginated config items.0) _ made items.2 in
-    let is = clash_free _ _ made paged.2 in
+    let all = found_before (paginated config items.0 >>= making.archived config) _ made items.2 in
+    let paged = found_before (paginated config items.0) (making.archived config) all.0 all.1 in
+    let is = clash_free _ _ made all.2 in
     record {
       config_is = ap (λ (s : Site). s.config) is;
       read = items.0;
       items = items.1;
-      paged = paged.1 ∙ ap (λ (s : Site). Ok s.items) is;
+      paged = paged.0;
+      with_pages = paged.1;
+      archived = paged.2 ∙ ap (λ (s : Site). Ok s.items) is;
       layouts = layouts.1 ∙ ap (λ (s : Site). Ok s.layouts) is;
       includes = includes.1 ∙ ap (λ (s : Site). Ok s.includes) is;
       copies = ap (λ (s : Site). s.statics) is;
@@ -108,18 +116,21 @@ module _ {files : Files} {now : ℤ} {settings : Settings} {config : Config} {ma
   own : AreOwn config here.read
   own = items_know config (by_strength config.defaults) now (builds_future config settings) (map (placed config (builds_drafts config settings)) (entries files)) here.read here.items
 
-  with_pages : ArePaged config here.read made.items
+  with_pages : ArePaged config here.read here.paged
   with_pages =
       let paths = distinct (λ (i : SiteItem). i.name.path) here.read (λ q. omega (arith, items_weigh (named q), file_once files q)) in
-      paged_items config here.read made.items (sized (config_formed files config given.config_read)) paths own here.paged
+      paged_items config here.read here.paged (sized (config_formed files config given.config_read)) paths own here.with_pages
+
+  with_archives : AreMade config here.paged made.items
+  with_archives = made_items config here.paged made.items with_pages.apart with_pages.other with_pages.has here.archived
 
   items_have : All (λ (item : SiteItem). KnowsItself item × HasVariables config item) made.items
-  items_have = All-from_recursion (λ (item : SiteItem). KnowsItself item × HasVariables config item) made.items with_pages.has
+  items_have = All-from_recursion (λ (item : SiteItem). KnowsItself item × HasVariables config item) made.items with_archives.has
 
   lawful : IsLawful files made
   lawful = record {
-    few = omega (arith, with_pages.few, weight_length here.read, weight_length (entries files), len-entries files, items_weigh (λ path. 1));
-    items_differ = distinct_differ (λ (i : SiteItem). i.name) made.items with_pages.apart;
+    few = omega (arith, with_archives.few, with_pages.few, weight_length here.read, weight_length (entries files), len-entries files, items_weigh (λ path. 1));
+    items_differ = distinct_differ (λ (i : SiteItem). i.name) made.items with_archives.apart;
     layouts_differ = layouts_differ (map (placed config (builds_drafts config settings)) (entries files)) made.layouts here.layouts;
     includes_differ = includes_differ files config (builds_drafts config settings) made.includes here.includes;
     items_known = λ place other inside. (items_have place other inside).0;
@@ -138,10 +149,10 @@ read_lawfully files now settings config (Ok made) config_read moment is = lawful
 read_lawfully files now settings config (Err error) config_read moment is = tt
 
 -- what is held passes no limit
-pub few_under : (files : Files) (read : Result Site SiteError) → len files ≤ most_files → IfOk read (IsLawful files) → IfOk read (λ made. length made.items ≤ 2 * most_files)
+pub few_under : (files : Files) (read : Result Site SiteError) → len files ≤ most_files → IfOk read (IsLawful files) → IfOk read (λ made. length made.items ≤ 2 * most_files + most_made)
 few_under files (Ok made) within is = omega (arith, within, is.few)
 few_under files (Err error) within is = tt
 
-pub few_held : (files : Files) (read : Result Site SiteError) → IfOk read (λ _. CanBeHeld files) → IfOk read (IsLawful files) → IfOk read (λ made. length made.items ≤ 2 * most_files)
+pub few_held : (files : Files) (read : Result Site SiteError) → IfOk read (λ _. CanBeHeld files) → IfOk read (IsLawful files) → IfOk read (λ made. length made.items ≤ 2 * most_files + most_made)
 few_held files (Ok made) held is = few_under files (Ok made) held.few is
 few_held files (Err error) held is = tt

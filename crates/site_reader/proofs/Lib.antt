@@ -13,8 +13,10 @@ mod NeighbourLaws
 mod PageLaws
 mod PageRows
 mod PagedItems
+mod MadeItems
 mod PlacementLaws
 mod RankOrder
+mod NameOrder
 mod RankRows
 mod RisingLaws
 mod SorterLaws

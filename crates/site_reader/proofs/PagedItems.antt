@@ -55,6 +55,11 @@ none_above : (items : List SiteItem) → AllByRecursion (λ (i : SiteItem). i.na
 none_above [] own = tt
 none_above (item ∷ items) own = (omega (arith, own.0), none_above items own.1)
 
+-- what has no part is no part 1
+not_first : (items : List SiteItem) → AllByRecursion (λ (i : SiteItem). i.name.part ≡ 0) items → AllByRecursion (λ (i : SiteItem). i.name.part ≢ 1) items
+not_first [] own = tt
+not_first (item ∷ items) own = (λ one. absurd (omega (arith, own.0, one)), not_first items own.1)
+
 -- ---- variables
 
 part_above : (config : Config) (kind : Kind) (number : ℕ) → 1 ≤ number → part_group config kind number ≡ suc (group_of config kind)
@@ -164,6 +169,7 @@ record Hold (config : Config) (few number : ℕ) (items : List SiteItem) : Type 
   least : 2 ≤ number
   count : length items + 2 ≡ few + number
   below : AllByRecursion (λ (i : SiteItem). i.name.part < number) items
+  other : AllByRecursion (λ (i : SiteItem). i.name.part ≢ 1) items
   apart : Distinct (map (λ (i : SiteItem). i.name) items)
   has : AllByRecursion (Has config) items
 
@@ -178,6 +184,7 @@ page_holds config paging template few number posts items made e hold =
       least = omega (arith, hold.least);
       count = omega (arith, hold.count, length-append items (page ∷ []));
       below = all_pushed (λ (i : SiteItem). i.name.part < suc number) items page (all_below number items hold.below) (omega (arith, part));
+      other = all_pushed (λ (i : SiteItem). i.name.part ≢ 1) items page hold.other (λ one. absurd (omega (arith, one, part, hold.least)));
       apart = subst Distinct (sym (mapped_one (λ (i : SiteItem). i.name) items page))
           (distinct_pushed (map (λ (i : SiteItem). i.name) items) page.name hold.apart
           (new_name page.name items (subst (λ n. AllByRecursion (λ (i : SiteItem). i.name.part < n) items) (sym part) hold.below)));
@@ -197,6 +204,8 @@ count_least v n e = absurd (cc (e))
 -- what is said of the items with their pages, of which there are no more than items before
 pub record ArePaged (config : Config) (read made : List SiteItem) : Type 0 where
   pub few : length made ≤ 2 * length read
+  -- none is part 1, which pages of pagination never are
+  pub other : AllByRecursion (λ (i : SiteItem). i.name.part ≢ 1) made
   pub apart : Distinct (map (λ (i : SiteItem). i.name) made)
   pub has : AllByRecursion (Has config) made
 
@@ -219,6 +228,7 @@ module _ (config : Config) (read made : List SiteItem) where
         least = omega arith;
         count = omega (arith, length-set read is.place first);
         below = none_above (slice_set read is.place first) (all_set (λ (i : SiteItem). i.name.part ≡ 0) read is.place first own.parts template.part);
+        other = not_first (slice_set read is.place first) (all_set (λ (i : SiteItem). i.name.part ≡ 0) read is.place first own.parts template.part);
         apart = names_distinct (slice_set read is.place first) (subst Distinct (sym paths) apart);
         has = all_set (Has config) read is.place first own.has (first_has config paging template (is.post ∷ is.posts));
       } in
@@ -226,6 +236,7 @@ module _ (config : Config) (read made : List SiteItem) where
       pages_keep paging (Hold config (length read)) (page_holds config paging template (length read)) (paging.total_pages - 1) 2 (drop is.per_page (is.post ∷ is.posts)) (slice_set read is.place first) made is.spread start in
       record {
         few = omega (arith, end.count, pages_few (length (is.post ∷ is.posts)) is.per_page (counted is.per_page is.counted size), posts_few read, ap length is.are);
+        other = end.other;
         apart = end.apart;
         has = end.has;
       }
@@ -234,5 +245,5 @@ module _ (config : Config) (read made : List SiteItem) where
   paged_items size apart own e = by (paginated_is config read made e)
     where
       by : (read ≡ made) ⊎ IsSpread config read made → ArePaged config read made
-      by (inl is) = subst (ArePaged config read) is (record { few = omega arith; apart = names_distinct read apart; has = own.has })
+      by (inl is) = subst (ArePaged config read) is (record { few = omega arith; other = not_first read own.parts; apart = names_distinct read apart; has = own.has })
       by (inr is) = spread size apart own is

@@ -15,12 +15,12 @@ use Rattle.site_reader.specs.contracts.rank.GroupPlaceOrd.TheImpl as places
 use Rattle.site_reader.specs.contracts.rank.RankOrd.TheImpl as ranks
 use Rattle.site_reader.specs.contracts.sort_key.SortKeyOrd.TheImpl as keys
 
-first : (a b : Ordering) → ordering_then a b ≡ Equal → a ≡ Equal
+pub first : (a b : Ordering) → ordering_then a b ≡ Equal → a ≡ Equal
 first Less b e = e
 first Equal b e = refl
 first Greater b e = e
 
-later : (a b : Ordering) → ordering_then a b ≡ Equal → b ≡ Equal
+pub later : (a b : Ordering) → ordering_then a b ≡ Equal → b ≡ Equal
 later Less b e = absurd (cc (e))
 later Equal b e = e
 later Greater b e = absurd (cc (e))

@@ -75,11 +75,11 @@ same_set k v ps = get_set k k v ps ∙ ap (λ b. if b then Some v else get k ps)
 
 -- ---- an item's own path, URL and extension
 
-record Known (path address : List ℕ) (vars : Pairs) : Type 0 where
-  its_path : get (codes "path") vars ≡ Some (text path)
-  its_relative_path : get (codes "relative_path") vars ≡ Some (text path)
-  its_url : get (codes "url") vars ≡ Some (text address)
-  its_ext : get (codes "ext") vars ≡ Some (text (extension (file_name path)))
+pub record Known (path address : List ℕ) (vars : Pairs) : Type 0 where
+  pub its_path : get (codes "path") vars ≡ Some (text path)
+  pub its_relative_path : get (codes "relative_path") vars ≡ Some (text path)
+  pub its_url : get (codes "url") vars ≡ Some (text address)
+  pub its_ext : get (codes "ext") vars ≡ Some (text (extension (file_name path)))
 
 -- a key that is none of these
 record IsOther (key : List ℕ) : Type 0 where
@@ -137,6 +137,10 @@ module _ (path address : List ℕ) where
   known_kind config kind.Post moment vars known = known_document true false _ _ _ _ _ vars known
   known_kind config kind.Draft moment vars known = known_document true true _ _ _ _ _ vars known
   known_kind config (kind.Document n) moment vars known = known_document false false _ _ nil _ _ vars known
+
+  -- a page tells its own
+  pub page_known : (given : Pairs) → Known path address (of.page_variables path address (of.placed path address given))
+  page_known given = known_page _ _ (of.placed path address given) (known_placed given)
 
 -- ---- an item that is found
 

@@ -1,5 +1,5 @@
 -- When a site is lawful with the files that it was read from.
-use Rattle.std.specs.Prelude.{◌≡◌, ◌≢◌, ◌≤◌, ◌⊎◌, ◌*◌, ℕ, zero, suc, ℤ, true, nat_lt, List, codes, length, All, AllPairs, Option, None}
+use Rattle.std.specs.Prelude.{◌≡◌, ◌≢◌, ◌≤◌, ◌⊎◌, ◌+◌, ◌*◌, ℕ, zero, suc, ℤ, true, nat_lt, List, codes, length, All, AllPairs, Option, None}
 use Rattle.std.specs.FinMap.{contains_key, len}
 use Rattle.site_base.specs.Places.{Files}
 use Rattle.site_base.specs.Plain.{Pairs, Plain, hash, nil, site_item, text}
@@ -36,7 +36,7 @@ pub record KnowsItself (item : SiteItem) : Type 0 where
 abbrev pub IsNeighbour : Plain → Type 0
 IsNeighbour v = (v ≡ nil) ⊎ ((path : List ℕ) × (v ≡ site_item path 0))
 
--- the group of an item of a kind, and behind it that of the pages which pagination generates
+-- the group of an item of a kind, and after it that of generated pages
 abbrev pub part_group : Config → Kind → ℕ → ℕ
 part_group config kind zero = group_of config kind
 part_group config kind (suc part) = suc (group_of config kind)
@@ -51,16 +51,16 @@ abbrev pub HasPaginator : SiteItem → Type 0
 HasPaginator item =
     (plain item.paginator ≡ nil) ⊎ ((paging : Paging) × (posts : List ItemName) × (plain item.paginator ≡ hash (paginator paging (page_of item.name.part) posts)))
 
--- the URL for which the variables of an item were made: its own; of a page that pagination generates, that of its template
+-- the URL for which the variables of an item were made: its own; of a page that pagination generates, that of its template; of another generated page its own again
 abbrev pub IsAddress : SiteItem → List ℕ → Type 0
 IsAddress item address = item.name.part ≡ 0 → address ≡ item.url
 
--- a page that pagination generates has its own address over that of its template
+-- a generated page has its own address over the one for which its variables were made
 abbrev pub part_variables : ℕ → List ℕ → Pairs → Pairs
 part_variables zero address vars = vars
 part_variables (suc part) address vars = addressed address vars
 
--- the variables of an item have their forms: over those that front matter and defaults give it stand those of its kind, of a document the two neighbours, and of a page that pagination generates its own address. After Jekyll 4's manual, "Variables"
+-- the variables of an item have their forms: over those that front matter and defaults give it stand those of its kind, of a document the two neighbours, and of a generated page its own address. After Jekyll 4's manual, "Variables"
 pub record HasVariables (config : Config) (item : SiteItem) : Type 0 where
   pub kind : Kind
   pub in_group : part_group config kind item.name.part ≡ item.group
@@ -83,9 +83,13 @@ pub record HasVariables (config : Config) (item : SiteItem) : Type 0 where
 abbrev pub HasHash : LayoutFile → Type 0
 HasHash layout = (pairs : Pairs) × (plain layout.vars ≡ hash pairs)
 
+-- the pages that are made besides: at most 100,000 archives of tags and as many of categories, a feed and a map of the site
+abbrev pub most_made : ℕ
+most_made = 200002
+
 pub record IsLawful (files : Files) (site : Site) : Type 0 where
-  -- there are no more items than files, and as many pages that pagination generates
-  pub few : length site.items ≤ 2 * len files
+  -- there are no more items than files, as many pages that pagination generates, and those that are made besides
+  pub few : length site.items ≤ 2 * len files + most_made
   -- no two items have the same name, nor two layouts, nor two includes
   pub items_differ : Differ (λ item. item.name) site.items
   pub layouts_differ : Differ (λ layout. layout.name) site.layouts

@@ -6,6 +6,7 @@ pub mod Ranks
 pub mod Neighbours
 pub mod Outputs
 pub mod Paginating
+pub mod Making
 pub mod Configured
 pub mod Sites
 pub mod Lawful

@@ -1,5 +1,5 @@
 -- A site as data: what its files make, or its first fault. The configuration comes first, then data files, layouts, includes and
--- items, each in the order of paths, then the pages of a pagination, and at last paths that cannot stand side by side.
+-- items, each in the order of paths, then the pages of a pagination and of archives, and at last paths that cannot stand side by side.
 use Rattle.std.specs.Prelude.{◌≡◌, ℕ, ℤ, Bool, List, [], ◌∷◌, ◌++◌, length, map, Option, Some, None, Ok, Err}
 use Rattle.std.specs.BTreeMap.{insert_entry}
 use Rattle.std.specs.FinMap.{entries, get}
@@ -23,6 +23,7 @@ use Rattle.site_items.specs.declared.static_file.StaticFile.{StaticFile}
 pub use Rattle.site_reader.specs.Configured.{config_in, configured, text_config}
 use Rattle.site_reader.specs.Data.{data_tree}
 use Rattle.site_reader.specs.Found.{Found, each, in_file}
+use Rattle.site_reader.specs.Making.{archived}
 use Rattle.site_reader.specs.Neighbours.{site_items}
 use Rattle.site_reader.specs.Outputs.{first_clash}
 use Rattle.site_reader.specs.Paginating.{paginated}
@@ -110,7 +111,7 @@ placed_site config now future files =
     layouts files >>= λ layouts.
     includes files >>= λ includes.
     items config now future files >>= λ made.
-    paginated config made >>= λ items.
+    paginated config made >>= archived config >>= λ items.
     clash_free (record {
       config = config;
       items = items;

@@ -1,12 +1,12 @@
 // Reading that keeps what it found.
-ghost use Rattle.std.specs.Prelude.{◌≡◌, ◌*◌, ◌≤◌, IfOk, OnErr, MatchResult, Ok, length};
+ghost use Rattle.std.specs.Prelude.{◌≡◌, ◌+◌, ◌*◌, ◌≤◌, IfOk, OnErr, MatchResult, Ok, length};
 ghost use Rattle.std.specs.FinMap as finite;
 ghost use Rattle.site_dates.specs.Moment.{IsMoment};
 ghost use Rattle.site_dates.specs.Offset.{IsOffset};
 ghost use Rattle.site_reader.specs.Configured.{config_in};
 ghost use Rattle.site_reader.specs.Found.{IsFirst};
 ghost use Rattle.site_reader.specs.Kept.{parsed, parsed_under};
-ghost use Rattle.site_reader.specs.Lawful.{IsLawful};
+ghost use Rattle.site_reader.specs.Lawful.{IsLawful, most_made};
 ghost use Rattle.site_reader.specs.Paginating.{HasSize};
 ghost use Rattle.site_reader.specs.Placements.{AreUnder, IsSound, Tells, bytes_in};
 ghost use Rattle.site_reader.specs.Placing.{builds_drafts};
@@ -87,7 +87,7 @@ impl KeptReader {
         ensures read { let found = site held.now moment settings.now in
             MatchResult result (λ made. found ≡ Ok made) (IsFirst found) }
         ensures lawful { IfOk result (IsLawful held.now) }
-        ensures few { IfOk result (λ made. length made.items ≤ 2 * most_files) }
+        ensures few { IfOk result (λ made. length made.items ≤ 2 * most_files + most_made) }
         ensures moment { IfOk result (λ made. made.moment ≡ moment) }
         ensures kept { IfOk result (λ _. self.new.kept ≡ held.now) }
         ensures parsed { IfOk result (λ _. parsed settings.now self.old.kept held.now ≡ Ok self.new.parsed) }

@@ -2,6 +2,7 @@
 //! copied.
 #![tactic(auto)]
 
+mod archiving;
 mod configuration;
 mod copies;
 mod data;
@@ -14,6 +15,7 @@ mod kept_files;
 mod kept_item;
 mod kept_reader;
 mod layouts;
+mod making;
 mod name;
 mod neighbours;
 mod outputs;

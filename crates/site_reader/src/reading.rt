@@ -1,10 +1,10 @@
 // The reading of a site.
-ghost use Rattle.std.specs.Prelude.{◌≡◌, ◌*◌, ◌≤◌, IfOk, MatchResult, Ok, length, map};
+ghost use Rattle.std.specs.Prelude.{◌≡◌, ◌+◌, ◌*◌, ◌≤◌, IfOk, MatchResult, Ok, length, map};
 ghost use Rattle.std.specs.FinMap as finite;
 ghost use Rattle.site_dates.specs.Moment.{IsMoment};
 ghost use Rattle.site_dates.specs.Offset.{IsOffset};
 ghost use Rattle.site_reader.specs.Found.{IsFirst};
-ghost use Rattle.site_reader.specs.Lawful.{IsLawful};
+ghost use Rattle.site_reader.specs.Lawful.{IsLawful, most_made};
 ghost use Rattle.site_reader.specs.Paginating.{HasSize};
 ghost use Rattle.site_items.specs.Defaults.{by_strength};
 ghost use Rattle.site_reader.specs.Placements.{AreKnown};
@@ -12,6 +12,7 @@ ghost use Rattle.site_reader.specs.Placing.{seen};
 ghost use Rattle.site_reader.specs.Sites.{IsConfig, clash_free, config, items, items_by, placed_site, site, site_with};
 ghost use Rattle.source_tree.specs.Limits.{CanBeHeld, most_files};
 
+use crate::archiving::archived;
 use crate::configuration::config;
 use crate::copies::copies;
 use crate::data::data_tree;
@@ -33,8 +34,8 @@ use std::alloc::Global;
 /// The site that the held files make at a moment, with its items in the order in which they are rendered.
 ///
 /// `Fault` comes exactly where the files have a fault of reading, and names the first: of the configuration; then of data
-/// files, of layouts, of includes and of items, each in the order of their paths; and at last two outputs of which one
-/// would be a folder of the other (`PathClash`).
+/// files, of layouts, of includes and of items, each in the order of their paths; of pages that are generated; and at last
+/// two outputs of which one would be a folder of the other (`PathClash`).
 #[tactic(auto, unfolding(crate::specs::Sites::site))]
 pub fn read_site(
     alloc: Global,
@@ -46,7 +47,7 @@ pub fn read_site(
     ensures read { let found = site held.now moment settings.now in
         MatchResult result (λ made. found ≡ Ok made) (IsFirst found) }
     ensures lawful { IfOk result (IsLawful held.now) }
-    ensures few { IfOk result (λ made. length made.items ≤ 2 * most_files) }
+    ensures few { IfOk result (λ made. length made.items ≤ 2 * most_files + most_made) }
     ensures moment { IfOk result (λ made. made.moment ≡ moment) }
 {
     match config(alloc, held) {
@@ -101,6 +102,7 @@ pub(crate) fn placed_site(
     let includes = includes(alloc, files)?;
     let items = ruled_items(alloc, files, now, future, &config)?;
     let items = paginated(alloc, &config, items)?;
+    let items = archived(alloc, &config, items)?;
     let statics = copies(alloc, &config, files)?;
     clash_free(
         alloc,

@@ -1,6 +1,6 @@
 // What the held files stand for.
 ghost use Rattle.std.specs.Prelude.{◌≡◌, ◌≤ℤ◌, ◌≤◌, ◌+◌, ◌*◌, IfOk, Ok, length, pos, true};
-ghost use Rattle.site_reader.specs.Lawful.{IsLawful};
+ghost use Rattle.site_reader.specs.Lawful.{IsLawful, most_made};
 ghost use Rattle.site_reader.specs.Sites as sites;
 ghost use Rattle.site_script.specs.Line.{is_moment};
 ghost use Rattle.site_session.specs.Full.{fault_of, full, whole, written_by};
@@ -81,7 +81,7 @@ fn site_one_by_one<R: Renderer<Meaning = PageMeaning>>(
     tally: &mut Tally,
 ) -> Result<Output, SiteError>
     requires lawful { IsLawful held.now site.now }
-    requires few { length site.now.items ≤ 2 * most_files }
+    requires few { length site.now.items ≤ 2 * most_files + most_made }
     requires moment { pos 0 ≤ℤ site.now.moment }
     ensures { IsOutput in_order held.now memo.old (Ok site.now) result memo.new tally.old tally.new }
 {
@@ -121,7 +121,7 @@ fn site_by_crew<H: Threads + Wait + Sync, R: Renderer<Meaning = PageMeaning> + S
     tally: &mut Tally,
 ) -> Result<Output, SiteError>
     requires lawful { IsLawful held.now site.now }
-    requires few { length site.now.items ≤ 2 * most_files }
+    requires few { length site.now.items ≤ 2 * most_files + most_made }
     requires moment { pos 0 ≤ℤ site.now.moment }
     requires jobs { (1 ≤ crew.now.jobs) × (crew.now.jobs ≤ 64) }
     ensures { IsOutput in_any_order held.now memo.old (Ok site.now) result memo.new tally.old tally.new }
@@ -156,7 +156,7 @@ fn site_anew<R: Renderer<Meaning = PageMeaning>>(
     tally: &mut Tally,
 ) -> Result<Output, SiteError>
     requires lawful { IsLawful held.now site.now }
-    requires few { length site.now.items ≤ 2 * most_files }
+    requires few { length site.now.items ≤ 2 * most_files + most_made }
     requires moment { pos 0 ≤ℤ site.now.moment }
     ensures { IsOutputAnew held.now (Ok site.now) result tally.old tally.new }
 {
@@ -208,7 +208,7 @@ fn output_of(
     round: Result<Round, RoundError>,
 ) -> Result<Output, SiteError>
     requires counted { IfOk round (λ round. round.reused + length round.why ≡ length (item_names site.now)) }
-    requires few { length site.now.items ≤ 2 * most_files }
+    requires few { length site.now.items ≤ 2 * most_files + most_made }
     ensures { Comes held.now site.now round result }
 {
     match round {
@@ -220,7 +220,7 @@ fn output_of(
 
 fn output_by(alloc: Global, held: &Held, site: &Site, round: Round) -> Result<Output, Memory>
     requires counted { round.reused + length round.why ≡ length (item_names site.now) }
-    requires few { length site.now.items ≤ 2 * most_files }
+    requires few { length site.now.items ≤ 2 * most_files + most_made }
     ensures { IfOk result (λ made. made ≡ output_by held.now site.now round) }
 {
     let rendered = round.why.len() as u32;

@@ -1,8 +1,8 @@
 // How a session reads its site.
-ghost use Rattle.std.specs.Prelude.{◌≡◌, ◌≤ℤ◌, ◌*◌, ◌≤◌, IfOk, MatchResult, Ok, length, pos};
+ghost use Rattle.std.specs.Prelude.{◌≡◌, ◌≤ℤ◌, ◌+◌, ◌*◌, ◌≤◌, IfOk, MatchResult, Ok, length, pos};
 ghost use Rattle.site_dates.specs.Moment.{IsMoment};
 ghost use Rattle.site_reader.specs.Found.{IsFirst};
-ghost use Rattle.site_reader.specs.Lawful.{IsLawful};
+ghost use Rattle.site_reader.specs.Lawful.{IsLawful, most_made};
 ghost use Rattle.site_reader.specs.Sites as sites;
 ghost use Rattle.source_tree.specs.Limits.{most_files};
 
@@ -34,7 +34,7 @@ impl Reading {
         ensures read { let found = sites.site held.now moment settings.now in
             MatchResult result (λ made. found ≡ Ok made) (IsFirst found) }
         ensures lawful { IfOk result (IsLawful held.now) }
-        ensures few { IfOk result (λ made. length made.items ≤ 2 * most_files) }
+        ensures few { IfOk result (λ made. length made.items ≤ 2 * most_files + most_made) }
         ensures moment { IfOk result (λ made. made.moment ≡ moment) }
     {
         match self {
