@@ -21,18 +21,20 @@ COUNT = 700
 KEYS = (
     "exclude", "include", "keep_files", "collections", "defaults", "limit_posts", "paginate", "timezone", "excerpt_separator", "plugins", "gems", "theme", "remote_theme", "source", "destination",
     "collections_dir", "layouts_dir", "data_dir", "includes_dir", "sass", "feed", "environment", "exclude_globs", "unpublished", "future", "show_drafts", "permalink", "markdown_ext", "ignore_theme_config",
+    "jekyll-archives", "make_archives", "archive_layout",
 )
 KINDS = (
     7, -1, 0, True, False, None, "", "x", "/etc/x", "../x", "_posts", "minima", "a\x00b", "a\nb", "é" * 300, "Europe/Paris", "/:title", [], [7], [None], [[]], [{}], [""], ["/"], ["."], ["*", "[z-a]", "{a,b"],
     ["x", "_posts", "*.txt"], ["jekyll-feed", "jekyll-sitemap", "jekyll-redirect-from"], {}, {"a": 7}, {"a": None}, {"": ""}, {"c": {"output": "yes"}}, {"c": {"output": True, "permalink": "/:no"}}, {"path": "a\nb.xml"},
     {"collections": 7}, {"collections": {"c": 7}}, {"categories": [7]}, {"sass_dir": 7, "load_paths": [7, "../.."], "style": []}, {"style": "odd", "sass_dir": "/etc"},
     [{"scope": {"path": "", "type": ["a"]}, "values": {"a": 1}}], [{"scope": {"path": "", "type": {"a": 1}}, "values": {"published": False}}], [{"scope": [], "values": {}}], [7, {"values": 7}, {"scope": 7}],
+    ["jekyll-archives"], ["tags", "categories"], {"enabled": "all"}, {"enabled": ["tags", 7, [], "year"], "layout": ["a"], "permalinks": 7, "layouts": {"tag": {}}},
     [{"scope": {"path": ["a"]}, "values": {"published": []}}], [{"scope": {"path": "[z-a]*"}, "values": {"published": "oFF"}}], [{"scope": {"path": "x", "type": "c"}, "values": {"published": None, "layout": 7}}],
 )
 
 
 def try_all(work: Path, failures: Failures) -> None:
-    for part in (layouts, forms_that_stay, feeds, redirects, values):
+    for part in (layouts, forms_that_stay, feeds, archives, redirects, values):
         folder = work / part.__name__
         folder.mkdir()
         part(folder, failures)
@@ -88,6 +90,26 @@ def feeds(work: Path, failures: Failures) -> None:
         done = adopt(site)
         failures.expect(f"feed: {feed}: {done.stdout}{done.stderr}", (done.returncode, "Traceback" in done.stderr), (0, False))
         failures.expect(f"feed: {feed}: each line is whole", all(line.startswith(("done: ", "left: ", "/")) for line in done.stdout.splitlines()), True)
+
+
+def archives(work: Path, failures: Failures) -> None:
+    """What `jekyll-archives` of the configuration may hold, and whether something comes of it."""
+    for number, (settings, is_made) in enumerate((
+        ("7", False), ("[]", False), ("{}", False), ("{enabled: 7}", False), ("{enabled: 1}", False), ("{enabled: tags}", False), ("{enabled: {tags: true}}", False), ("{enabled: [7, [tags], year]}", False),
+        ("{enabled: true}", True), ("{enabled: all, layout: 7}", True), ("{enabled: [tags], layout: [a]}", True), ("{enabled: [tags, tags], layouts: 7}", True), ("{enabled: [tags], layouts: {tag: {a: b}}}", True),
+        ('{enabled: [tags], layout: "a\\nb"}', True), ('{enabled: [tags], layout: "a\\0b"}', True), ("{enabled: [tags], layout: ../../etc/x}", True), (f"{{enabled: [tags], layout: {'a/' * 600}}}", True),
+        ("{enabled: [tags], permalinks: 7}", True), ("{enabled: [tags], permalinks: {tag: 7}}", False), ("{enabled: [tags], permalinks: {tag: [a]}}", False), ('{enabled: [tags], permalinks: {tag: "/a\\nb/"}}', False),
+        ("{enabled: [tags], permalinks: {tag: tag/:name/}}", True), ("{enabled: [tags], permalinks: {tag: /:type/:name}}", False), ("{enabled: [tags], slug_mode: {a: b}}", True),
+    )):
+        site = work / f"s{number}"
+        write_files(site, {"_config.yml": f"plugins: [jekyll-archives]\njekyll-archives: {settings}\n", "index.html": ITEM, "_layouts/archive.html": "{{ page.type }}\n"})
+        done = adopt(site)
+        failures.expect(f"jekyll-archives: {settings}: {done.stdout}{done.stderr}", (done.returncode, "Traceback" in done.stderr), (0, False))
+        failures.expect(f"jekyll-archives: {settings}: make_archives is written: {done.stdout}", "make_archives makes the archives of" in done.stdout, is_made)
+        failures.expect(f"jekyll-archives: {settings}: each line is whole", all(line.startswith(("done: ", "left: ", "/")) for line in done.stdout.splitlines()), True)
+        if is_made:
+            again = adopt(work / f"s{number}-adopted", "--write")
+            expect_said(f"jekyll-archives: {settings} again", again, failures, 0, "there is nothing to adopt (0 done")
 
 
 def redirects(work: Path, failures: Failures) -> None:

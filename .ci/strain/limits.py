@@ -13,6 +13,7 @@ FILES = 50_000
 SITE = 512 * MIB
 FULL = SITE // MOST
 BUILT = 1024 * MIB
+ARCHIVES = 100_000
 # A page whose text and output have 16 MiB each.
 LONGEST = FRONT + b'{% assign a = "aaaaaaaaaaaaaaaa" %}{% for i in (1..20) %}{% assign a = a | append: a %}{% endfor %}{{ a }}'
 
@@ -120,6 +121,32 @@ def length_of_what_is_built(room: Room) -> None:
     # A copied file counts before the first item.
     write(room, {"z.html": FRONT, "a.txt": b"x"})
     leaves_the_output(room, ["once"], f"scanned {pages + 2}", f"fault F21 0 {pages - 1:02}.html")
+
+
+def tagged(count: int) -> dict[str, bytes]:
+    """A site whose post has so many tags, which have archives."""
+    tags = ", ".join(map(str, range(count)))
+    return {"_config.yml": b"make_archives: [tags]\n", "_posts/2020-01-01-a.html": f"---\npermalink: /a/\ntags: [{tags}]\n---\nA\n".encode()}
+
+
+@case("limits: 100,000 archives of one word are taken, and with one more nothing is written", 60)
+def number_of_archives(room: Room) -> None:
+    write(room, tagged(ARCHIVES))
+    checks(room, "100,000 tags", 0, "scanned 2", "clean")
+    write(room, tagged(ARCHIVES + 1))
+    leaves_the_output(room, ["build", "--jobs", "4"], "scanned 2", "fault F6 0 _config.yml")
+    # It is told before outputs that clash.
+    write(room, {"tag": b"x"})
+    leaves_the_output(room, ["once"], "scanned 3", "fault F6 0 _config.yml")
+    # The archives of each word count by themselves.
+    write(room, {"_config.yml": b"make_archives: [categories]\n"})
+    checks(room, "100,001 tags without archives", 0, "scanned 3", "clean")
+
+
+@case("limits: a post with a million tags is told as soon as it is read", 60, in_memory=True)
+def far_too_many_archives(room: Room) -> None:
+    write(room, tagged(10 * ARCHIVES))
+    leaves_the_output(room, ["once"], "scanned 2", "fault F6 0 _config.yml")
 
 
 @case("limits: a clock before 1970 or after 9999 is told, and so is no other")

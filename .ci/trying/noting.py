@@ -40,6 +40,13 @@ ODD = {
     "options of other kinds": {"_config.yml": "liquid: {strict_filters: [a], error_mode: {b: c}, 1: 2, '': x}\n"},
     "orders of other kinds": {"_config.yml": "collections: {c: {order: {a: b}, sort_by: [x]}, posts: 5, d: [a]}\n"},
     "an order of all kinds": {"_config.yml": "collections: {posts: {order: 5, sort_by: [a]}, c: {order: [[a], {b: c}, ~, /, //a.md, '', 1]}}\n", "_c/a.md": "---\n---\n"},
+    "archives of other kinds": {"_config.yml": "plugins: [jekyll-archives]\njekyll-archives: {enabled: [1, [tags], tags], permalinks: [a], layouts: {tag: [b]}, slug_mode: {c: d}}\nmake_archives: {tags: true}\narchive_layout: 5\n"},
+    "archives of a plugin that are no mapping": {"_config.yml": "plugins: [jekyll-archives]\njekyll-archives: [a]\nmake_archives: [[tags], 1]\n"},
+    "tags of other kinds": {
+        "_config.yml": "make_archives: [tags, categories]\ndefaults:\n  - scope: {path: ''}\n    values: {tags: {a: b}, category: [1, ~, [x]]}\n",
+        "_posts/2020-01-01-a.html": "---\ntags: [1, ~, [x, y], {a: b}, '']\ncategories: 5\ntag: {a: b}\n---\n",
+        "tag/1/index.html": "---\npermalink: [a]\n---\n",
+    },
     "a path of the feed with a zero byte": {"_config.yml": 'feed: {path: "a\\0b"}\nplugins: [jekyll-feed]\n'},
 }
 

@@ -9,7 +9,8 @@ from typing import Optional
 from adopting.adoption import Adoption
 from adopting.copying import copy_site
 from adopting.files import (
-    adopt_templates, adopt_theme, coming_out, mend_front_matter, read_configuration, write_feeds, write_redirects, write_sitemap, write_styles,
+    adopt_templates, adopt_theme, coming_out, mend_front_matter, read_configuration, write_archives, write_feeds, write_redirects, write_sitemap,
+    write_styles,
 )
 from adopting.placing import finish
 from adopting.settings import adopt_configuration
@@ -71,6 +72,7 @@ def adopt(adoption: Adoption, theme: Optional[Path]) -> None:
     adopt_templates(adoption)
     write_feeds(adoption, config)
     write_sitemap(adoption, config)
+    write_archives(adoption)
     write_redirects(adoption)
     write_styles(adoption)
     refuse_leaks(adoption)

@@ -9,6 +9,7 @@ from typing import Optional
 
 import sass
 from adopting.adoption import Adoption, refuse_too_much
+from adopting.archives import PLUGIN as ARCHIVES, Plan, by_kind, in_words, plan_of, type_in
 from adopting.outcome import ask
 from adopting.publication import is_published_as_written
 from adopting.settings import plugins_of, question_of, read_mended, save, texts
@@ -263,6 +264,43 @@ def write_sitemap(adoption: Adoption, config: Hash) -> None:
     if "jekyll-sitemap" in plugins_of(config, adoption.original):
         write_page(adoption, "sitemap.xml", ["layout: none"], template("sitemap.xml"), "is new: what jekyll-sitemap makes, as a template")
         write_page(adoption, "robots.txt", ["layout: none"], template("robots.txt"), "is new: what jekyll-sitemap makes, as a template")
+
+
+def write_archives(adoption: Adoption) -> None:
+    """The archives of jekyll-archives, by the keys that make them. The notes say what is left of the plugin."""
+    settings, config = read_configuration(adoption)
+    if ARCHIVES not in plugins_of(config, adoption.original):
+        return
+    plan = plan_of(config)
+    if not plan.words:
+        return
+    if "make_archives" not in config:
+        set_archives(adoption, settings, config, plan)
+    for path in adoption.files():
+        if os.path.splitext(path)[0] == f"_layouts/{config.get('archive_layout')}":
+            ask_for_kind(adoption, path)
+
+
+def set_archives(adoption: Adoption, settings: Settings, config: Hash, plan: Plan) -> None:
+    place = f"{CONFIG}:{settings.line(ARCHIVES)}"
+    settings.set("make_archives", plan.words)
+    config["make_archives"] = plan.words
+    what = f"make_archives makes the archives of {in_words(plan.words)} now"
+    if "archive_layout" not in config:
+        settings.set("archive_layout", plan.layout)
+        config["archive_layout"] = plan.layout
+        what += f", in the layout {plan.layout}"
+    save(adoption, settings, config)
+    adoption.done(place, what)
+
+
+def ask_for_kind(adoption: Adoption, path: str) -> None:
+    """In the layout of archives `page.type` is `page.kind`."""
+    text = read_text(adoption.folder / path)
+    line = type_in(text)
+    if line:
+        write_text(adoption.folder / path, by_kind(text))
+        adoption.done(f"{path}:{line}", "page.type is page.kind now: archives have their kind there")
 
 
 def write_redirects(adoption: Adoption) -> None:

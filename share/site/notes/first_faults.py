@@ -19,7 +19,7 @@ WHOLE = 1 << 20
 # The keys that have a form: docs/PROFILE.md, "The configuration".
 KEYS = (
     "baseurl", "url", "permalink", "markdown_ext", "include", "exclude", "keep_files", "collections", "defaults", "paginate", "paginate_path",
-    "excerpt_separator", "timezone", "future", "unpublished", "show_drafts", "liquid",
+    "excerpt_separator", "timezone", "future", "unpublished", "show_drafts", "liquid", "make_archives", "archive_layout",
 )
 # What to do where the program's own sentence says too little.
 REMEDIES = {
@@ -35,6 +35,14 @@ REMEDIES = {
     "unpublished": "it is true or false",
     "show_drafts": "it is true or false",
     "liquid": "it is a mapping, in which strict_variables and strict_filters are true or false",
+    "make_archives": "it is a list of tags, of categories, or of both: [tags, categories]",
+    "archive_layout": "it is a text, the name of a layout",
+}
+# What to do where the pages that a key makes are a fault, and its value is none: in the order in which the program makes them.
+REMEDIES_OF_PAGES = {
+    "paginate_path": "with the number of a page it is no path; write a shorter one, as /page:num",
+    "make_archives": "the path of an archive would be longer than 1,024 bytes, or tags or categories would have more than 100,000 archives; "
+    "shorten the long tag or category, or take the word out",
 }
 TEXTS = ("_layouts/", "_includes/", "_data/", CONFIG)
 
@@ -76,6 +84,8 @@ def all_faults(folder: Path, program: str, *options: str) -> list[Fault]:
                 return found
             if fault.path == CONFIG and fault.code == "F6":
                 fault = with_key(fault, room, program)
+                if not fault.key:
+                    fault = of_pages(fault, room, program, *options)
             if fault.path == CONFIG or fault.path not in steps:
                 found.append(fault)
             steps[fault.path] = steps.get(fault.path, 0) + 1
@@ -101,6 +111,22 @@ def with_key(fault: Fault, room: Path, program: str) -> Fault:
             if first_fault(run(program, alone, "check")):
                 return replace(fault, line=place[0] + 1, sentence=f"{key}: {REMEDIES.get(key, fault.sentence)}", key=key)
     return fault
+
+
+def of_pages(fault: Fault, room: Path, program: str, *options: str) -> Fault:
+    """The fault of a setting that makes pages, with the key without which it is gone."""
+    text = read_text(room / CONFIG)
+    settings, found = Settings(text), fault
+    # The last to be made is the first to be taken out: an earlier fault hides a later one.
+    for key in reversed(REMEDIES_OF_PAGES):
+        place = settings.place(key)
+        settings.remove(key)
+        write_text(room / CONFIG, settings.text())
+        if place and str(first_fault(run(program, room, "check", *options))) != str(fault):
+            found = replace(fault, line=place[0] + 1, sentence=f"{key}: {REMEDIES_OF_PAGES[key]}", key=key)
+            break
+    write_text(room / CONFIG, text)
+    return found
 
 
 def copy(folder: Path, room: Path) -> None:

@@ -3,11 +3,13 @@ from __future__ import annotations
 
 import re
 
+from adopting.archives import PLUGIN as ARCHIVES, plan_of
 from adopting.globs import is_glob
 from adopting.kept_back import READ_FOLDERS, Lists, Program, Rules, leaks, lists_of_paths, shortened
 from adopting.scopes import mend
 from adopting.settings import kept_by_front, lacks_pagination, rules_of, texts, unpublished_copies
 from configuration import CONFIG, mapping
+from notes import archives
 from notes.site import Notes, Site
 
 ADOPT = "`site adopt` does that"
@@ -50,7 +52,7 @@ WITHOUT_WORK = {
 
 
 def add(notes: Notes, site: Site) -> None:
-    for part in (add_keys, add_options, add_plugins, add_lists, add_kept, add_scopes, add_permalinks, add_collections):
+    for part in (add_keys, add_options, add_plugins, archives.add, add_lists, add_kept, add_scopes, add_permalinks, add_collections):
         with notes.of(CONFIG):
             part(notes, site)
 
@@ -79,10 +81,12 @@ def add_plugins(notes: Notes, site: Site) -> None:
     path = str(feed.get("path") or "feed.xml") if isinstance(feed, dict) else "feed.xml"
     made = {**DONE_BY, "jekyll-feed": path.lstrip("/")}
     for name in site.plugins():
-        if name in WITHOUT_WORK or made.get(name) in site.files:
+        if name in WITHOUT_WORK or made.get(name) in site.files or name == ARCHIVES and "make_archives" in site.config:
             continue
         place, line = (CONFIG, site.settings.line_with("plugins", name)) if name in texts(site.config.get("plugins")) else ("Gemfile", 0)
         remedy = f"a template has to make {made[name]}: {ADOPT}" if name in made else "write what it makes as a template"
+        if name == ARCHIVES and plan_of(site.config).words:
+            remedy = f"make_archives makes its pages: {ADOPT}"
         notes.add(place, line, f"the plugin {name} is not run", remedy)
     if lacks_pagination(site.config, site.folder):
         what = "posts are spread over pages (in Jekyll the plugin jekyll-paginate does that, which the site has not)"
