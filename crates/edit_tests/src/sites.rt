@@ -21,8 +21,13 @@ title: <I^J>
 <s^t>
 ";
 
-/// Lists by tags and by categories.
+/// Lists by tags and by categories, and their archives.
 pub(crate) const LABELS: &str = "
+@_config.yml
+make_archives: [<tags^categories^tags, categories>]
+archive_layout: <list^none>
+@_layouts/list.html
+{{ page.kind }} {{ page.title }}: {{ content }} {{ page.posts.first.title }} <1^2>
 @_posts/2024-01-0<1^2^3^4>-<a^b>.md
 ---
 title: <A^B^C>
@@ -200,14 +205,16 @@ name: <S^T>
 {{ site.data.shop.name }}
 ";
 
-/// Pages of posts.
+/// Pages of posts, and archives among them.
 pub(crate) const PAGINATORS: &str = "
 @_config.yml
+make_archives: [<tags^categories>]
 paginate: <1^2^3>
 paginate_path: <\"/page:num\"^\"/blog/p:num\">
 @_posts/2024-0<1^2^3^4>-01-<a^b>.md
 ---
 title: <A^B>
+tags: <x^y^x y>
 hidden: <false^false^true>
 ---
 <x^y>
