@@ -1,0 +1,13 @@
+pub mod EscapeLaws
+pub mod FeedDates
+pub mod FeedFields
+pub mod FeedItemLaws
+pub mod FeedLawProofs
+pub mod FeedOutputs
+pub mod FeedPostLaws
+pub mod FeedRun
+pub mod FeedSiteLaws
+pub mod FeedTexts
+pub mod FeedTree
+pub mod MetLaws
+pub mod PairLaws
