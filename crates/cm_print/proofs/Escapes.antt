@@ -4,7 +4,8 @@ use Rattle.std.specs.Prelude.{if◌then◌else◌}
 use Rattle.site_text.specs.Bytes.{line_feed, space}
 use Rattle.site_text.specs.Fronts.{run_len}
 use Rattle.markdown_grammar.specs.CodeSpans.{spaced}
-use Rattle.markdown_grammar.specs.Escaping.{escaped, escaped_byte}
+use Rattle.markdown_grammar.specs.Escaping.{escaped}
+use Rattle.site_text.specs.Urls.{escaped_byte}
 use Rattle.cm_print.specs.Escapes.{escape_byte, escaped_as, is_plain, turns}
 use Rattle.cm_print.specs.declared.escape.Escape.{Escape}
 use Rattle.cm_print.specs.declared.escape.Escape.TheVariants as escape

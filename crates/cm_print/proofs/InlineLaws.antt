@@ -3,7 +3,8 @@ use Rattle.std.proofs.Common.{◌≡◌, ◌∙◌, ap, sym, refl, ℕ, suc, Lis
 use Rattle.std.specs.Prelude.{Option, codes}
 use Rattle.std.proofs.lemmas.Grind.{flat_map-append}
 use Rattle.site_text.specs.Bytes.{line_feed}
-use Rattle.markdown_grammar.specs.Escaping.{escaped, escaped_byte, title_text, url_text}
+use Rattle.markdown_grammar.specs.Escaping.{escaped, title_text}
+use Rattle.site_text.specs.Urls.{escaped_byte, url_text}
 use Rattle.markdown_grammar.specs.InlineHtml.{alt, inline_html}
 use Rattle.markdown_grammar.specs.Inlines.{Inlines, code_span, emphasis, hard_break, image, link, no_inlines, raw_html, soft_break, strong, textual}
 use Rattle.cm_inlines.specs.Tokens.{Token, close_emphasis, close_image, close_link, close_strong, tokens}

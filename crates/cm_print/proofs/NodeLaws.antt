@@ -1,6 +1,7 @@
 -- Nodes print one after another.
 use Rattle.std.proofs.Common.{◌≡◌, ◌∙◌, ap, sym, refl, ℕ, suc, ◌+◌, ◌-◌, ◌<◌, ◌≤◌, List, [], ◌∷◌, ◌++◌, append_assoc, append-nil, length, drop, get_or, replicate, arith, length-append, drop-cons, add-one}
-use Rattle.markdown_grammar.specs.Escaping.{escaped, escaped_byte, url_byte, url_text}
+use Rattle.markdown_grammar.specs.Escaping.{escaped}
+use Rattle.site_text.specs.Urls.{escaped_byte, url_byte, url_text}
 use Rattle.markdown_grammar.specs.InlineHtml.{inline_html}
 use Rattle.markdown_grammar.specs.Inlines.{Inlines}
 use Rattle.cm_inlines.specs.Cells.{Cell, plain_tokens, token_of}

@@ -2,7 +2,8 @@
 use Rattle.std.proofs.Common.{append-nil, ◌⊎◌, inl, inr, Bor, Option, ◌≡◌, ◌∙◌, ap, sym, refl, ℕ, zero, suc, ◌<◌, ◌≤◌, Bool, true, false, cond, ◌==◌, List, [], ◌∷◌, ◌++◌, length, map, not, take, drop, arith}
 use Rattle.std.proofs.lemmas.Grind.{flat_map-append}
 use Rattle.std.proofs.lemmas.List.{length-drop, take-append-drop}
-use Rattle.markdown_grammar.specs.Escaping.{escaped, escaped_byte}
+use Rattle.markdown_grammar.specs.Escaping.{escaped}
+use Rattle.site_text.specs.Urls.{escaped_byte}
 use Rattle.site_text.specs.Bytes.{is_special}
 use Rattle.site_text.specs.Fronts.{run_len}
 use Rattle.cm_inlines.specs.Cells.{plain_tokens, sealed}

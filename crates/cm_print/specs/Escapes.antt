@@ -1,7 +1,7 @@
 -- Text as it is escaped in HTML, as in the examples of CommonMark 0.31.2; line ends in code are spaces by its section 6.1.
 use Rattle.std.specs.Prelude.{ℕ, ◌==◌, Bool, false, not, ◌||◌, List, [], ◌∷◌, flat_map, if◌then◌else◌}
 use Rattle.site_text.specs.Bytes.{line_feed, space}
-use Rattle.markdown_grammar.specs.Escaping.{escaped_byte}
+use Rattle.site_text.specs.Urls.{escaped_byte}
 use Rattle.cm_print.specs.declared.escape.Escape.{Escape}
 use Rattle.cm_print.specs.declared.escape.Escape.TheVariants as escape
 

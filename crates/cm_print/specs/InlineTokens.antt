@@ -1,7 +1,8 @@
 -- Inlines as HTML, one token after another (CommonMark 0.31.2, section 6): what opens and what closes has a tag of its own. In the description of an image there are no tags (section 6.4).
 use Rattle.std.specs.Prelude.{List, [], ◌∷◌, ◌++◌, ℕ, zero, suc, Option, codes}
 use Rattle.site_text.specs.Bytes.{line_feed}
-use Rattle.markdown_grammar.specs.Escaping.{escaped, title_text, url_text}
+use Rattle.markdown_grammar.specs.Escaping.{escaped, title_text}
+use Rattle.site_text.specs.Urls.{url_text}
 use Rattle.cm_inlines.specs.Tokens.{Token, close_emphasis, close_image, close_link, close_strong, code_token, hard_token, html_token, open_emphasis, open_image, open_link, open_strong, soft_token, text_token}
 
 -- outside of images, or in one with this title, inside of so many others that stand in it

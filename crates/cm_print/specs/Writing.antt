@@ -1,8 +1,6 @@
 -- Text that is written at the end of other text, within a limit.
-use Rattle.std.specs.Prelude.{◌≡◌, ◌<◌, ◌++◌, ℕ, ◌==◌, Bool, ◌||◌, List, length, codes, Result, MatchResult}
+use Rattle.std.specs.Prelude.{◌≡◌, ◌<◌, ◌++◌, ℕ, List, length, Result, MatchResult}
 use Rattle.std.specs.String.{string_bytes}
-use Rattle.site_text.specs.Bytes.{is_alnum}
-use Rattle.site_text.specs.Fronts.{has_one}
 use Rattle.markdown_grammar.specs.declared.html_error.HtmlError.{HtmlError}
 use Rattle.markdown_grammar.specs.declared.html_error.HtmlError.TheVariants as error
 use Rattle.cm_print.specs.declared.writer.Writer.{Writer}
@@ -21,10 +19,6 @@ Refuses old piece e = e ≡ error.TooLong → old.most < length (written old ++ 
 
 abbrev pub Prints : Writer → Writer → List ℕ → Result (Unit {0}) HtmlError → Type 0
 Prints old new piece result = MatchResult result (λ _. Writes old new piece) (Refuses old piece)
-
--- a byte that is not written as `%` and digits in an address
-abbrev pub stands_in_urls : ℕ → Bool
-stands_in_urls c = is_alnum c || has_one (λ d. d == c) (codes "-_.+!*'(),%#@?=;:/&$~")
 
 -- the text stands there in the end, or it does not fit
 pub record Stands (old new : Writer) (whole : List ℕ) : Type 0 where

@@ -1,7 +1,8 @@
 // Inlines as HTML.
 ghost use Rattle.std.specs.Prelude.{◌≡◌, ◌++◌, None, Some, codes, encode_utf8, replicate};
 ghost use Rattle.std.specs.Option.{option_copied};
-ghost use Rattle.markdown_grammar.specs.Escaping.{escaped, escaped_byte, title_text, url_text};
+ghost use Rattle.markdown_grammar.specs.Escaping.{escaped, title_text};
+ghost use Rattle.site_text.specs.Urls.{escaped_byte, url_text};
 ghost use Rattle.markdown_grammar.specs.CodeSpans.{spaced};
 ghost use Rattle.markdown_grammar.specs.Emphasis.{bracket_text};
 ghost use Rattle.markdown_grammar.specs.InlineHtml.{inline_html};

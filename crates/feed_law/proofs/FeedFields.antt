@@ -1,5 +1,5 @@
 -- What the outputs of the feed's template come to, each over a view that finds what a feed rests on.
-use Rattle.std.proofs.Common.{◌≡◌, ◌∙◌, refl, ap, sym, subst, ℕ, ◌==◌, nat_le, pos, Bool, true, false, List, [], ◌∷◌, ◌++◌, append_assoc, arith, length, map, take, codes, if◌then◌else◌}
+use Rattle.std.proofs.Common.{◌≡◌, ◌∙◌, refl, ap, sym, subst, ℕ, ◌==◌, nat_le, pos, Bool, true, false, List, [], ◌∷◌, ◌++◌, arith, length, map, take, codes, if◌then◌else◌}
 use Rattle.site_base.specs.Plain.{Plain, nil, bool, int, text, list, hash, site_item, range, Items, no_items, item, item_list, no_pairs, pair, count, count_pairs}
 use Rattle.site_base.specs.Values.{value_text}
 use Rattle.site_base.specs.declared.faults.SiteFault.{SiteFault}
@@ -10,7 +10,6 @@ use Rattle.filter_base.specs.Answers.{made, limited}
 use Rattle.filter_base.specs.Dates.{offset_in}
 use Rattle.filter_base.specs.Limits.{most_text, most_nesting, nests, unless, nesting_excess, fits}
 use Rattle.filter_base.specs.Lists.{is_blank}
-use Rattle.jekyll_filters.specs.Addresses.{behind_slash, without_last_slash}
 use Rattle.jekyll_filters.specs.Table as jekyll
 use Rattle.liquid_filters.specs.Table.{rows}
 use Rattle.liquid_grammar.specs.Expressions.{filter_of}
@@ -50,18 +49,16 @@ module _ (excerpts : Excerpting) (view : View) (p : Place) (url baseurl : Plain)
       interpret view (filtered excerpts p no_pairs (filter_of (codes "absolute_url") [] ∷ filter_of (codes "xml_escape") [] ∷ []) (text path))
       ≡ guarded (long t) (fault p) (guarded (long (escaped t)) (fault p) (Gave (text (escaped t))))
 
-  rooted_filtered : (rest : List ℕ) → Addressed (47 ∷ rest) (value_text url ++ (behind_slash (without_last_slash (value_text baseurl)) ++ 47 ∷ rest))
+  rooted_filtered : (rest : List ℕ) → Addressed (47 ∷ rest) (base_of url baseurl ++ 47 ∷ rest)
   unfolding jekyll.rows
   rooted_filtered rest =
-      let t : List ℕ = value_text url ++ (behind_slash (without_last_slash (value_text baseurl)) ++ 47 ∷ rest) in
+      let t : List ℕ = base_of url baseurl ++ 47 ∷ rest in
       rw (url-at, baseurl-at)
       (after_text excerpts view p (placed p (limited (Give (text t)))) t (λ w. filtered excerpts p no_pairs (filter_of (codes "xml_escape") [] ∷ []) w)
       (guarded (long (escaped t)) (fault p) (Gave (text (escaped t)))) (text_fits view p t) (xml_escaped excerpts view p (text t)))
 
   pub address_filtered : (path : List ℕ) → (rest : List ℕ) × (path ≡ 47 ∷ rest) → Addressed path (base_of url baseurl ++ path)
-  address_filtered path r =
-      subst (λ (x : List ℕ). Addressed x (base_of url baseurl ++ x)) (sym r.1)
-      (subst (λ (x : List ℕ). Addressed (47 ∷ r.0) x) (sym (append_assoc (value_text url) (behind_slash (without_last_slash (value_text baseurl))) (47 ∷ r.0))) (rooted_filtered r.0))
+  address_filtered path r = subst (λ (x : List ℕ). Addressed x (base_of url baseurl ++ x)) (sym r.1) (rooted_filtered r.0)
 
 -- ---- The site's title
 

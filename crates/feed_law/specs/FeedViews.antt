@@ -1,12 +1,12 @@
 -- What the look-ups of a feed find: the site's title, its addresses and its clock, and its newest posts.
-use Rattle.std.specs.Prelude.{◌≡◌, ℕ, nat_lt, nat_le, ℤ, Bool, false, List, [], ◌∷◌, ◌++◌, ◌==◌, length, map, take, codes, Some}
+use Rattle.std.specs.Prelude.{◌≡◌, ℕ, nat_lt, nat_le, ℤ, Bool, false, List, [], ◌∷◌, ◌==◌, length, map, take, codes, Some}
 use Rattle.site_base.specs.Plain.{Plain, text, list, site_item, Items, item_list}
 use Rattle.site_base.specs.Values.{value_text}
 use Rattle.filter_base.specs.Dates.{is_now, offset_in}
 use Rattle.filter_base.specs.Limits.{most_text, most_nesting, nests}
 use Rattle.filter_base.specs.Numerals.{is_digits}
-use Rattle.jekyll_filters.specs.Addresses.{behind_slash, without_last_slash}
 use Rattle.liquid_values.specs.StrictOptions.{present}
+use Rattle.permalinks.specs.Addresses.{front}
 use Rattle.read_record.specs.declared.key.Key.TheVariants.{Content, SiteVar, Var}
 use Rattle.read_record.specs.Queries.{View, Known}
 use Rattle.site_dates.specs.Format.{format_moment}
@@ -44,7 +44,7 @@ post_value p = site_item p.name.path p.name.part
 
 -- what stands in front of each address: the site's `url` and its `baseurl`
 abbrev pub base_of : Plain → Plain → List ℕ
-base_of url baseurl = value_text url ++ behind_slash (without_last_slash (value_text baseurl))
+base_of url baseurl = front (value_text url) (value_text baseurl)
 
 -- what a feed rests on
 pub record Given : Type 0 where

@@ -1,5 +1,5 @@
 -- Addresses in the site. After Jekyll 4's manual, "Liquid Filters": `relative_url`, `absolute_url`; what begins with a scheme: RFC 3986, section 3.1.
-use Rattle.std.specs.Prelude.{ℕ, ◌-◌, ◌==◌, Bool, false, not, ◌&&◌, List, [], ◌∷◌, ◌++◌, length, take, drop, slice_index, codes, if◌then◌else◌}
+use Rattle.std.specs.Prelude.{ℕ, ◌==◌, Bool, false, ◌&&◌, List, [], ◌∷◌, ◌++◌, drop, codes, if◌then◌else◌}
 use Rattle.site_base.specs.Plain.{Plain, text}
 use Rattle.site_base.specs.Values.{value_text}
 use Rattle.site_base.specs.declared.faults.FaultKind.{FaultKind}
@@ -7,6 +7,7 @@ use Rattle.site_text.specs.Bytes.{is_letter}
 use Rattle.site_text.specs.Classes.{is_in}
 use Rattle.site_text.specs.Fronts.{run_len}
 use Rattle.site_text.specs.declared.classes.Class.TheVariants as class
+use Rattle.permalinks.specs.Addresses.{behind_slash, front}
 use Rattle.read_record.specs.declared.key.Key.TheVariants.{SiteVar}
 use Rattle.read_record.specs.Queries.{Query, Give, Ask, bind}
 use Rattle.filter_base.specs.Answers.{made}
@@ -23,22 +24,9 @@ abbrev pub has_scheme : List ℕ → Bool
 has_scheme [] = false
 has_scheme (c ∷ cs) = is_letter c && begins_colon (drop (run_len (is_in class.Scheme) cs) cs)
 
--- not empty, and no `/` at the front
-abbrev pub lacks_slash : List ℕ → Bool
-lacks_slash [] = false
-lacks_slash (c ∷ cs) = not (c == 47)
-
--- behind one `/`, where it is not empty
-abbrev pub behind_slash : List ℕ → List ℕ
-behind_slash t = if lacks_slash t then 47 ∷ t else t
-
--- without one `/` at its end
-abbrev pub without_last_slash : List ℕ → List ℕ
-without_last_slash t = if slice_index t (length t - 1) == 47 then take (length t - 1) t else t
-
 -- a base and a path behind what stands before them
 abbrev pub address : List ℕ → List ℕ → List ℕ → List ℕ
-address before base path = before ++ (behind_slash (without_last_slash base) ++ behind_slash path)
+address before base path = front before base ++ behind_slash path
 
 -- the same, by the base of the site
 abbrev pub based : List ℕ → List ℕ → Query FaultKind Plain

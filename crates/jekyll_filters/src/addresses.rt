@@ -1,11 +1,12 @@
 // Addresses in the site.
-ghost use Rattle.std.specs.Prelude.{◌≡◌, ◌++◌, IfOk, OnOk, map};
+ghost use Rattle.std.specs.Prelude.{◌≡◌, IfOk, map};
 ghost use Rattle.site_base.specs.Values.{value_text};
 ghost use Rattle.site_base.specs.View.{plain};
 ghost use Rattle.filter_base.specs.Answers.{Gives};
-ghost use Rattle.jekyll_filters.specs.Addresses.{begins_colon, has_scheme, lacks_slash, behind_slash, without_last_slash, address, based, absolute_url, in_site, address_filter};
+ghost use Rattle.jekyll_filters.specs.Addresses.{begins_colon, has_scheme, address, based, absolute_url, in_site, address_filter};
 
 use filter_base::{Stop, no_more, site_variable};
+use permalinks::{front, push_path};
 use read_record::Look;
 use site_base::{Memory, Text, Value, value_text};
 use site_text::{Class, class_run, is_letter};
@@ -74,38 +75,9 @@ fn address(alloc: Global, before: Text, base: &Value, path: &str) -> Result<Text
     ensures { IfOk result (λ made. made ≡ address before (value_text (plain base.now)) path.now) }
 {
     let base = value_text(alloc, base)?;
-    let mut address = before;
-    push_path(&mut address, without_last_slash(base.as_str()))?;
+    let mut address = front(before, base.as_str())?;
     push_path(&mut address, path)?;
     Ok(address)
-}
-
-// Adds a path behind one `/`, where it is not empty.
-fn push_path(address: &mut Text, path: &str) -> Result<(), Memory>
-    ensures { OnOk result (address.new ≡ address.old ++ behind_slash path.now) }
-{
-    if lacks_slash(path.as_bytes()) {
-        address.push_str("/")?;
-    }
-    address.push_str(path)
-}
-
-fn lacks_slash(path: &[u8]) -> bool
-    ensures { result ≡ lacks_slash path.now }
-{
-    match path {
-        [first, ..] => *first != b'/',
-        [] => false,
-    }
-}
-
-fn without_last_slash(text: &str) -> &str
-    ensures { result.now ≡ without_last_slash text.now }
-{
-    match text.as_bytes() {
-        [.., b'/'] => &text[..text.len() - 1],
-        _ => text,
-    }
 }
 
 // Whether it begins with a letter, then letters, digits, `+`, `.` and `-`, and then `:`.

@@ -1,7 +1,8 @@
 -- Inlines as HTML.
 use Rattle.std.specs.Prelude.{List, [], codes, ℕ, ◌++◌, ◌∷◌}
 use Rattle.site_text.specs.Bytes.{line_feed}
-use Rattle.markdown_grammar.specs.Escaping.{escaped, title_text, url_text}
+use Rattle.markdown_grammar.specs.Escaping.{escaped, title_text}
+use Rattle.site_text.specs.Urls.{url_text}
 use Rattle.markdown_grammar.specs.Inlines.{Inlines, code_span, emphasis, hard_break, image, link, no_inlines, raw_html, soft_break, strong, textual}
 
 -- the text of an image's description: breaks give LF, and raw HTML nothing

@@ -1,3 +1,4 @@
+pub mod Addresses
 pub mod Dest
 pub mod Placeholders
 pub mod Slug

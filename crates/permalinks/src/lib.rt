@@ -1,6 +1,7 @@
-//! Permalinks: the URLs of items, the paths of their outputs, and slugs.
+//! Permalinks: the URLs of items, the paths of their outputs, slugs, and what stands in front of a path in an address.
 #![tactic(auto)]
 
+mod address;
 mod output;
 mod parts;
 mod placeholder;
@@ -8,6 +9,7 @@ mod slug;
 mod template;
 mod values;
 
+pub use address::{front, push_path};
 pub use output::dest;
 pub use parts::UrlParts;
 pub use placeholder::Placeholder;

@@ -1,16 +1,10 @@
 -- Texts as they are written in URLs, after RFC 3986, sections 2.1 to 2.3; a space as `+` is of HTML's forms.
-use Rattle.std.specs.Prelude.{ℕ, ◌+◌, ◌/◌, ◌%◌, ◌==◌, nat_lt, Bool, ◌||◌, List, [], ◌∷◌, codes, if◌then◌else◌}
+use Rattle.std.specs.Prelude.{ℕ, ◌==◌, Bool, ◌||◌, List, [], ◌∷◌, codes, if◌then◌else◌}
 use Rattle.std.specs.List.{list_any}
 use Rattle.site_text.specs.Bytes.{is_digit, is_letter}
+use Rattle.site_text.specs.Urls.{percent_byte}
 use Rattle.text_filters.specs.declared.urls.UrlCode.{UrlCode}
 use Rattle.text_filters.specs.declared.urls.UrlCode.TheVariants.{Query, Address}
-
-abbrev pub hex_digit : ℕ → ℕ
-hex_digit d = if nat_lt d 10 then 48 + d else 55 + d
-
--- `%` and two digits
-abbrev pub escaped_byte : ℕ → List ℕ
-escaped_byte c = 37 ∷ hex_digit (c / 16) ∷ hex_digit (c % 16) ∷ []
 
 -- letters, digits and these marks
 abbrev pub is_unreserved : ℕ → Bool
@@ -21,10 +15,10 @@ abbrev pub stays_in_addresses : ℕ → Bool
 stays_in_addresses c = is_unreserved c || list_any (λ d. d == c) (codes "!*'();:@&=+$,/?#[]%")
 
 abbrev pub query_byte : ℕ → List ℕ
-query_byte c = if is_unreserved c then c ∷ [] else if c == 32 then codes "+" else escaped_byte c
+query_byte c = if is_unreserved c then c ∷ [] else if c == 32 then codes "+" else percent_byte c
 
 abbrev pub address_byte : ℕ → List ℕ
-address_byte c = if stays_in_addresses c then c ∷ [] else escaped_byte c
+address_byte c = if stays_in_addresses c then c ∷ [] else percent_byte c
 
 abbrev pub url_byte : UrlCode → ℕ → List ℕ
 url_byte Query c = query_byte c

@@ -1,8 +1,9 @@
 // Texts as they are written in URLs.
-ghost use Rattle.std.specs.Prelude.{◌≡◌, ◌<◌, ◌++◌, flat_map, IfOk, OnOk};
+ghost use Rattle.std.specs.Prelude.{◌≡◌, ◌++◌, flat_map, IfOk, OnOk};
 ghost use Rattle.std.specs.String.{string_bytes};
-ghost use Rattle.text_filters.specs.Urls.{hex_digit, escaped_byte, is_unreserved, stays_in_addresses, query_byte, address_byte, url_byte};
+ghost use Rattle.text_filters.specs.Urls.{is_unreserved, stays_in_addresses, query_byte, address_byte, url_byte};
 
+use site_text::push_percent;
 use std::alloc::{AllocError, Global};
 
 /// How the bytes of a text are written in a URL.
@@ -42,7 +43,7 @@ fn push_query_byte(made: &mut String, byte: u8) -> Result<(), AllocError>
     } else if byte == b' ' {
         made.push('+')
     } else {
-        push_escaped(made, byte)
+        push_percent(made, byte)
     }
 }
 
@@ -52,27 +53,7 @@ fn push_address_byte(made: &mut String, byte: u8) -> Result<(), AllocError>
     if stays_in_addresses(byte) {
         made.push(byte as char)
     } else {
-        push_escaped(made, byte)
-    }
-}
-
-fn push_escaped(made: &mut String, byte: u8) -> Result<(), AllocError>
-    ensures { OnOk result (string_bytes made.new ≡ string_bytes made.old ++ escaped_byte byte) }
-{
-    made.push('%')?;
-    made.push(hex_digit(byte / 16) as char)?;
-    made.push(hex_digit(byte % 16) as char)
-}
-
-fn hex_digit(digit: u8) -> u8
-    requires { digit < 16 }
-    ensures is { result ≡ hex_digit digit }
-    ensures ascii { result < 128 }
-{
-    if digit < 10 {
-        b'0' + digit
-    } else {
-        b'7' + digit
+        push_percent(made, byte)
     }
 }
 

@@ -1,5 +1,5 @@
 use Rattle.std.proofs.Common.{◌≡◌, ◌++◌, drop}
-use Rattle.markdown_grammar.specs.Escaping.{url_text}
+use Rattle.site_text.specs.Urls.{url_text}
 use Rattle.cm_print.specs.Writing.{written}
 use Rattle.cm_print.proofs.writer.Writer.push_url.Given as goal
 
