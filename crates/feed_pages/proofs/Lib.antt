@@ -1,1 +1,3 @@
 mod FeedRows
+pub mod SitemapLaws
+mod SitemapRows

@@ -1,2 +1,4 @@
 pub mod Feed
 pub mod FeedTemplate
+pub mod Located
+pub mod Sitemap
