@@ -48,6 +48,8 @@ fn has_default_values(config: &Config) -> bool {
         && config.all.is_empty()
         && config.make_archives.as_slice().is_empty()
         && config.archive_layout.is_none()
+        && !config.make_feed
+        && !config.make_sitemap
 }
 
 #[test]
@@ -70,6 +72,9 @@ const WRONG: &[(&str, &str)] = &[
     ("make_archives: x", "make_archives"),
     ("make_archives: {tags: true}", "make_archives"),
     ("archive_layout: [a]", "archive_layout"),
+    ("make_feed: 1", "make_feed"),
+    ("make_sitemap: \"yes\"", "make_sitemap"),
+    ("make_sitemap: 1\nmake_feed: [a]", "make_feed"),
     ("- a", "not a mapping"),
 ];
 

@@ -1,4 +1,4 @@
--- What a configuration says, key by key, with the default of each, after Jekyll 4's manual, "Configuration Options", "Collections" and "Front Matter Defaults"; the keys of archives are this program's own.
+-- What a configuration says, key by key, with the default of each, after Jekyll 4's manual, "Configuration Options", "Collections" and "Front Matter Defaults"; the keys of archives, of the feed and of the sitemap are this program's own.
 use Rattle.std.specs.Prelude.{ℕ, ℤ, pos, nat_le, Bool, true, false, List, [], ◌∷◌, ◌++◌, codes, map, Option, Some, None, if◌then◌else◌, unwrap_or, fold, filter_map}
 use Rattle.std.specs.List.{list_any}
 use Rattle.std.specs.Option.{option_and_then}
@@ -120,5 +120,7 @@ config all = record {
   show_drafts = flag (setting (codes "show_drafts") all);
   make_archives = texts_or [] (setting (codes "make_archives") all);
   archive_layout = optional_text (setting (codes "archive_layout") all);
+  make_feed = flag (setting (codes "make_feed") all);
+  make_sitemap = flag (setting (codes "make_sitemap") all);
   all = pairs_in all;
 }

@@ -2,12 +2,12 @@
 use Rattle.std.specs.Prelude.{◌++◌, [], ◌∷◌, codes}
 use Rattle.site_base.specs.Plain.{Plain}
 use Rattle.site_config.specs.Forms.{setting}
-use Rattle.site_config.specs.Config.{text_or, optional_text, texts_or, excluded, collections_of, scopes_of}
+use Rattle.site_config.specs.Config.{text_or, optional_text, texts_or, flag, excluded, collections_of, scopes_of}
 use Rattle.site_config.specs.declared.parts.Addresses.{Addresses}
 use Rattle.site_config.specs.declared.parts.Choices.{Choices}
 use Rattle.site_config.specs.declared.parts.Documents.{Documents}
 use Rattle.site_config.specs.declared.parts.Breaks.{Breaks}
-use Rattle.site_config.specs.declared.parts.Archives.{Archives}
+use Rattle.site_config.specs.declared.parts.Generated.{Generated}
 
 abbrev pub addresses : Plain → Addresses
 addresses all = record {
@@ -36,8 +36,10 @@ breaks all = record {
   excerpt_separator = text_or (10 ∷ 10 ∷ []) (setting (codes "excerpt_separator") all);
 }
 
-abbrev pub archives : Plain → Archives
-archives all = record {
+abbrev pub generated : Plain → Generated
+generated all = record {
   make_archives = texts_or [] (setting (codes "make_archives") all);
   archive_layout = optional_text (setting (codes "archive_layout") all);
+  make_feed = flag (setting (codes "make_feed") all);
+  make_sitemap = flag (setting (codes "make_sitemap") all);
 }

@@ -1,4 +1,4 @@
--- The table of the keys that have a meaning, in its order; all but the last two are those of Jekyll 4's manual, "Configuration Options" and "Liquid Options".
+-- The table of the keys that have a meaning, in its order; all but the last four are those of Jekyll 4's manual, "Configuration Options" and "Liquid Options".
 use Rattle.std.specs.Prelude.{ℕ, not, List, [], ◌∷◌, codes, Option}
 use Rattle.std.specs.List.{find}
 use Rattle.std.specs.Option.{option_map}
@@ -14,7 +14,8 @@ rows =
     ∷ (codes "collections", form.Collections) ∷ (codes "defaults", form.Scopes) ∷ (codes "paginate", form.Count)
     ∷ (codes "paginate_path", form.PagePath) ∷ (codes "excerpt_separator", form.Separator) ∷ (codes "timezone", form.Offset)
     ∷ (codes "future", form.Flag) ∷ (codes "unpublished", form.Flag) ∷ (codes "show_drafts", form.Flag)
-    ∷ (codes "liquid", form.Liquid) ∷ (codes "make_archives", form.Archives) ∷ (codes "archive_layout", form.Text) ∷ []
+    ∷ (codes "liquid", form.Liquid) ∷ (codes "make_archives", form.Archives) ∷ (codes "archive_layout", form.Text)
+    ∷ (codes "make_feed", form.Flag) ∷ (codes "make_sitemap", form.Flag) ∷ []
 
 -- the first key of the table whose value has another form than the table asks
 abbrev pub wrong_key : Plain → Option (List ℕ)

@@ -42,6 +42,10 @@ pub struct Config {
     pub make_archives: TextList,
     /// The layout of these pages; none by default.
     pub archive_layout: Option<Text>,
+    /// Whether a feed of the newest posts is made; `false` by default.
+    pub make_feed: bool,
+    /// Whether a sitemap is made; `false` by default.
+    pub make_sitemap: bool,
     /// The whole mapping.
     pub all: Hash,
 }

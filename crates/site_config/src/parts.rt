@@ -1,10 +1,10 @@
 // The parts of a configuration that take memory, a few fields at a time.
 ghost use Rattle.std.specs.Prelude.{◌≡◌, IfOk};
 ghost use Rattle.site_config.specs.Forms.{given};
-ghost use Rattle.site_config.specs.Parts.{addresses, choices, documents, breaks, archives};
+ghost use Rattle.site_config.specs.Parts.{addresses, choices, documents, breaks, generated};
 
 use crate::collections::read_collections;
-use crate::reading::{INCLUDED, KEPT, excluded, optional_text, text_or, texts_or};
+use crate::reading::{INCLUDED, KEPT, excluded, flag, optional_text, text_or, texts_or};
 use crate::scopes::read_scopes;
 use crate::settings::setting;
 use crate::{Collection, Scope};
@@ -42,11 +42,13 @@ pub(crate) struct Breaks {
     pub excerpt_separator: Text,
 }
 
-/// Which labels have a page each, and the layout of these pages.
+/// Which pages are generated besides those of a pagination.
 #[derive(Drop)]
-pub(crate) struct Archives {
+pub(crate) struct Generated {
     pub make_archives: TextList,
     pub archive_layout: Option<Text>,
+    pub make_feed: bool,
+    pub make_sitemap: bool,
 }
 
 impl Addresses {
@@ -97,13 +99,15 @@ impl Breaks {
     }
 }
 
-impl Archives {
-    pub(crate) fn read(alloc: Global, all: Option<&Value>) -> Result<Archives, Memory>
-        ensures { IfOk result (λ made. made ≡ archives (given all.entry)) }
+impl Generated {
+    pub(crate) fn read(alloc: Global, all: Option<&Value>) -> Result<Generated, Memory>
+        ensures { IfOk result (λ made. made ≡ generated (given all.entry)) }
     {
-        Ok(Archives {
+        Ok(Generated {
             make_archives: texts_or(alloc, &[], setting("make_archives", all))?,
             archive_layout: optional_text(alloc, setting("archive_layout", all))?,
+            make_feed: flag(setting("make_feed", all)),
+            make_sitemap: flag(setting("make_sitemap", all)),
         })
     }
 }

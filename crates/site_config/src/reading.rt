@@ -7,7 +7,7 @@ ghost use Rattle.site_config.specs.Config.{config, text_or, optional_text, texts
 
 use crate::config::Config;
 use crate::names::{names_of, with_texts};
-use crate::parts::{Addresses, Archives, Breaks, Choices, Documents};
+use crate::parts::{Addresses, Breaks, Choices, Documents, Generated};
 use crate::settings::setting;
 use site_base::{Hash, Memory, Text, TextList, Value};
 use site_dates::read_offset;
@@ -41,7 +41,7 @@ pub(crate) fn read(alloc: Global, value: Value) -> Result<Config, Memory>
     let choices = Choices::read(alloc, all)?;
     let documents = Documents::read(alloc, all)?;
     let breaks = Breaks::read(alloc, all)?;
-    let archives = Archives::read(alloc, all)?;
+    let generated = Generated::read(alloc, all)?;
     Ok(Config {
         baseurl: addresses.baseurl,
         url: addresses.url,
@@ -59,8 +59,10 @@ pub(crate) fn read(alloc: Global, value: Value) -> Result<Config, Memory>
         future: flag(setting("future", all)),
         unpublished: flag(setting("unpublished", all)),
         show_drafts: flag(setting("show_drafts", all)),
-        make_archives: archives.make_archives,
-        archive_layout: archives.archive_layout,
+        make_archives: generated.make_archives,
+        archive_layout: generated.archive_layout,
+        make_feed: generated.make_feed,
+        make_sitemap: generated.make_sitemap,
         all: into_hash(alloc, value),
     })
 }

@@ -14,7 +14,7 @@ struct Row {
     form: Form,
 }
 
-const ROWS: [Row; 19] = [
+const ROWS: [Row; 21] = [
     Row {
         key: "baseurl",
         form: Form::Text,
@@ -90,6 +90,14 @@ const ROWS: [Row; 19] = [
     Row {
         key: "archive_layout",
         form: Form::Text,
+    },
+    Row {
+        key: "make_feed",
+        form: Form::Flag,
+    },
+    Row {
+        key: "make_sitemap",
+        form: Form::Flag,
     },
 ];
 

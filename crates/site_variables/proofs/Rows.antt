@@ -120,3 +120,11 @@ make_archives = refl
 archive_layout : site_variable sample (codes "archive_layout") ≡ nil
 unfolding variables
 archive_layout = refl
+
+make_feed : site_variable sample (codes "make_feed") ≡ bool false
+unfolding variables
+make_feed = refl
+
+make_sitemap : site_variable sample (codes "make_sitemap") ≡ bool false
+unfolding variables
+make_sitemap = refl

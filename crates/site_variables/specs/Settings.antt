@@ -1,4 +1,4 @@
--- The keys of a configuration that have a meaning, each with its value or its default. After Jekyll 4's manual, "Configuration Options" and "Liquid Options"; the keys of archives are this program's own.
+-- The keys of a configuration that have a meaning, each with its value or its default. After Jekyll 4's manual, "Configuration Options" and "Liquid Options"; the keys of archives, of the feed and of the sitemap are this program's own.
 use Rattle.std.specs.Prelude.{ℕ, false, List, codes, if◌then◌else◌}
 use Rattle.site_base.specs.Plain.{Plain, nil, bool, text, list, hash, no_items, Pairs, no_pairs, pair, onto_pairs}
 use Rattle.site_config.specs.Forms.{setting}
@@ -25,7 +25,9 @@ abbrev pub flags : Config → Pairs
 flags config =
     pair (codes "future") (bool config.future)
     (pair (codes "unpublished") (bool config.unpublished)
-    (pair (codes "show_drafts") (bool config.show_drafts) no_pairs))
+    (pair (codes "show_drafts") (bool config.show_drafts)
+    (pair (codes "make_feed") (bool config.make_feed)
+    (pair (codes "make_sitemap") (bool config.make_sitemap) no_pairs))))
 
 -- what a key has in the configuration's mapping, and where that is nil another value
 abbrev pub given_or : Plain → Config → List ℕ → Plain

@@ -44,7 +44,14 @@ fn set_flags(alloc: Global, made: &mut Hash, config: &Config) -> Result<(), Memo
 {
     set(alloc, made, "future", Value::Bool(config.future))?;
     set(alloc, made, "unpublished", Value::Bool(config.unpublished))?;
-    set(alloc, made, "show_drafts", Value::Bool(config.show_drafts))
+    set(alloc, made, "show_drafts", Value::Bool(config.show_drafts))?;
+    set(alloc, made, "make_feed", Value::Bool(config.make_feed))?;
+    set(
+        alloc,
+        made,
+        "make_sitemap",
+        Value::Bool(config.make_sitemap),
+    )
 }
 
 // What stands in the configuration's own mapping.
