@@ -10,10 +10,11 @@ use Rattle.site_config.specs.declared.config.Config.{Config}
 use Rattle.site_dates.specs.Moment.{IsMoment}
 use Rattle.site_items.specs.Defaults.{by_strength}
 use Rattle.site_items.specs.declared.static_file.StaticFile.{StaticFile}
+use Rattle.site_reader.specs.Archived.{HasArchives, IsArchived}
 use Rattle.site_reader.specs.Data.{data_tree}
 use Rattle.site_reader.specs.Found.{IsFirst}
 use Rattle.site_reader.specs.Lawful.{Differ, HasVariables, IsLawful, KnowsItself, most_made}
-use Rattle.site_reader.specs.Making as making
+use Rattle.site_reader.specs.Generating as generating
 use Rattle.site_reader.specs.Paginating.{paginated}
 use Rattle.site_reader.specs.Placing.{Placed, builds_drafts, builds_future, placed}
 use Rattle.site_reader.specs.Sites as sites
@@ -26,38 +27,39 @@ use Rattle.site_reader.proofs.Differing.{differ, distinct, distinct_differ, each
 use Rattle.site_reader.proofs.IncludeLaws.{includes_differ}
 use Rattle.site_reader.proofs.ItemLaws.{copies_add, files_placed, items_by_add}
 use Rattle.site_reader.proofs.LayoutLaws.{layouts_differ, layouts_have}
-use Rattle.site_reader.proofs.MadeItems.{AreMade, made_items}
+use Rattle.site_reader.proofs.GeneratedItems.{AreGenerated, generated_items}
 use Rattle.site_reader.proofs.PagedItems.{ArePaged, paged_items}
+use Rattle.site_reader.proofs.PostLaws.{posts_first}
 use Rattle.site_reader.proofs.VariableLaws.{AreOwn, items_know}
 use Rattle.site_reader.proofs.Weights.{found_before, found_value, weight, weight_length}
 
 -- ---- the parts of a site
 
 -- what was found in the files for each part of a site
-record Parts (config : Config) (now : ℤ) (future : Bool) (files : List Placed) (made : Site) : Type 0 where
-  config_is : config ≡ made.config
-  read : List SiteItem
-  items : sites.items config now future files ≡ Ok read
-  paged : List SiteItem
-  with_pages : paginated config read ≡ Ok paged
-  archived : making.archived config paged ≡ Ok made.items
-  layouts : sites.layouts files ≡ Ok made.layouts
-  includes : sites.includes files ≡ Ok made.includes
-  copies : sites.copies config files ≡ made.statics
-  moment : now ≡ made.moment
+pub record Parts (config : Config) (now : ℤ) (future : Bool) (files : List Placed) (made : Site) : Type 0 where
+  pub config_is : config ≡ made.config
+  pub read : List SiteItem
+  pub items : sites.items config now future files ≡ Ok read
+  pub paged : List SiteItem
+  pub with_pages : paginated config read ≡ Ok paged
+  pub generated : generating.generated config (sites.copies config files) paged ≡ Ok made.items
+  pub layouts : sites.layouts files ≡ Ok made.layouts
+  pub includes : sites.includes files ≡ Ok made.includes
+  pub copies : sites.copies config files ≡ made.statics
+  pub moment : now ≡ made.moment
 
 clash_free : (site : Site) (clash : Option (List ℕ)) (made : Site) → sites.no_clash site clash ≡ Ok made → site ≡ made
 clash_free site None made e = found_value site made e
 clash_free site (Some path) made e = absurd (cc (e))
 
-parts : (config : Config) (now : ℤ) (future : Bool) (files : List Placed) (made : Site) → sites.placed_site config now future files ≡ Ok made → Parts config now future files made
+pub parts : (config : Config) (now : ℤ) (future : Bool) (files : List Placed) (made : Site) → sites.placed_site config now future files ≡ Ok made → Parts config now future files made
 parts config now future files made e =
     let tree = found_before (data_tree files) _ made e in
     let layouts = found_before (sites.layouts files) _ made tree.2 in
     let includes = found_before (sites.includes files) _ made layouts.2 in
     let items = found_before (sites.items config now future files) _ made includes.2 in
-    let all = found_before (paginated config items.0 >>= making.archived config) _ made items.2 in
-    let paged = found_before (paginated config items.0) (making.archived config) all.0 all.1 in
+    let all = found_before (paginated config items.0 >>= generating.generated config (sites.copies config files)) _ made items.2 in
+    let paged = found_before (paginated config items.0) (generating.generated config (sites.copies config files)) all.0 all.1 in
     let is = clash_free _ _ made all.2 in
     record {
       config_is = ap (λ (s : Site). s.config) is;
@@ -65,7 +67,7 @@ parts config now future files made e =
       items = items.1;
       paged = paged.0;
       with_pages = paged.1;
-      archived = paged.2 ∙ ap (λ (s : Site). Ok s.items) is;
+      generated = paged.2 ∙ ap (λ (s : Site). Ok s.items) is;
       layouts = layouts.1 ∙ ap (λ (s : Site). Ok s.layouts) is;
       includes = includes.1 ∙ ap (λ (s : Site). Ok s.includes) is;
       copies = ap (λ (s : Site). s.statics) is;
@@ -75,13 +77,13 @@ parts config now future files made e =
 -- ---- a site under a configuration
 
 -- what is needed of the parts of a site to tell that it is lawful
-record Given (files : Files) (now : ℤ) (settings : Settings) (config : Config) (made : Site) : Type 0 where
-  config_read : sites.config files ≡ Ok config
-  moment : IsMoment now
-  read : sites.site_with files now settings config ≡ Ok made
+pub record Given (files : Files) (now : ℤ) (settings : Settings) (config : Config) (made : Site) : Type 0 where
+  pub config_read : sites.config files ≡ Ok config
+  pub moment : IsMoment now
+  pub read : sites.site_with files now settings config ≡ Ok made
 
 module _ {files : Files} {now : ℤ} {settings : Settings} {config : Config} {made : Site} (given : Given files now settings config made) where
-  here : Parts config now (builds_future config settings) (map (placed config (builds_drafts config settings)) (entries files)) made
+  pub here : Parts config now (builds_future config settings) (map (placed config (builds_drafts config settings)) (entries files)) made
   here = parts config now (builds_future config settings) (map (placed config (builds_drafts config settings)) (entries files)) made given.read
 
   -- the items before pagination weigh no more than files
@@ -114,23 +116,23 @@ module _ {files : Files} {now : ℤ} {settings : Settings} {config : Config} {ma
   formed = subst IsFormed here.config_is (config_formed files config given.config_read)
 
   own : AreOwn config here.read
-  own = items_know config (by_strength config.defaults) now (builds_future config settings) (map (placed config (builds_drafts config settings)) (entries files)) here.read here.items
+  own = items_know config (posts_first config (config_formed files config given.config_read)) (by_strength config.defaults) now (builds_drafts config settings) (builds_future config settings) (entries files) here.read here.items
 
-  with_pages : ArePaged config here.read here.paged
+  pub with_pages : ArePaged config here.read here.paged
   with_pages =
       let paths = distinct (λ (i : SiteItem). i.name.path) here.read (λ q. omega (arith, items_weigh (named q), file_once files q)) in
       paged_items config here.read here.paged (sized (config_formed files config given.config_read)) paths own here.with_pages
 
-  with_archives : AreMade config here.paged made.items
-  with_archives = made_items config here.paged made.items with_pages.apart with_pages.other with_pages.has here.archived
+  whole : AreGenerated config here.paged made.items
+  whole = generated_items config (sites.copies config (map (placed config (builds_drafts config settings)) (entries files))) here.paged made.items with_pages.apart with_pages.other with_pages.has here.generated
 
   items_have : All (λ (item : SiteItem). KnowsItself item × HasVariables config item) made.items
-  items_have = All-from_recursion (λ (item : SiteItem). KnowsItself item × HasVariables config item) made.items with_archives.has
+  items_have = All-from_recursion (λ (item : SiteItem). KnowsItself item × HasVariables config item) made.items whole.has
 
   lawful : IsLawful files made
   lawful = record {
-    few = omega (arith, with_archives.few, with_pages.few, weight_length here.read, weight_length (entries files), len-entries files, items_weigh (λ path. 1));
-    items_differ = distinct_differ (λ (i : SiteItem). i.name) made.items with_archives.apart;
+    few = omega (arith, whole.few, with_pages.few, weight_length here.read, weight_length (entries files), len-entries files, items_weigh (λ path. 1));
+    items_differ = distinct_differ (λ (i : SiteItem). i.name) made.items whole.apart;
     layouts_differ = layouts_differ (map (placed config (builds_drafts config settings)) (entries files)) made.layouts here.layouts;
     includes_differ = includes_differ files config (builds_drafts config settings) made.includes here.includes;
     items_known = λ place other inside. (items_have place other inside).0;
@@ -143,10 +145,18 @@ module _ {files : Files} {now : ℤ} {settings : Settings} {config : Config} {ma
     configuration = formed.says;
   }
 
+  archived : IsArchived made
+  archived word = subst (λ (c : Config). HasArchives c made.items word) here.config_is (whole.archives word)
+
 pub read_lawfully : (files : Files) (now : ℤ) (settings : Settings) (config : Config) (read : Result Site SiteError) → sites.config files ≡ Ok config → IsMoment now
     → MatchResult read (λ made. sites.site_with files now settings config ≡ Ok made) (IsFirst (sites.site_with files now settings config)) → IfOk read (IsLawful files)
 read_lawfully files now settings config (Ok made) config_read moment is = lawful (record { config_read = config_read; moment = moment; read = is })
 read_lawfully files now settings config (Err error) config_read moment is = tt
+
+pub read_archived : (files : Files) (now : ℤ) (settings : Settings) (config : Config) (read : Result Site SiteError) → sites.config files ≡ Ok config → IsMoment now
+    → MatchResult read (λ made. sites.site_with files now settings config ≡ Ok made) (IsFirst (sites.site_with files now settings config)) → IfOk read IsArchived
+read_archived files now settings config (Ok made) config_read moment is = archived (record { config_read = config_read; moment = moment; read = is })
+read_archived files now settings config (Err error) config_read moment is = tt
 
 -- what is held passes no limit
 pub few_under : (files : Files) (read : Result Site SiteError) → len files ≤ most_files → IfOk read (IsLawful files) → IfOk read (λ made. length made.items ≤ 2 * most_files + most_made)

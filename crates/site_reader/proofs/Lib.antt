@@ -1,24 +1,28 @@
-mod Collected
-mod ConfigurationLaws
-mod DataLaws
-mod Differing
-mod EachLaws
-mod FirstPlaceLaws
-mod IncludeLaws
-mod ItemLaws
-mod KeptLaws
-mod LawfulSites
-mod LayoutLaws
-mod NeighbourLaws
-mod PageLaws
-mod PageRows
-mod PagedItems
-mod MadeItems
-mod PlacementLaws
-mod RankOrder
-mod NameOrder
-mod RankRows
-mod RisingLaws
-mod SorterLaws
-mod VariableLaws
-mod Weights
+pub mod Collected
+pub mod ConfigurationLaws
+pub mod DataLaws
+pub mod Differing
+pub mod EachLaws
+pub mod FirstPlaceLaws
+pub mod IncludeLaws
+pub mod ItemLaws
+pub mod KeptLaws
+pub mod LawfulSites
+pub mod LayoutLaws
+pub mod NeighbourLaws
+pub mod PageLaws
+pub mod PageRows
+pub mod PagedItems
+pub mod MadeItems
+pub mod GeneratedItems
+pub mod MapLaws
+pub mod PlacementLaws
+pub mod PostLaws
+pub mod RankOrder
+pub mod NameOrder
+pub mod RankRows
+pub mod RisingLaws
+pub mod SorterLaws
+pub mod VariableLaws
+pub mod Weights
+pub mod WinnerLaws

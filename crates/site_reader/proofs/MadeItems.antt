@@ -37,17 +37,17 @@ use Rattle.site_reader.proofs.NameOrder.{name_same, name_total}
 use Rattle.site_reader.proofs.VariableLaws.{Has, page_known, same_set}
 use Rattle.site_reader.proofs.Weights.{found_before, found_value}
 
-abbrev name_of : SiteItem → ItemName
+abbrev pub name_of : SiteItem → ItemName
 name_of i = i.name
 
 -- ---- lists
 
 module _ {A : Type 0} where
-  all_joined : (P : A → Type 0) (xs ys : List A) → AllByRecursion P xs → AllByRecursion P ys → AllByRecursion P (xs ++ ys)
+  pub all_joined : (P : A → Type 0) (xs ys : List A) → AllByRecursion P xs → AllByRecursion P ys → AllByRecursion P (xs ++ ys)
   all_joined P [] ys h k = k
   all_joined P (x ∷ xs) ys h k = (h.0, all_joined P xs ys h.1 k)
 
-  all_turned : (P Q : A → Type 0) (xs : List A) → ((x : A) → P x → Q x) → AllByRecursion P xs → AllByRecursion Q xs
+  pub all_turned : (P Q : A → Type 0) (xs : List A) → ((x : A) → P x → Q x) → AllByRecursion P xs → AllByRecursion Q xs
   all_turned P Q [] to h = tt
   all_turned P Q (x ∷ xs) to h = (to x h.0, all_turned P Q xs to h.1)
 
@@ -55,7 +55,7 @@ module _ {A : Type 0} where
   all_both P Q [] h k = tt
   all_both P Q (x ∷ xs) h k = ((h.0, k.0), all_both P Q xs h.1 k.1)
 
-  all_kept : (P : A → Type 0) (p : A → Bool) (xs : List A) → AllByRecursion P xs → AllByRecursion P (filter p xs)
+  pub all_kept : (P : A → Type 0) (p : A → Bool) (xs : List A) → AllByRecursion P xs → AllByRecursion P (filter p xs)
   all_kept P p [] h = tt
   all_kept P p (x ∷ xs) h = by (p x) (all_kept P p xs h.1)
     where
@@ -75,10 +75,10 @@ module _ {A : Type 0} where
 
 -- ---- items of which no two have one name
 
-abbrev Other : SiteItem → SiteItem → Type 0
+abbrev pub Other : SiteItem → SiteItem → Type 0
 Other i j = i.name ≢ j.name
 
-abbrev Apart : List SiteItem → Type 0
+abbrev pub Apart : List SiteItem → Type 0
 Apart [] = Unit {0}
 Apart (i ∷ is) = AllByRecursion (Other i) is × Apart is
 
@@ -90,20 +90,20 @@ other_names : (n : ItemName) (is : List SiteItem) → AllByRecursion (λ (j : Si
 other_names n [] h = tt
 other_names n (i ∷ is) h = (h.0, other_names n is h.1)
 
-items_apart : (is : List SiteItem) → Distinct (map name_of is) → Apart is
+pub items_apart : (is : List SiteItem) → Distinct (map name_of is) → Apart is
 items_apart [] h = tt
 items_apart (i ∷ is) h = (other_items i.name is h.0, items_apart is h.1)
 
-names_apart : (is : List SiteItem) → Apart is → Distinct (map name_of is)
+pub names_apart : (is : List SiteItem) → Apart is → Distinct (map name_of is)
 names_apart [] h = tt
 names_apart (i ∷ is) h = (other_names i.name is h.0, names_apart is h.1)
 
-joined_apart : (is js : List SiteItem) → Apart is → Apart js → AllByRecursion (λ i. AllByRecursion (Other i) js) is → Apart (is ++ js)
+pub joined_apart : (is js : List SiteItem) → Apart is → Apart js → AllByRecursion (λ i. AllByRecursion (Other i) js) is → Apart (is ++ js)
 joined_apart [] js h k cross = k
 joined_apart (i ∷ is) js h k cross = (all_joined (Other i) is js h.0 cross.0, joined_apart is js h.1 k cross.1)
 
 module _ (p : SiteItem → Bool) where
-  kept_apart : (is : List SiteItem) → Apart is → Apart (filter p is)
+  pub kept_apart : (is : List SiteItem) → Apart is → Apart (filter p is)
   kept_apart [] h = tt
   kept_apart (i ∷ is) h = by (p i) (kept_apart is h.1)
     where
@@ -126,10 +126,10 @@ module _ (p : SiteItem → Bool) where
 
 -- ---- items by their names
 
-abbrev Entries : Type 0
+abbrev pub Entries : Type 0
 Entries = List (ItemName × SiteItem)
 
-abbrev put_all : Entries → List SiteItem → Entries
+abbrev pub put_all : Entries → List SiteItem → Entries
 put_all es is = fold (λ made e. insert_entry making.name_cmp made e.0 e.1) es (map making.named is)
 
 module _ (P : ItemName × SiteItem → Type 0) (alike : (n m : ItemName) (i : SiteItem) → n ≡ m → P (n, i) → P (m, i)) where
@@ -152,7 +152,7 @@ all_values P [] h = tt
 all_values P (e ∷ es) h = (h.0, all_values P es h.1)
 
 -- what holds of items holds of them by their names
-by_name_all : (P : SiteItem → Type 0) (is : List SiteItem) → AllByRecursion P is → AllByRecursion P (making.by_name is)
+pub by_name_all : (P : SiteItem → Type 0) (is : List SiteItem) → AllByRecursion P is → AllByRecursion P (making.by_name is)
 by_name_all P is h = all_values P (put_all [] is) (all_put (λ e. P e.1) (λ n m i same holds. holds) is [] h tt)
 
 keys_are : (es : Entries) → AllByRecursion (λ e. e.1.name ≡ e.0) es → map name_of (values_of es) ≡ keys_of es
@@ -215,7 +215,7 @@ module _ (config : Config) (items pages : List SiteItem) where
   abbrev generated : List SiteItem
   generated = filter (making.is_generated config) items
 
-  made_few : length (making.with_made config items pages) ≤ length items + length pages
+  pub made_few : length (making.with_made config items pages) ≤ length items + length pages
   made_few = by pages
     where
       by : (ps : List SiteItem) → length (making.with_made config items ps) ≤ length items + length ps
@@ -229,7 +229,7 @@ module _ (config : Config) (items pages : List SiteItem) where
             parted_few (making.is_generated config) items,
           )
 
-  made_all : (P : SiteItem → Type 0) → AllByRecursion P items → AllByRecursion P pages → AllByRecursion P (making.with_made config items pages)
+  pub made_all : (P : SiteItem → Type 0) → AllByRecursion P items → AllByRecursion P pages → AllByRecursion P (making.with_made config items pages)
   made_all P h k = by pages k
     where
       by : (ps : List SiteItem) → AllByRecursion P ps → AllByRecursion P (making.with_made config items ps)
@@ -238,7 +238,7 @@ module _ (config : Config) (items pages : List SiteItem) where
           all_joined P own (making.by_name (generated ++ p ∷ ps)) (all_kept P (λ i. not (making.is_generated config i)) items h)
           (by_name_all P (generated ++ p ∷ ps) (all_joined P generated (p ∷ ps) (all_kept P (making.is_generated config) items h) k))
 
-  made_apart : Apart items → AllByRecursion (λ i. AllByRecursion (Other i) pages) items → Apart (making.with_made config items pages)
+  pub made_apart : Apart items → AllByRecursion (λ i. AllByRecursion (Other i) pages) items → Apart (making.with_made config items pages)
   made_apart apart cross = by pages cross
     where
       by : (ps : List SiteItem) → AllByRecursion (λ i. AllByRecursion (Other i) ps) items → Apart (making.with_made config items ps)
@@ -267,18 +267,18 @@ set_again key v (pair k w vars) e = by (bytes_eq key k) e (set_again key v vars)
     by false e rest = ap (pair k w) (rest e)
 
 -- a page that tells its address tells it again
-addressed_again : (path url : List ℕ) (given : Pairs) → addressed url (page_variables path url (placed path url given)) ≡ page_variables path url (placed path url given)
+pub addressed_again : (path url : List ℕ) (given : Pairs) → addressed url (page_variables path url (placed path url given)) ≡ page_variables path url (placed path url given)
 addressed_again path url given =
     let vars = page_variables path url (placed path url given) in
     let named = set (codes "name") (text (file_name path)) (placed path url given) in
     ap (set (codes "dir") (text (folder_of url))) (set_again (codes "url") (text url) vars (page_known path url given).its_url)
     ∙ set_again (codes "dir") (text (folder_of url)) vars (same_set (codes "dir") (text (folder_of url)) named)
 
-none_above : (n : ℕ) → nat_lt (suc n) n ≡ false
+pub none_above : (n : ℕ) → nat_lt (suc n) n ≡ false
 none_above n = grind (arith)
 
 module _ (config : Config) (word : ArchiveWord) where
-  page_has : (a : Archive) → Has config (making.archive_page config word a)
+  pub page_has : (a : Archive) → Has config (making.archive_page config word a)
   page_has a =
       let url = making.archive_url word a.slug in
       let given = making.with_layout config.archive_layout (making.about_archive word a) in
@@ -303,40 +303,20 @@ module _ (config : Config) (word : ArchiveWord) where
         next_is = inl refl;
         are = ap hash (sym (addressed_again a.path url given)) ∙ ap (λ b. hash (addressed url (between b nil nil vars))) (sym (none_above (length config.collections)));
         paginator = inl refl;
+        rooted = λ none. absurd (cc (none));
+        post = λ first. absurd (cc (first));
       } in
       (knows, variables)
 
 -- ---- the pages of a word
 
--- that it stands in the folder of the word
-abbrev IsBelow : ArchiveWord → SiteItem → Type 0
-IsBelow word i = (rest : List ℕ) × (i.name.path ≡ folder word ++ rest)
-
-record ArePages (config : Config) (word : ArchiveWord) (pages : List SiteItem) : Type 0 where
-  few : length pages ≤ 100000
-  apart : Apart pages
-  parts : AllByRecursion (λ (i : SiteItem). i.name.part ≡ 1) pages
-  below : AllByRecursion (IsBelow word) pages
-  has : AllByRecursion (Has config) pages
-
-no_pages : (config : Config) (word : ArchiveWord) → ArePages config word []
-no_pages config word = record { few = omega arith; apart = tt; parts = tt; below = tt; has = tt }
+pub of_archives_is : (found : Result (List Archive) ArchiveError) (made : List Archive) → making.of_archives found ≡ Ok made → found ≡ Ok made
+of_archives_is (Ok x) made e = ap Ok (found_value x made e)
+of_archives_is (Err error) made e = absurd (cc (e))
 
 module _ (config : Config) (word : ArchiveWord) where
   abbrev page : Archive → SiteItem
   page a = making.archive_page config word a
-
-  pages_part : (made : List Archive) → AllByRecursion (λ (i : SiteItem). i.name.part ≡ 1) (map page made)
-  pages_part [] = tt
-  pages_part (a ∷ made) = (refl, pages_part made)
-
-  pages_have : (made : List Archive) → AllByRecursion (Has config) (map page made)
-  pages_have [] = tt
-  pages_have (a ∷ made) = (page_has config word a, pages_have made)
-
-  pages_below : (posts : List ArchivePost) (made : List Archive) → AllByRecursion (IsArchive word posts) made → AllByRecursion (IsBelow word) (map page made)
-  pages_below posts [] h = tt
-  pages_below posts (a ∷ made) h = ((a.slug ++ codes "/index.html", h.0.path_is), pages_below posts made h.1)
 
   path_below : (p q : List ℕ) → T (is_lt (path_cmp p q)) → p ≢ q
   path_below p q lt same = subst (λ o. T (is_lt o)) (ap (path_cmp p) (sym same) ∙ tied_itself nat_list_cmp_total p) lt
@@ -347,94 +327,12 @@ module _ (config : Config) (word : ArchiveWord) where
       let both = halves (is_lt (path_cmp a.path b.path)) _ h in
       (λ same. path_below a.path b.path both.0 (ap (λ (n : ItemName). n.path) same), above_others a made both.1)
 
-  pages_apart : (made : List Archive) → T (is_sorted path_cmp (map (λ b. (b.path, b)) made)) → Apart (map page made)
+  pub pages_apart : (made : List Archive) → T (is_sorted path_cmp (map (λ b. (b.path, b)) made)) → Apart (map page made)
   pages_apart [] h = tt
   pages_apart (a ∷ made) h =
       let both = halves (below_all path_cmp a.path (map (λ b. (b.path, b)) made)) _ h in
       (above_others a made both.0, pages_apart made both.1)
 
-  told : (b : Bool) → b ≡ true → T b
+  pub told : (b : Bool) → b ≡ true → T b
   told true e = tt
   told false e = absurd (cc (e))
-
-  are_pages : (posts : List ArchivePost) (made : List Archive) → AreArchives word posts made → ArePages config word (map page made)
-  are_pages posts made are = record {
-    few = omega (arith, are.few, length-map made page);
-    apart = pages_apart made (told _ are.rise);
-    parts = pages_part made;
-    below = pages_below posts made are.each;
-    has = pages_have made;
-  }
-
-  -- the pages that are added
-  record Adds (before all : List SiteItem) : Type 0 where
-    own : List SiteItem
-    same : before ++ own ≡ all
-    are : ArePages config word own
-
-  word_adds : (items before all : List SiteItem) → making.word_pages config items word before ≡ Ok all → Adds before all
-  word_adds items before all e =
-      let made = found_before (making.of_archives (archives word (making.archive_posts word items))) _ all e in
-      record {
-        own = map page made.0;
-        same = found_value _ all made.2;
-        are = are_pages (making.archive_posts word items) made.0 (laws word (making.archive_posts word items) made.0 (of_archives_is _ made.0 made.1));
-      }
-    where
-      of_archives_is : (found : Result (List Archive) ArchiveError) (made : List Archive) → making.of_archives found ≡ Ok made → found ≡ Ok made
-      of_archives_is (Ok x) made e = ap Ok (found_value x made e)
-      of_archives_is (Err error) made e = absurd (cc (e))
-
-  asked_adds : (items before all : List SiteItem) → making.add_pages config items word before ≡ Ok all → Adds before all
-  asked_adds items before all e = by (making.asks_for config word) e
-    where
-      by : (b : Bool) → (if b then making.word_pages config items word before else Ok before) ≡ Ok all → Adds before all
-      by true is = word_adds items before all is
-      by false is = record { own = []; same = nothing_behind before ∙ found_value before all is; are = no_pages config word }
-
--- ---- all items
-
--- what is said of the items with their archives
-pub record AreMade (config : Config) (paged made : List SiteItem) : Type 0 where
-  pub few : length made ≤ length paged + 200000
-  pub apart : Distinct (map (λ (i : SiteItem). i.name) made)
-  pub has : AllByRecursion (Has config) made
-
-first_byte : List ℕ → ℕ
-first_byte [] = 0
-first_byte (c ∷ cs) = c
-
-module _ (config : Config) (paged made : List SiteItem) where
-  folders_apart : (i j : SiteItem) → IsBelow Category i → IsBelow Tag j → Other i j
-  unfolding first_byte
-  folders_apart i j category tag same =
-      let paths : folder Category ++ category.0 ≡ folder Tag ++ tag.0 = sym category.1 ∙ ap (λ (n : ItemName). n.path) same ∙ tag.1 in
-      let letters : 99 ≡ 116 = ap first_byte paths in
-      absurd (omega (arith, letters))
-
-  all_apart : (i : SiteItem) → IsBelow Category i → (js : List SiteItem) → AllByRecursion (IsBelow Tag) js → AllByRecursion (Other i) js
-  all_apart i below js h = all_turned (IsBelow Tag) (Other i) js (λ j. folders_apart i j below) h
-
-  part_apart : (i : SiteItem) → i.name.part ≢ 1 → (js : List SiteItem) → AllByRecursion (λ (j : SiteItem). j.name.part ≡ 1) js → AllByRecursion (Other i) js
-  part_apart i other js h = all_turned (λ (j : SiteItem). j.name.part ≡ 1) (Other i) js (λ j part same. other (ap (λ (n : ItemName). n.part) same ∙ part)) h
-
-  with_pages : (pages of_categories of_tags : List SiteItem) → of_categories ++ of_tags ≡ pages → ArePages config Category of_categories → ArePages config Tag of_tags
-      → Distinct (map (λ (i : SiteItem). i.name) paged) → AllByRecursion (λ (i : SiteItem). i.name.part ≢ 1) paged → AllByRecursion (Has config) paged → making.with_made config paged pages ≡ made → AreMade config paged made
-  with_pages pages of_categories of_tags are categories tags apart parts has is =
-      let all = of_categories ++ of_tags in
-      let part : AllByRecursion (λ (i : SiteItem). i.name.part ≡ 1) all = all_joined (λ (i : SiteItem). i.name.part ≡ 1) of_categories of_tags categories.parts tags.parts in
-      subst (AreMade config paged) (ap (making.with_made config paged) are ∙ is) (record {
-        few = omega (arith, made_few config paged all, length-append of_categories of_tags, categories.few, tags.few);
-        apart = names_apart (making.with_made config paged all)
-            (made_apart config paged all (items_apart paged apart)
-            (all_turned (λ (i : SiteItem). i.name.part ≢ 1) (λ i. AllByRecursion (Other i) all) paged (λ i other. part_apart i other all part) parts));
-        has = made_all config paged all (Has config) has (all_joined (Has config) of_categories of_tags categories.has tags.has);
-      })
-
-  pub made_items : Distinct (map (λ (i : SiteItem). i.name) paged) → AllByRecursion (λ (i : SiteItem). i.name.part ≢ 1) paged → AllByRecursion (Has config) paged → making.archived config paged ≡ Ok made → AreMade config paged made
-  made_items apart parts has e =
-      let pages = found_before (making.archive_pages config paged) _ made e in
-      let first = found_before (making.add_pages config paged Category []) (making.add_pages config paged Tag) pages.0 pages.1 in
-      let categories = asked_adds config Category paged [] first.0 first.1 in
-      let tags = asked_adds config Tag paged first.0 pages.0 first.2 in
-      with_pages pages.0 categories.own tags.own (ap (λ before. before ++ tags.own) categories.same ∙ tags.same) categories.are tags.are apart parts has (found_value _ made pages.2)

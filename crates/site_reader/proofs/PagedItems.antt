@@ -125,6 +125,8 @@ module _ (config : Config) (paging : Paging) where
           previous_is = had.previous_is;
           next_is = had.next_is;
           are = had.are;
+          rooted = had.rooted;
+          post = had.post;
           paginator = inr (paging, take paging.per_page posts, ap (λ part. hash (paged.paginator paging (page_of part) (take paging.per_page posts))) (sym template.part));
         } in
         (knows, variables)
@@ -159,6 +161,8 @@ module _ (config : Config) (paging : Paging) where
           previous_is = had.previous_is;
           next_is = had.next_is;
           are = with_address_is paging.template.vars were url was ∙ ap hash (sym (variables_above number url were least));
+          rooted = λ none. absurd (omega (arith, none, least));
+          post = λ first. absurd (omega (arith, first, template.behind));
           paginator = inr (paging, posts, ap (λ page. hash (paged.paginator paging page posts)) (sym (page_itself number least)));
         } in
         (knows, variables)

@@ -12,7 +12,7 @@ use Rattle.site_base.specs.Places.{PathsRise, path_cmp}
 use Rattle.site_base.specs.declared.path_map.PathMap.{PathMap}
 use Rattle.site_base.proofs.Entries.{entries_mapped}
 
-both : (a b : Bool) → a ≡ true → b ≡ true → (a && b) ≡ true
+pub both : (a b : Bool) → a ≡ true → b ≡ true → (a && b) ≡ true
 both true b p q = q
 both false b p q = p
 

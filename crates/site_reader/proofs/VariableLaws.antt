@@ -1,5 +1,5 @@
 -- The variables by which an item is known.
-use Rattle.std.proofs.Common.{◌≡◌, ℕ, Bool, true, false, ◌||◌, List, [], ◌∷◌, codes, length, nat_lt, Option, Some, None, Ok, Err, Less, Equal, Greater, Ordering, if◌then◌else◌, refl, sym, ap, subst, ◌∙◌}
+use Rattle.std.proofs.Common.{◌≡◌, ℕ, Bool, true, false, ◌||◌, List, [], ◌∷◌, codes, length, map, nat_lt, Option, Some, None, Ok, Err, Less, Equal, Greater, Ordering, if◌then◌else◌, refl, sym, ap, subst, ◌∙◌}
 use Rattle.std.specs.BTreeMap.{insert_entry}
 use Rattle.std.specs.List.{AllByRecursion}
 use Rattle.std.specs.Option.{unwrap_or}
@@ -12,7 +12,9 @@ use Rattle.site_base.specs.Plain.{Plain, nil, bool, hash, site_item, text, Pairs
 use Rattle.site_base.proofs.Entries.{same_text, text_same}
 use Rattle.site_config.specs.declared.config.Config.{Config}
 use Rattle.site_config.specs.declared.scope.Scope.{Scope}
+use Rattle.front_yaml.specs.Front.{front}
 use Rattle.site_files.specs.Names.{extension, file_name, stem}
+use Rattle.site_files.specs.Places.{place_of}
 use Rattle.site_items.specs.Addresses.{dest_of, found_url, template}
 use Rattle.site_items.specs.Dates.{given_date}
 use Rattle.site_items.specs.Defaults.{variable, variables}
@@ -26,15 +28,16 @@ use Rattle.site_items.specs.declared.kind.Kind.TheVariants as kind
 use Rattle.site_items.specs.declared.timeless.Timeless.{Timeless}
 use Rattle.site_items.specs.declared.timeless.Timeless.TheVariants.{Undated, Unpublished}
 use Rattle.site_reader.specs.Found.{each, in_file}
-use Rattle.site_reader.specs.Lawful.{HasVariables, IsNeighbour, KnowsItself}
+use Rattle.site_reader.specs.Lawful.{HasVariables, IsNeighbour, IsPost, IsRooted, KnowsItself}
 use Rattle.site_reader.specs.Neighbours.{neighbour, site_item_of, site_items, with_neighbours}
-use Rattle.site_reader.specs.Placing.{File, Placed, as_item}
+use Rattle.site_reader.specs.Placing.{File, as_item, placed}
 use Rattle.site_reader.specs.Ranks.{Ranked, group_of, rank, rank_cmp, with_item}
 use Rattle.site_reader.specs.Sites as sites
 use Rattle.site_reader.specs.declared.rank.Rank.{Rank}
 use Rattle.site_reader.specs.declared.site_item.SiteItem.{SiteItem}
+use Rattle.site_reader.proofs.PostLaws.{HasPosts, Stands, matter_stands, own_post, place_fits, present_post, url_rooted}
 use Rattle.site_reader.proofs.RankOrder.{rank_same}
-use Rattle.site_reader.proofs.Weights.{each_keeps, file_found, found_before, found_value}
+use Rattle.site_reader.proofs.Weights.{each_keeps, each_mapped, file_found, found_before, found_value}
 
 -- ---- what stands at a key
 
@@ -150,6 +153,8 @@ record IsMade (config : Config) (group : ℕ) (path : List ℕ) (made : Item) : 
   in_group : group_of config kind ≡ group
   given : Pairs
   moment : Option ℤ
+  rooted : IsRooted made.url
+  post : group ≡ 0 → IsPost kind 0 moment
   are : made.vars ≡ of.kind_variables config kind path made.url moment (of.placed path made.url (of.kind_named config.timezone kind (stem (file_name path)) given))
 
 abbrev IsKnown : Config → ℕ → List ℕ → Item → Type 0
@@ -162,18 +167,22 @@ module _ (config : Config) (k : Kind) (path : List ℕ) (made : Item) where
   abbrev Named : Pairs → Pairs
   Named given = of.kind_named config.timezone k (stem (file_name path)) given
 
-  at_address : (moment : Option ℤ) (given : Pairs) (text_body ext address : List ℕ) → Makes (of.item_at config k path moment (Named given) text_body ext address) → IsKnown config (group_of config k) path made
-  at_address moment given text_body ext address e =
+  -- what it is where it is a post
+  abbrev Post : Option ℤ → Type 0
+  Post moment = group_of config k ≡ 0 → IsPost k 0 moment
+
+  at_address : (moment : Option ℤ) (given : Pairs) (text_body ext address : List ℕ) → Post moment → IsRooted address → Makes (of.item_at config k path moment (Named given) text_body ext address) → IsKnown config (group_of config k) path made
+  at_address moment given text_body ext address post rooted e =
       let dest = found_before (dest_of config k address ext) _ made e in
       let own = of.placed path address (Named given) in
-      subst (IsKnown config (group_of config k) path) (found_value _ made dest.2) (known_kind path address config k moment own (known_placed path address (Named given)), record { kind = k; in_group = refl; given = given; moment = moment; are = refl })
+      subst (IsKnown config (group_of config k) path) (found_value _ made dest.2) (known_kind path address config k moment own (known_placed path address (Named given)), record { kind = k; in_group = refl; given = given; moment = moment; rooted = rooted; post = post; are = refl })
 
-  named : (moment : Option ℤ) (given : Pairs) (text_body : List ℕ) → Makes (of.named_item config k path moment given text_body) → IsKnown config (group_of config k) path made
-  named moment given text_body e =
+  named : (moment : Option ℤ) (given : Pairs) (text_body : List ℕ) → Post moment → Makes (of.named_item config k path moment given text_body) → IsKnown config (group_of config k) path made
+  named moment given text_body post e =
       let ext = output_ext config.markdown_ext (extension (file_name path)) in
       let t = found_before (template config ext (stem (file_name path)) k (variable (codes "permalink") (Named given))) _ made e in
       let address = found_before (found_url _) (of.item_at config k path moment (Named given) text_body ext) made t.2 in
-      at_address moment given text_body ext address.0 address.2
+      at_address moment given text_body ext address.0 post (url_rooted t.0 _ address.0 address.1) address.2
 
   -- ---- what it was before the present moment is known
 
@@ -188,9 +197,12 @@ module _ (config : Config) (k : Kind) (path : List ℕ) (made : Item) where
       let item = found_before found (λ i. Ok (Some i)) (Some made) e in
       item.1 ∙ ap Ok (ap (λ (o : Option Item). unwrap_or o made) (found_value (Some item.0) (Some made) item.2))
 
-  module _ (now : ℤ) (future : Bool) where
+  module _ (now : ℤ) (future : Bool) (posts : HasPosts config) (stands : Stands config path (Some k)) where
     abbrev Becomes : Timeless → Type 0
     Becomes t = MakesSome (of.at now future config k path t)
+
+    abbrev own_date : Option ℤ → Option ℤ
+    own_date given = of.document_date config.timezone k (stem (file_name path)) given
 
     not_later : (moment : Option ℤ) (found : Outcome Item) → MakesSome (of.unless_later now future moment found) → Makes found
     not_later moment found e = by (of.is_left_out now future moment) e
@@ -203,12 +215,12 @@ module _ (config : Config) (k : Kind) (path : List ℕ) (made : Item) where
     in_time moment (Ok item) e = not_later item.moment (Ok item) e
     in_time moment (Err f) e = not_later moment (Err f) e
 
-    dated : (vars : Pairs) (text_body : List ℕ) (moment : Option ℤ) → Becomes (of.timeless_of config k path vars text_body moment) → IsKnown config (group_of config k) path made
-    dated vars text_body moment e = by (of.has_present k moment) e
+    dated : (vars : Pairs) (text_body : List ℕ) (given : Option ℤ) → Becomes (of.timeless_of config k path vars text_body (own_date given)) → IsKnown config (group_of config k) path made
+    dated vars text_body given e = by (of.has_present k (own_date given)) refl e
       where
-        by : (b : Bool) → Becomes (if b then Undated vars text_body else of.of_moment moment (of.named_item config k path moment vars text_body)) → IsKnown config (group_of config k) path made
-        by true is = named (Some now) vars text_body (some_made _ is)
-        by false is = named moment vars text_body (in_time moment _ is)
+        by : (b : Bool) → of.has_present k (own_date given) ≡ b → Becomes (if b then Undated vars text_body else of.of_moment (own_date given) (of.named_item config k path (own_date given) vars text_body)) → IsKnown config (group_of config k) path made
+        by true present is = named (Some now) vars text_body (λ _. present_post config path posts k (own_date given) now present) (some_made _ is)
+        by false own is = named (own_date given) vars text_body (own_post config path posts k given stands own) (in_time (own_date given) _ is)
 
     published : (vars : Pairs) (text_body : List ℕ) (told : Bool) (t : Timeless) → of.timeless_published config k path vars text_body told ≡ Ok t → Becomes t → IsKnown config (group_of config k) path made
     published vars text_body told t e becomes = by (told || config.unpublished) e
@@ -216,7 +228,7 @@ module _ (config : Config) (k : Kind) (path : List ℕ) (made : Item) where
         by : (b : Bool) → (if b then given_date config.timezone (variable (codes "date") vars) >>= of.timeless_dated config k path vars text_body else Ok Unpublished) ≡ Ok t → IsKnown config (group_of config k) path made
         by true is =
             let given = found_before (given_date config.timezone (variable (codes "date") vars)) (of.timeless_dated config k path vars text_body) t is in
-            dated vars text_body _ (subst Becomes (sym (found_value _ t given.2)) becomes)
+            dated vars text_body given.0 (subst Becomes (sym (found_value _ t given.2)) becomes)
         by false is = absurd (nothing (subst Becomes (sym (found_value Unpublished t is)) becomes))
 
     item_known : (scopes : List Scope) (bytes : List ℕ) → MakesSome (of.item config scopes now future k path bytes) → IsKnown config (group_of config k) path made
@@ -241,20 +253,20 @@ known_inserted config r made (e ∷ es) known all = by (rank_cmp r e.0) refl (kn
     by Equal is rest = (subst (λ (q : Rank). IsKnown config q.group q.path made) (rank_same r e.0 is) known, all.1)
     by Greater is rest = (all.0, rest)
 
-module _ (config : Config) (scopes : List Scope) (now : ℤ) (future : Bool) where
+module _ (config : Config) (posts : HasPosts config) (scopes : List Scope) (now : ℤ) (future : Bool) where
   with_known : (k : Kind) (path : List ℕ) (made : Option Item) (es : Ranked) → ((item : Item) → made ≡ Some item → IsKnown config (group_of config k) path item) → AreKnown config es → AreKnown config (with_item config k path made es)
   with_known k path None es known all = all
   with_known k path (Some item) es known all =
       known_inserted config (rank config k path item) item es
       (known item refl) all
 
-  add_known : (f : File) (k : Option Kind) (made more : Ranked) → sites.add_kind config scopes now future f k made ≡ Ok more → AreKnown config made → AreKnown config more
-  add_known f None made more e all = subst (AreKnown config) (found_value made more e) all
-  add_known f (Some k) made more e all =
+  add_known : (f : File) (k : Option Kind) (made more : Ranked) → Stands config f.0 k → sites.add_kind config scopes now future f k made ≡ Ok more → AreKnown config made → AreKnown config more
+  add_known f None made more stands e all = subst (AreKnown config) (found_value made more e) all
+  add_known f (Some k) made more stands e all =
       let read = found_before (in_file f.0 (of.item config scopes now future k f.0 f.1)) _ more e in
       let is = file_found f.0 (of.item config scopes now future k f.0 f.1) read.0 read.1 in
       subst (AreKnown config) (found_value _ more read.2)
-      (with_known k f.0 read.0 made (λ item some. item_known config k f.0 item now future scopes f.1 (is ∙ ap Ok some)) all)
+      (with_known k f.0 read.0 made (λ item some. item_known config k f.0 item now future posts stands scopes f.1 (is ∙ ap Ok some)) all)
 
 neighbours_known : (documents : ℕ) (rank : Rank) (before behind : Option Rank) (address : List ℕ) (vars : Pairs) → Known rank.path address vars → Known rank.path address (with_neighbours documents rank before behind vars)
 neighbours_known documents rank before behind address vars known = by (nat_lt rank.group documents)
@@ -303,6 +315,8 @@ module _ (config : Config) where
         next_is = is_neighbour rank behind;
         are = ap (λ vars. hash (with_neighbours documents rank before behind vars)) is.1.are;
         paginator = inl refl;
+        rooted = λ _. is.1.rooted;
+        post = is.1.post;
       } in
       (itself, variables)
 
@@ -321,9 +335,13 @@ module _ (config : Config) where
     pub parts : AllByRecursion (λ (item : SiteItem). item.name.part ≡ 0) made
     pub has : AllByRecursion Has made
 
-  pub items_know : (scopes : List Scope) (now : ℤ) (future : Bool) (files : List Placed) (made : List SiteItem) → sites.items_by scopes config now future files ≡ Ok made → AreOwn made
-  items_know scopes now future files made e =
-      let ranked = found_before (each (sites.add_item config scopes now future) files []) (sites.items_in_order config) made e in
+  pub items_know : HasPosts config → (scopes : List Scope) (now : ℤ) (drafts future : Bool) (files : List File) (made : List SiteItem)
+      → sites.items_by scopes config now future (map (placed config drafts) files) ≡ Ok made → AreOwn made
+  items_know posts scopes now drafts future files made e =
+      let ranked = found_before (each (sites.add_item config scopes now future) (map (placed config drafts) files) []) (sites.items_in_order config) made e in
       let known : AreKnown config ranked.0 =
-      each_keeps (sites.add_item config scopes now future) (AreKnown config) (λ f before more is all. add_known config scopes now future f.1 (as_item f) before more is all) files [] ranked.0 ranked.1 tt in
+      each_keeps (λ f. sites.add_item config scopes now future (placed config drafts f)) (AreKnown config) (λ f before more is all. add_known config posts scopes now future f (as_item (placed config drafts f)) before more (file_stands f) is all) files [] ranked.0 (sym (each_mapped (placed config drafts) (sites.add_item config scopes now future) files []) ∙ ranked.1) tt in
       subst AreOwn (found_value (site_items documents None ranked.0) made ranked.2) (record { parts = all_own None ranked.0; has = all_know None ranked.0 known })
+    where
+      file_stands : (f : File) → Stands config f.0 (as_item (placed config drafts f))
+      file_stands f = matter_stands config f.0 (place_of config drafts f.0) (front f.1) (place_fits config f.0 posts drafts)

@@ -72,3 +72,14 @@ module _ {F S : Type 0} (step : F → S → Found S) (P : S → Type 0) where
   each_keeps keeps (f ∷ fs) made all e holds =
       let first = found_before (step f made) (each step fs) all e in
       each_keeps keeps fs first.0 all first.2 (keeps f made first.0 first.1 holds)
+
+-- what each file is first, and then made of
+module _ {E F S : Type 0} (to : E → F) (step : F → S → Found S) where
+  pub each_mapped : (es : List E) (made : S) → each step (map to es) made ≡ each (λ e. step (to e)) es made
+  unfolding each
+  each_mapped [] made = refl
+  each_mapped (e ∷ es) made = by (step (to e) made) (each_mapped es)
+    where
+      by : (found : Found S) → ((more : S) → each step (map to es) more ≡ each (λ d. step (to d)) es more) → found >>= each step (map to es) ≡ found >>= each (λ d. step (to d)) es
+      by (Ok more) rest = rest more
+      by (Err fault) rest = refl

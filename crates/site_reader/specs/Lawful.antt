@@ -1,5 +1,5 @@
 -- When a site is lawful with the files that it was read from.
-use Rattle.std.specs.Prelude.{◌≡◌, ◌≢◌, ◌≤◌, ◌⊎◌, ◌+◌, ◌*◌, ℕ, zero, suc, ℤ, true, nat_lt, List, codes, length, All, AllPairs, Option, None}
+use Rattle.std.specs.Prelude.{◌≡◌, ◌≢◌, ◌≤◌, ◌⊎◌, ◌+◌, ◌*◌, ℕ, zero, suc, ℤ, true, false, nat_lt, List, ◌∷◌, codes, length, All, AllPairs, Option, Some, None}
 use Rattle.std.specs.FinMap.{contains_key, len}
 use Rattle.site_base.specs.Places.{Files}
 use Rattle.site_base.specs.Plain.{Pairs, Plain, hash, nil, site_item, text}
@@ -11,6 +11,7 @@ use Rattle.site_config.specs.Table.{wrong_key}
 use Rattle.site_config.specs.declared.config.Config.{Config}
 use Rattle.site_dates.specs.Moment.{IsMoment}
 use Rattle.site_files.specs.Names.{extension, file_name, stem}
+use Rattle.site_items.specs.Addresses.{is_page}
 use Rattle.site_items.specs.Items.{addressed, kind_named, kind_variables, placed}
 use Rattle.site_items.specs.declared.kind.Kind.{Kind}
 use Rattle.site_items.specs.declared.layout_file.LayoutFile.{LayoutFile}
@@ -60,6 +61,17 @@ abbrev pub part_variables : ℕ → List ℕ → Pairs → Pairs
 part_variables zero address vars = vars
 part_variables (suc part) address vars = addressed address vars
 
+-- an address of the site: it begins with a slash
+abbrev pub IsRooted : List ℕ → Type 0
+IsRooted url = (rest : List ℕ) × (url ≡ 47 ∷ rest)
+
+-- what a post is: a document with a moment, and no page that is generated
+pub record IsPost (kind : Kind) (part : ℕ) (moment : Option ℤ) : Type 0 where
+  pub document : is_page kind ≡ false
+  pub whole : part ≡ 0
+  pub date : ℤ
+  pub dated : moment ≡ Some date
+
 -- the variables of an item have their forms: over those that front matter and defaults give it stand those of its kind, of a document the two neighbours, and of a generated page its own address. After Jekyll 4's manual, "Variables"
 pub record HasVariables (config : Config) (item : SiteItem) : Type 0 where
   pub kind : Kind
@@ -78,6 +90,9 @@ pub record HasVariables (config : Config) (item : SiteItem) : Type 0 where
       let made = between (nat_lt item.group (length config.collections)) previous next (kind_variables config kind path address moment above) in
       plain item.vars ≡ hash (part_variables item.name.part item.url made)
   pub paginator : HasPaginator item
+  -- the address of an item that a file is, and what an item of the first group is
+  pub rooted : item.name.part ≡ 0 → IsRooted item.url
+  pub post : item.group ≡ 0 → IsPost kind item.name.part moment
 
 -- the variables of a layout are a hash
 abbrev pub HasHash : LayoutFile → Type 0

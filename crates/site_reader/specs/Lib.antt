@@ -4,9 +4,12 @@ pub mod Data
 pub mod FirstPlaces
 pub mod Ranks
 pub mod Neighbours
+pub mod Winners
 pub mod Outputs
 pub mod Paginating
 pub mod Making
+pub mod Generating
+pub mod Archived
 pub mod Configured
 pub mod Sites
 pub mod Lawful

@@ -145,7 +145,3 @@ merged config items pages = filter (λ i. not (is_generated config i)) items ++ 
 abbrev pub with_made : Config → List SiteItem → List SiteItem → List SiteItem
 with_made config items [] = items
 with_made config items (page ∷ pages) = merged config items (page ∷ pages)
-
--- the items of a site with its archives
-abbrev pub archived : Config → List SiteItem → Found (List SiteItem)
-archived config items = archive_pages config items >>= λ pages. Ok (with_made config items pages)

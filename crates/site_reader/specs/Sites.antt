@@ -1,5 +1,5 @@
 -- A site as data: what its files make, or its first fault. The configuration comes first, then data files, layouts, includes and
--- items, each in the order of paths, then the pages of a pagination and of archives, and at last paths that cannot stand side by side.
+-- items, each in the order of paths, then the pages of a pagination, then of archives, a feed and a sitemap, and at last paths that cannot stand side by side.
 use Rattle.std.specs.Prelude.{◌≡◌, ℕ, ℤ, Bool, List, [], ◌∷◌, ◌++◌, length, map, Option, Some, None, Ok, Err}
 use Rattle.std.specs.BTreeMap.{insert_entry}
 use Rattle.std.specs.FinMap.{entries, get}
@@ -23,7 +23,7 @@ use Rattle.site_items.specs.declared.static_file.StaticFile.{StaticFile}
 pub use Rattle.site_reader.specs.Configured.{config_in, configured, text_config}
 use Rattle.site_reader.specs.Data.{data_tree}
 use Rattle.site_reader.specs.Found.{Found, each, in_file}
-use Rattle.site_reader.specs.Making.{archived}
+use Rattle.site_reader.specs.Generating.{generated}
 use Rattle.site_reader.specs.Neighbours.{site_items}
 use Rattle.site_reader.specs.Outputs.{first_clash}
 use Rattle.site_reader.specs.Paginating.{paginated}
@@ -102,7 +102,7 @@ no_clash site None = Ok site
 no_clash site (Some path) = Err (fault_at fault.PathClash path)
 
 abbrev pub clash_free : Site → Found Site
-clash_free site = no_clash site (first_clash site.items site.statics)
+clash_free site = no_clash site (first_clash site.config site.items site.statics)
 
 -- the site of files in their places
 abbrev pub placed_site : Config → ℤ → Bool → List Placed → Found Site
@@ -111,7 +111,7 @@ placed_site config now future files =
     layouts files >>= λ layouts.
     includes files >>= λ includes.
     items config now future files >>= λ made.
-    paginated config made >>= archived config >>= λ items.
+    paginated config made >>= generated config (copies config files) >>= λ items.
     clash_free (record {
       config = config;
       items = items;

@@ -1,4 +1,4 @@
-// The items of a site with the pages of its archives.
+// The pages of the archives of a site.
 ghost use Rattle.std.specs.Prelude.{◌≡◌, ◌++◌, IfOk, MatchResult, Ok, OnOk, map};
 ghost use Rattle.std.specs.List.{list_any};
 ghost use Rattle.std.specs.Str.{bytes_eq};
@@ -6,11 +6,10 @@ ghost use Rattle.site_base.specs.Plain.{set};
 ghost use Rattle.site_base.specs.View.{plain};
 ghost use Rattle.site_config.specs.Forms.{given};
 ghost use Rattle.site_reader.specs.Found.{IsFirst};
-ghost use Rattle.site_reader.specs.Making.{add_pages, archive_body, archive_page, archive_pages, archive_post, archive_posts, archive_url, archive_variables, archived, asks_for, if_post, terms_in, terms_of, with_layout, word_key, word_pages, word_text};
+ghost use Rattle.site_reader.specs.Making.{add_pages, archive_body, archive_page, archive_pages, archive_post, archive_posts, archive_url, archive_variables, asks_for, if_post, terms_in, terms_of, with_layout, word_key, word_pages, word_text};
 
 use crate::configuration::config_path;
-use crate::making::{generated_group, with_made};
-use crate::site::SiteItems;
+use crate::making::generated_group;
 use crate::site_error::{SiteError, fault_at};
 use crate::site_item::SiteItem;
 use site_base::{FaultKind, Hash, ItemName, List, Memory, Sequence, Text, Value};
@@ -25,25 +24,11 @@ use tag_archives::{
 const ARCHIVE_BODY: &str =
     "<ul>{% for p in page.posts %}<li><a href=\"{{ p.url | relative_url }}\">{{ p.title | escape }}</a></li>{% endfor %}</ul>\n";
 
-/// The items with a page for each category and each tag of the posts, as far as the configuration asks for them.
+/// A page for each category and each tag of the posts, as far as the configuration asks for them.
 ///
 /// `Fault` comes exactly where the path of a page would be too long, or one word would have more than 100,000 pages:
 /// `Config`, at the configuration.
-pub(crate) fn archived(
-    alloc: Global,
-    config: &Config,
-    items: SiteItems,
-) -> Result<SiteItems, SiteError>
-    ensures { let found = archived config.now items in
-        MatchResult result (λ made. found ≡ Ok made) (IsFirst found) }
-{
-    match archive_pages(alloc, config, items.as_slice()) {
-        Ok(pages) => Ok(with_made(alloc, config, items, pages)?),
-        Err(error) => Err(error),
-    }
-}
-
-fn archive_pages(
+pub(crate) fn archive_pages(
     alloc: Global,
     config: &Config,
     items: &[SiteItem],

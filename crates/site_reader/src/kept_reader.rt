@@ -4,6 +4,7 @@ ghost use Rattle.std.specs.FinMap as finite;
 ghost use Rattle.site_dates.specs.Moment.{IsMoment};
 ghost use Rattle.site_dates.specs.Offset.{IsOffset};
 ghost use Rattle.site_reader.specs.Configured.{config_in};
+ghost use Rattle.site_reader.specs.Archived.{IsArchived};
 ghost use Rattle.site_reader.specs.Found.{IsFirst};
 ghost use Rattle.site_reader.specs.Kept.{parsed, parsed_under};
 ghost use Rattle.site_reader.specs.Lawful.{IsLawful, most_made};
@@ -87,6 +88,7 @@ impl KeptReader {
         ensures read { let found = site held.now moment settings.now in
             MatchResult result (λ made. found ≡ Ok made) (IsFirst found) }
         ensures lawful { IfOk result (IsLawful held.now) }
+        ensures archived { IfOk result IsArchived }
         ensures few { IfOk result (λ made. length made.items ≤ 2 * most_files + most_made) }
         ensures moment { IfOk result (λ made. made.moment ≡ moment) }
         ensures kept { IfOk result (λ _. self.new.kept ≡ held.now) }

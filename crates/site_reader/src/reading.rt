@@ -3,6 +3,7 @@ ghost use Rattle.std.specs.Prelude.{◌≡◌, ◌+◌, ◌*◌, ◌≤◌, IfOk
 ghost use Rattle.std.specs.FinMap as finite;
 ghost use Rattle.site_dates.specs.Moment.{IsMoment};
 ghost use Rattle.site_dates.specs.Offset.{IsOffset};
+ghost use Rattle.site_reader.specs.Archived.{IsArchived};
 ghost use Rattle.site_reader.specs.Found.{IsFirst};
 ghost use Rattle.site_reader.specs.Lawful.{IsLawful, most_made};
 ghost use Rattle.site_reader.specs.Paginating.{HasSize};
@@ -12,10 +13,10 @@ ghost use Rattle.site_reader.specs.Placing.{seen};
 ghost use Rattle.site_reader.specs.Sites.{IsConfig, clash_free, config, items, items_by, placed_site, site, site_with};
 ghost use Rattle.source_tree.specs.Limits.{CanBeHeld, most_files};
 
-use crate::archiving::archived;
 use crate::configuration::config;
 use crate::copies::copies;
 use crate::data::data_tree;
+use crate::generating::generated;
 use crate::includes::includes;
 use crate::items::items;
 use crate::layouts::layouts;
@@ -47,6 +48,8 @@ pub fn read_site(
     ensures read { let found = site held.now moment settings.now in
         MatchResult result (λ made. found ≡ Ok made) (IsFirst found) }
     ensures lawful { IfOk result (IsLawful held.now) }
+    // Each post stands in the archives of its tags and categories that are asked for, and nothing else does.
+    ensures archived { IfOk result IsArchived }
     ensures few { IfOk result (λ made. length made.items ≤ 2 * most_files + most_made) }
     ensures moment { IfOk result (λ made. made.moment ≡ moment) }
 {
@@ -102,8 +105,8 @@ pub(crate) fn placed_site(
     let includes = includes(alloc, files)?;
     let items = ruled_items(alloc, files, now, future, &config)?;
     let items = paginated(alloc, &config, items)?;
-    let items = archived(alloc, &config, items)?;
     let statics = copies(alloc, &config, files)?;
+    let items = generated(alloc, &config, statics.as_slice(), items)?;
     clash_free(
         alloc,
         Site {
@@ -170,7 +173,12 @@ fn clash_free(alloc: Global, site: Site) -> Result<Site, SiteError>
         MatchResult result (λ made. found ≡ Ok made) (IsFirst found) }
     ensures same { IfOk result (λ made. made ≡ site) }
 {
-    match first_clash(alloc, site.items.as_slice(), site.statics.as_slice())? {
+    match first_clash(
+        alloc,
+        &site.config,
+        site.items.as_slice(),
+        site.statics.as_slice(),
+    )? {
         None => Ok(site),
         Some(path) => Err(SiteError::Fault(SiteFault {
             path,
