@@ -1,5 +1,5 @@
 -- What a site stands for: the files of its output, or its first fault. After Jekyll 4's manual, "Rendering process", whose order of the items is that of `site_reader`.
-use Rattle.std.specs.Prelude.{ℕ, ℤ, suc, ◌-◌, Bool, not, List, [], ◌∷◌, length, fold, nat_lt, Option, Some, None, Ok, Err, if◌then◌else◌}
+use Rattle.std.specs.Prelude.{ℕ, ℤ, suc, ◌-◌, List, [], length, fold, slice_get, Option, Some, None, option_and_then, Ok, Err}
 use Rattle.std.specs.FinMap.{empty, get, insert}
 use Rattle.memo_table.specs.Entries.{Entries, of_names}
 use Rattle.page_render.specs.Items.{item}
@@ -22,10 +22,10 @@ use Rattle.site_items.specs.declared.static_file.StaticFile.{StaticFile}
 use Rattle.site_reader.specs.Found.{Found}
 use Rattle.site_reader.specs.Sites.{site}
 use Rattle.site_reader.specs.declared.site.Site.{Site}
-use Rattle.site_reader.specs.declared.site_item.SiteItem.{SiteItem}
+use Rattle.site_reader.specs.Winners.{winners}
+use Rattle.site_reader.specs.declared.winner.Winner.{Winner}
+use Rattle.site_reader.specs.declared.winner.Winner.TheVariants.{Page, Copy, Document}
 use Rattle.site_session.specs.Bases.{base_of}
-use Rattle.site_session.specs.declared.group.Group.{Group}
-use Rattle.site_session.specs.declared.group.Group.TheVariants.{Pages, Documents}
 use Rattle.site_session.specs.declared.output.Output.{Output}
 use Rattle.site_session.specs.declared.output.Written.{Written}
 use Rattle.site_world.specs.Sights.{fixed_bytes, item_names, site_sight}
@@ -60,54 +60,40 @@ whole files site = whole_by site (rendered files site)
 
 -- ---- the tree
 
--- an item with the bytes of its output
-abbrev pub Made : Type 0
-Made = SiteItem × List ℕ
+-- what is written of an item that came to this
+abbrev pub outcome_bytes : Outcome → Option (List ℕ)
+outcome_bytes (Done content output) = Some output
+outcome_bytes (Fault fault) = None
 
-abbrev pub output_bytes : Outcome → List ℕ
-output_bytes (Done content output) = output
-output_bytes (Fault fault) = []
+abbrev pub item_bytes : List Outcome → ℕ → Option (List ℕ)
+item_bytes outs place = option_and_then outcome_bytes (slice_get outs place)
 
--- each item with what it came to
-abbrev pub made_of : List SiteItem → List Outcome → List Made
-made_of [] outs = []
-made_of (item ∷ items) [] = []
-made_of (item ∷ items) (outcome ∷ outs) = (item, output_bytes outcome) ∷ made_of items outs
+-- what is held of a file that is copied
+abbrev pub copy_bytes : Files → List StaticFile → ℕ → Option (List ℕ)
+copy_bytes held copies place = option_and_then (λ copy. get held copy.path) (slice_get copies place)
 
--- a file at a path, where there is one
-abbrev pub with_file : Files → Option (List ℕ) → List ℕ → Files
-with_file tree None bytes = tree
-with_file tree (Some path) bytes = insert tree path bytes
+-- the bytes of the output that wins a path
+abbrev pub winner_bytes : Files → Site → List Outcome → Winner → Option (List ℕ)
+winner_bytes held site outs (Page place) = item_bytes outs place
+winner_bytes held site outs (Document place) = item_bytes outs place
+winner_bytes held site outs (Copy place) = copy_bytes held site.statics place
 
-abbrev pub with_bytes : Files → Option (List ℕ) → Option (List ℕ) → Files
+-- a file at a path, where there are bytes for it
+abbrev pub with_bytes : Files → List ℕ → Option (List ℕ) → Files
 with_bytes tree path None = tree
-with_bytes tree path (Some bytes) = with_file tree path bytes
+with_bytes tree path (Some bytes) = insert tree path bytes
 
--- the groups of collections come first
-abbrev pub is_document : Site → SiteItem → Bool
-is_document site item = nat_lt item.group (length site.config.collections)
+abbrev pub with_output : Files → Site → List Outcome → Files → List ℕ × Winner → Files
+with_output held site outs tree won = with_bytes tree won.0 (winner_bytes held site outs won.1)
 
-abbrev pub has : Group → Site → SiteItem → Bool
-has Documents site item = is_document site item
-has Pages site item = not (is_document site item)
-
--- the outputs of the items of a group
-abbrev pub with_made : Group → Site → Files → Made → Files
-with_made group site tree one = if has group site one.0 then with_file tree one.0.dest one.1 else tree
-
--- a file that is copied
-abbrev pub with_copy : Files → Files → StaticFile → Files
-with_copy held tree copy = with_bytes tree copy.dest (get held copy.path)
-
--- where several outputs have one path, the last wins: pages come before copied files, and these before documents
-abbrev pub tree_of : Files → Site → List Made → Files
-tree_of held site items =
-    fold (with_made Documents site) (fold (with_copy held) (fold (with_made Pages site) empty items) site.statics) items
+-- each path that some output has, with the bytes of the output that wins it
+abbrev pub tree_of : Files → Site → List Outcome → Files
+tree_of held site outs = fold (with_output held site outs) empty (winners site.config site.items site.statics)
 
 -- ---- what a site writes
 
 abbrev pub written_by : Files → Whole → Written
-written_by files w = record { tree = tree_of files w.site (made_of w.site.items w.outs); keep = w.site.config.keep_files; base = base_of w.site.config.baseurl }
+written_by files w = record { tree = tree_of files w.site w.outs; keep = w.site.config.keep_files; base = base_of w.site.config.baseurl }
 
 -- what the files that make this site stand for
 abbrev pub written_in : Files → Found Site → Found Written

@@ -8,7 +8,6 @@ pub mod Outputs
 pub mod Pages
 pub mod Replies
 pub mod Scenes
-pub mod Seen
 pub mod Session
 pub mod Settled
 pub mod Standing

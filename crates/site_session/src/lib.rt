@@ -3,10 +3,8 @@
 
 mod base;
 mod build;
-mod group;
 mod key_text;
 mod links;
-mod made;
 mod output;
 mod reading;
 mod reply;

@@ -10,7 +10,6 @@ ghost use Rattle.site_world.specs.Sights.{item_names};
 ghost use Rattle.source_tree.specs.Limits.{most_files};
 
 use crate::base::base_of;
-use crate::made::made_of;
 use crate::reading::Reading;
 use crate::rounds::{Crew, all_anew, by_crew, one_by_one};
 use crate::tree::tree_of;
@@ -235,9 +234,8 @@ fn output_by(alloc: Global, held: &Held, site: &Site, round: Round) -> Result<Ou
 fn written_by(alloc: Global, held: &Held, site: &Site, outs: &Outcomes) -> Result<Written, Memory>
     ensures { IfOk result (λ made. made ≡ written_by held.now (record { site = site.now; outs = outs.now })) }
 {
-    let items = made_of(alloc, site.items.as_slice(), outs.as_slice())?;
     Ok(Written {
-        tree: tree_of(alloc, held, site, &items)?,
+        tree: tree_of(alloc, held, site, outs.as_slice())?,
         keep: keep_list(alloc, &site.config.keep_files)?,
         base: base_of(alloc, site.config.baseurl.as_str())?,
     })

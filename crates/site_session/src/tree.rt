@@ -1,97 +1,97 @@
 // The files that a site writes.
-ghost use Rattle.std.specs.Prelude.{◌≡◌, IfOk, OnOk, fold, map};
-ghost use Rattle.site_session.specs.Full.{tree_of, with_bytes, with_copy, with_file, with_made};
-ghost use Rattle.site_session.specs.Seen.{seen};
+ghost use Rattle.std.specs.Prelude.{◌≡◌, IfOk, OnOk};
+ghost use Rattle.std.specs.FinMap.{get};
+ghost use Rattle.site_session.specs.Full.{copy_bytes, item_bytes, tree_of, winner_bytes, with_bytes};
 
-use crate::group::Group;
-use crate::made::Made;
 use out_tree::Tree;
-use site_base::{Memory, SharedBytes, SitePath};
+use read_record::Outcome;
+use site_base::{Memory, SharedBytes, SitePath, Text};
 use site_items::StaticFile;
-use site_reader::Site;
+use site_reader::{Site, Winner, winners};
 use source_tree::Held;
 use std::alloc::Global;
 
-/// The files of the output. Of several outputs at one path a document's wins over that of a copied file, and this over a
-/// page's; of two of one kind the later wins.
+/// The files of the output: each path that some output has, with the bytes of the output that wins it. The paths rise, so none is
+/// searched for.
 pub(crate) fn tree_of(
     alloc: Global,
     held: &Held,
     site: &Site,
-    items: &[Made],
+    outs: &[Outcome],
 ) -> Result<Tree, Memory>
-    ensures { IfOk result (λ tree. tree ≡ tree_of held.now site.now (map seen items.entry.now)) }
+    ensures { IfOk result (λ tree. tree ≡ tree_of held.now site.now outs.now) }
 {
+    let items = site.items.as_slice();
+    let won = winners(alloc, &site.config, items, site.statics.as_slice())?;
     let mut tree = Tree::new(alloc);
-    put_items(alloc, &mut tree, Group::Pages, site, items)?;
-    put_copies(alloc, &mut tree, held, site.statics.as_slice())?;
-    put_items(alloc, &mut tree, Group::Documents, site, items)?;
+    for (path, winner) in won {
+        let bytes = winner_bytes(alloc, held, site, outs, winner)?;
+        put(&mut tree, path, bytes)?;
+    }
     Ok(tree)
 }
 
-fn put_items(
-    alloc: Global,
-    tree: &mut Tree,
-    group: Group,
-    site: &Site,
-    items: &[Made],
-) -> Result<(), Memory>
-    ensures { OnOk result (tree.new ≡ fold (with_made group site.now) tree.old (map seen items.entry.now)) }
+fn put(tree: &mut Tree, path: SitePath, bytes: Option<SharedBytes>) -> Result<(), Memory>
+    ensures { OnOk result (tree.new ≡ with_bytes tree.old path bytes) }
 {
-    for one in items {
-        put_item(alloc, tree, group, site, one)?;
+    match bytes {
+        Some(bytes) => tree.put_shared(path, bytes),
+        None => Ok(()),
     }
-    Ok(())
 }
 
-fn put_item(
+// The bytes of the output that wins a path.
+fn winner_bytes(
     alloc: Global,
-    tree: &mut Tree,
-    group: Group,
-    site: &Site,
-    one: &Made,
-) -> Result<(), Memory>
-    ensures { OnOk result (tree.new ≡ with_made group site.now tree.old (seen one.entry.now)) }
-{
-    if !group.has(site, one.item) {
-        return Ok(());
-    }
-    put_file(alloc, tree, &one.item.dest, &one.bytes)
-}
-
-fn put_copies(
-    alloc: Global,
-    tree: &mut Tree,
     held: &Held,
-    copies: &[StaticFile],
-) -> Result<(), Memory>
-    ensures { OnOk result (tree.new ≡ fold (with_copy held.now) tree.old copies.now) }
+    site: &Site,
+    outs: &[Outcome],
+    winner: Winner,
+) -> Result<Option<SharedBytes>, Memory>
+    ensures { IfOk result (λ bytes. bytes ≡ winner_bytes held.now site.now outs.now winner) }
 {
-    for copy in copies {
-        put_copy(alloc, tree, held, copy)?;
-    }
-    Ok(())
-}
-
-fn put_copy(alloc: Global, tree: &mut Tree, held: &Held, copy: &StaticFile) -> Result<(), Memory>
-    ensures { OnOk result (tree.new ≡ with_copy held.now tree.old copy.now) }
-{
-    match held.get_shared(&copy.path) {
-        Some(bytes) => put_file(alloc, tree, &copy.dest, bytes),
-        None => Ok(()),
+    match winner {
+        Winner::Page(place) => item_bytes(alloc, outs, place),
+        Winner::Document(place) => item_bytes(alloc, outs, place),
+        Winner::Copy(place) => copy_bytes(held, site.statics.as_slice(), place),
     }
 }
 
-fn put_file(
-    alloc: Global,
-    tree: &mut Tree,
-    dest: &Option<SitePath>,
-    bytes: &SharedBytes,
-) -> Result<(), Memory>
-    ensures { OnOk result (tree.new ≡ with_file tree.old dest.now bytes.now) }
+fn item_bytes(alloc: Global, outs: &[Outcome], place: u64) -> Result<Option<SharedBytes>, Memory>
+    ensures { IfOk result (λ bytes. bytes ≡ item_bytes outs.now place) }
 {
-    match dest {
-        Some(path) => tree.put_shared(path.copy(alloc)?, bytes.share()?),
-        None => Ok(()),
+    match outs.get(place as usize) {
+        Some(Outcome::Done { output, .. }) => Ok(Some(text_bytes(alloc, output)?)),
+        Some(Outcome::Fault(_)) => Ok(None),
+        None => Ok(None),
+    }
+}
+
+// The bytes of a text, which are shared where it is a file of its own.
+fn text_bytes(alloc: Global, text: &Text) -> Result<SharedBytes, Memory>
+    ensures { IfOk result (λ bytes. bytes ≡ text.now) }
+{
+    match text.whole_file() {
+        Some(file) => file.share(),
+        None => SharedBytes::from_vec(alloc, text.as_bytes().to_vec(alloc)?),
+    }
+}
+
+// The bytes of a copied file, which are shared with the held one.
+fn copy_bytes(held: &Held, copies: &[StaticFile], place: u64) -> Result<Option<SharedBytes>, Memory>
+    ensures { IfOk result (λ bytes. bytes ≡ copy_bytes held.now copies.now place) }
+{
+    match copies.get(place as usize) {
+        Some(copy) => held_bytes(held, &copy.path),
+        None => Ok(None),
+    }
+}
+
+fn held_bytes(held: &Held, path: &SitePath) -> Result<Option<SharedBytes>, Memory>
+    ensures { IfOk result (λ bytes. bytes ≡ get held.now path.now) }
+{
+    match held.get_shared(path) {
+        Some(bytes) => Ok(Some(bytes.share()?)),
+        None => Ok(None),
     }
 }
