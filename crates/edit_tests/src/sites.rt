@@ -21,11 +21,13 @@ title: <I^J>
 <s^t>
 ";
 
-/// Lists by tags and by categories, and their archives.
+/// Lists by tags and by categories, their archives, a feed and a sitemap.
 pub(crate) const LABELS: &str = "
 @_config.yml
 make_archives: [<tags^categories^tags, categories>]
 archive_layout: <list^none>
+make_feed: <true^true^false>
+make_sitemap: <true^true^false>
 @_layouts/list.html
 {{ page.kind }} {{ page.title }}: {{ content }} {{ page.posts.first.title }} <1^2>
 @_posts/2024-01-0<1^2^3^4>-<a^b>.md
@@ -37,6 +39,7 @@ categories: <c^d^c d>
 {{ page.tags.first }} {{ page.url }} <1^2>
 @tags.html
 ---
+sitemap: <true^false^\"false\">
 ---
 {% for t in site.tags %}{{ t.first }}: {% for p in t.last %}{{ p.title }} {% endfor %}
 {% endfor %}<m^n>
@@ -205,10 +208,11 @@ name: <S^T>
 {{ site.data.shop.name }}
 ";
 
-/// Pages of posts, and archives among them.
+/// Pages of posts, and archives and a sitemap among them.
 pub(crate) const PAGINATORS: &str = "
 @_config.yml
 make_archives: [<tags^categories>]
+make_sitemap: <true^false>
 paginate: <1^2^3>
 paginate_path: <\"/page:num\"^\"/blog/p:num\">
 @_posts/2024-0<1^2^3^4>-01-<a^b>.md
@@ -234,11 +238,12 @@ title: <B^C>
 {{ site.pages.size }} {{ site.html_pages.size }} {{ paginator.page }} {% for p in site.pages %}{{ p.url }} {{ p.dir }} {% endfor %}
 ";
 
-/// Permalinks, defaults, links, and outputs that stand in one another's way.
+/// Permalinks, defaults, links, a sitemap, and outputs that stand in one another's way.
 pub(crate) const ADDRESSES: &str = "
 @_config.yml
 permalink: <date^pretty^/:title/^/:year/:title:output_ext>
 baseurl: <\"\"^/base>
+make_sitemap: <true^false>
 defaults:
 - scope: {path: \"\", type: posts}
   values: {kind: <k^l>}
