@@ -21,7 +21,7 @@ COUNT = 700
 KEYS = (
     "exclude", "include", "keep_files", "collections", "defaults", "limit_posts", "paginate", "timezone", "excerpt_separator", "plugins", "gems", "theme", "remote_theme", "source", "destination",
     "collections_dir", "layouts_dir", "data_dir", "includes_dir", "sass", "feed", "environment", "exclude_globs", "unpublished", "future", "show_drafts", "permalink", "markdown_ext", "ignore_theme_config",
-    "jekyll-archives", "make_archives", "archive_layout",
+    "jekyll-archives", "make_archives", "archive_layout", "make_feed", "make_sitemap",
 )
 KINDS = (
     7, -1, 0, True, False, None, "", "x", "/etc/x", "../x", "_posts", "minima", "a\x00b", "a\nb", "é" * 300, "Europe/Paris", "/:title", [], [7], [None], [[]], [{}], [""], ["/"], ["."], ["*", "[z-a]", "{a,b"],
@@ -90,6 +90,11 @@ def feeds(work: Path, failures: Failures) -> None:
         done = adopt(site)
         failures.expect(f"feed: {feed}: {done.stdout}{done.stderr}", (done.returncode, "Traceback" in done.stderr), (0, False))
         failures.expect(f"feed: {feed}: each line is whole", all(line.startswith(("done: ", "left: ", "/")) for line in done.stdout.splitlines()), True)
+    for number, (key, is_written) in enumerate((("make_feed: true", False), ("make_feed: false", True), ("make_feed: [true]", True), ('make_feed: "true"', True), ("make_feed:", True))):
+        site = work / f"k{number}"
+        write_files(site, {"_config.yml": f"plugins: [jekyll-feed]\n{key}\n", "index.html": ITEM})
+        done = adopt(site)
+        failures.expect(f"{key}: the feed is written: {done.stdout}{done.stderr}", "done: feed.xml: is new" in done.stdout, is_written)
 
 
 def archives(work: Path, failures: Failures) -> None:

@@ -149,6 +149,38 @@ def far_too_many_archives(room: Room) -> None:
     leaves_the_output(room, ["once"], "scanned 2", "fault F6 0 _config.yml")
 
 
+@case("limits: a sitemap of as many pages as a source has files lists each of them", 60, in_memory=True)
+def number_of_listed_pages(room: Room) -> None:
+    write(room, {"_config.yml": b"make_sitemap: true\n"})
+    for number in range(FILES - 1):
+        (room.site / f"{number:05}.html").touch()
+    ran = room.run("build", "--jobs", "4")
+    room.same("the replies", [f"scanned {FILES}", f"built rendered=1 reused=0 written={FILES} removed=0"], ran.lines)
+    room.same("the lines of the sitemap", FILES + 2, (room.out / "sitemap.xml").read_bytes().count(b"\n"))
+
+
+@case("limits: a sitemap of 100,000 archives is taken, and one that their names make longer than 16 MiB is told", 60)
+def length_of_a_sitemap(room: Room) -> None:
+    site = tagged(ARCHIVES)
+    # In an address each byte of these letters is three.
+    long = ", ".join(f"{number}{'ä' * 25}" for number in range(ARCHIVES))
+    write(room, {**site, "_config.yml": b"make_archives: [tags]\nmake_sitemap: true\n"})
+    checks(room, "100,000 short tags", 0, "scanned 2", "clean")
+    write(room, {"_posts/2020-01-01-a.html": f"---\npermalink: /a/\ntags: [{long}]\n---\nA\n".encode()})
+    leaves_the_output(room, ["build", "--jobs", "4"], "scanned 2", "fault F20 0 sitemap.xml")
+    leaves_the_output(room, ["once"], "scanned 2", "fault F20 0 sitemap.xml")
+
+
+@case("limits: a feed of seven posts of 2 MiB is taken, and one of ten is told", 60)
+def length_of_a_feed(room: Room) -> None:
+    text = FRONT + b"a" * (2 * MIB)
+    write(room, {"_config.yml": b"make_feed: true\n", **{f"_posts/2020-01-0{number}-a.html": text for number in range(1, 8)}})
+    checks(room, "seven posts", 0, "scanned 8", "clean")
+    write(room, {f"_posts/2020-02-0{number}-a.html": text for number in range(1, 4)})
+    leaves_the_output(room, ["build", "--jobs", "4"], "scanned 11", "fault F20 6 feed.xml")
+    leaves_the_output(room, ["once"], "scanned 11", "fault F20 6 feed.xml")
+
+
 @case("limits: a clock before 1970 or after 9999 is told, and so is no other")
 def clocks(room: Room) -> None:
     library = meddling(room, Path(__file__).with_name("clock.c"))

@@ -47,6 +47,14 @@ ODD = {
         "_posts/2020-01-01-a.html": "---\ntags: [1, ~, [x, y], {a: b}, '']\ncategories: 5\ntag: {a: b}\n---\n",
         "tag/1/index.html": "---\npermalink: [a]\n---\n",
     },
+    "a feed and a sitemap of other kinds": {"_config.yml": "plugins: [jekyll-feed, jekyll-sitemap]\nmake_feed: [true]\nmake_sitemap: {a: b}\nurl: [c]\nmarkdown_ext: {d: xml}\n"},
+    "pages of odd permalinks beside a feed and a sitemap": {
+        "_config.yml": "make_feed: true\nmake_sitemap: true\nurl: ~\ncollections: {c: [output], d: {output: true}}\n",
+        "feed.xml": "---\npermalink: [a]\n---\n",
+        "sitemap.xml": "---\npermalink: ~\nsitemap: {a: b}\npublished: [c]\n---\n",
+        "_c/feed.xml": "---\npermalink: /feed.xml\n---\n",
+        "_d/feed.xml": "---\npermalink: //feed.xml\n---\n",
+    },
     "a path of the feed with a zero byte": {"_config.yml": 'feed: {path: "a\\0b"}\nplugins: [jekyll-feed]\n'},
 }
 

@@ -173,7 +173,7 @@ def split_why(reply: str, folder: Path) -> tuple[str, str]:
 KEYS = {"new", "source", "content", "output", "var", "paginator", "site", "data", "layout", "include", "file", "link", "post", "moment"}
 # Those that nothing follows.
 ALONE = {"new", "moment"}
-# The number of a page that is generated: by pagination, or as an archive, for which no file stands.
+# The number of a page that is generated: by pagination, or as an archive, a feed or a sitemap, for which no file stands.
 PAGE = re.compile(r"#\d+$")
 
 

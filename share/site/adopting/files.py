@@ -12,7 +12,7 @@ from adopting.adoption import Adoption, refuse_too_much
 from adopting.archives import PLUGIN as ARCHIVES, Plan, by_kind, in_words, plan_of, type_in
 from adopting.outcome import ask
 from adopting.publication import is_published_as_written
-from adopting.settings import plugins_of, question_of, read_mended, save, texts
+from adopting.settings import made_by_keys, plugins_of, question_of, read_mended, save, texts
 from adopting.tags import Includes, rewrite
 from adopting.theme import find_gem, locked_version, missing_files
 from configuration import CONFIG, Hash, Settings, by_lines, is_in_braces, mapping, written
@@ -239,15 +239,18 @@ def write_feeds(adoption: Adoption, config: Hash) -> None:
     for name, meta in collections.items():
         top = "feed" if name == "posts" else f"feed/{name}"
         keys = ["layout: none"] if name == "posts" else ["layout: none", f"feed_collection: {written(name)}"]
-        write_feed(adoption, str(meta.get("path") or f"{top}.xml").lstrip("/"), keys)
+        write_feed(adoption, config, str(meta.get("path") or f"{top}.xml").lstrip("/"), keys)
         for category in texts(meta.get("categories")):
-            write_feed(adoption, f"{top}/{category}.xml", [*keys, f"feed_category: {written(category)}"])
+            write_feed(adoption, config, f"{top}/{category}.xml", [*keys, f"feed_category: {written(category)}"])
     if given.get("tags"):
         settings, _ = read_configuration(adoption)
         adoption.left(f"{CONFIG}:{settings.line('feed')}", "feeds by tag are not made; write one as feed.xml with its tag")
 
 
-def write_feed(adoption: Adoption, path: str, keys: list[str]) -> None:
+def write_feed(adoption: Adoption, config: Hash, path: str, keys: list[str]) -> None:
+    """A feed as a template, where the program does not make it by a key."""
+    if path in made_by_keys(config):
+        return
     if not can_be_written(path) or not path.endswith(".xml"):
         adoption.left(CONFIG, f"the feed {shown(path)} is not made; give it a path that ends with .xml")
         return
@@ -262,7 +265,8 @@ def can_be_written(path: str) -> bool:
 def write_sitemap(adoption: Adoption, config: Hash) -> None:
     """The files of jekyll-sitemap, as templates."""
     if "jekyll-sitemap" in plugins_of(config, adoption.original):
-        write_page(adoption, "sitemap.xml", ["layout: none"], template("sitemap.xml"), "is new: what jekyll-sitemap makes, as a template")
+        if "sitemap.xml" not in made_by_keys(config):
+            write_page(adoption, "sitemap.xml", ["layout: none"], template("sitemap.xml"), "is new: what jekyll-sitemap makes, as a template")
         write_page(adoption, "robots.txt", ["layout: none"], template("robots.txt"), "is new: what jekyll-sitemap makes, as a template")
 
 

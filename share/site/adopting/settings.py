@@ -29,6 +29,8 @@ PAGINATION = {"jekyll-paginate", "jekyll-paginate-v2", "github-pages"}
 BRACKETS = "a list or mapping in brackets"
 # Folders that Jekyll reads under another name, and the names that the program knows.
 FOLDERS = {"layouts_dir": "_layouts", "includes_dir": "_includes", "data_dir": "_data"}
+# What the program makes itself, with the keys that ask for it.
+MADE_BY_KEYS = {"feed.xml": "make_feed", "sitemap.xml": "make_sitemap"}
 
 
 def adopt_configuration(adoption: Adoption) -> Hash:
@@ -194,6 +196,11 @@ def move(adoption: Adoption, settings: Settings, key: str, old: str, new: str) -
 
 def texts(value: object) -> list[str]:
     return [one if isinstance(one, str) else str(one) for one in value] if isinstance(value, list) else []
+
+
+def made_by_keys(config: Hash) -> dict[str, str]:
+    """The paths of what the program makes itself of this site, each with its key."""
+    return {path: key for path, key in MADE_BY_KEYS.items() if config.get(key) is True}
 
 
 def plugins_of(config: Hash, folder: Path) -> list[str]:

@@ -8,7 +8,7 @@ from typing import Iterator
 from adopting.archives import PLUGIN, WORDS, plan_of, type_in
 from adopting.settings import texts
 from configuration import CONFIG, Hash
-from notes.site import Item, Notes, Site
+from notes.site import Item, Notes, Site, is_left_out, is_page, is_post
 from session import MOST_PATH
 
 
@@ -53,15 +53,6 @@ def add_long(notes: Notes, site: Site, words: list[str]) -> None:
                 notes.add(item.path, line, f"a {WORDS[word]} is too long: the path of its archive has more than {MOST_PATH:,} bytes", f"shorten its slug to {most:,}")
 
 
-def is_page(site: Site, item: Item) -> bool:
-    folder = item.path.partition("/")[0]
-    return not is_post(item) and folder != "_layouts" and not (folder[:1] == "_" and folder[1:] in site.collections())
-
-
-def is_post(item: Item) -> bool:
-    return "_posts" in item.path.split("/") or item.path.startswith("_drafts/")
-
-
 def address_of(item: Item) -> str:
     """The address that a page has by its permalink, or as the index of a folder; of others nothing is said."""
     given = item.values.get("permalink")
@@ -73,8 +64,7 @@ def address_of(item: Item) -> str:
 
 def names_of(site: Site, item: Item, word: str) -> Iterator[str]:
     """The tags of a post, or its categories."""
-    is_draft = item.path.startswith("_drafts/") and site.config.get("show_drafts") is not True
-    if not is_post(item) or is_draft or item.values.get("published") is False:
+    if not is_post(item) or is_left_out(site, item):
         return
     if word == "categories" and "/_posts/" in item.path:
         yield from item.path.partition("/_posts/")[0].split("/")

@@ -19,7 +19,7 @@ WHOLE = 1 << 20
 # The keys that have a form: docs/PROFILE.md, "The configuration".
 KEYS = (
     "baseurl", "url", "permalink", "markdown_ext", "include", "exclude", "keep_files", "collections", "defaults", "paginate", "paginate_path",
-    "excerpt_separator", "timezone", "future", "unpublished", "show_drafts", "liquid", "make_archives", "archive_layout",
+    "excerpt_separator", "timezone", "future", "unpublished", "show_drafts", "liquid", "make_archives", "archive_layout", "make_feed", "make_sitemap",
 )
 # What to do where the program's own sentence says too little.
 REMEDIES = {
@@ -37,10 +37,13 @@ REMEDIES = {
     "liquid": "it is a mapping, in which strict_variables and strict_filters are true or false",
     "make_archives": "it is a list of tags, of categories, or of both: [tags, categories]",
     "archive_layout": "it is a text, the name of a layout",
+    "make_feed": "it is true or false",
+    "make_sitemap": "it is true or false",
 }
-# What to do where the pages that a key makes are a fault, and its value is none: in the order in which the program makes them.
+# What to do where the pages that a key makes are a fault, and its value is none: in the order in which the program looks at them.
 REMEDIES_OF_PAGES = {
     "paginate_path": "with the number of a page it is no path; write a shorter one, as /page:num",
+    "markdown_ext": "it lists xml, so feed.xml and sitemap.xml would be converted as Markdown; take xml out, or take make_feed and make_sitemap out",
     "make_archives": "the path of an archive would be longer than 1,024 bytes, or tags or categories would have more than 100,000 archives; "
     "shorten the long tag or category, or take the word out",
 }
@@ -114,10 +117,10 @@ def with_key(fault: Fault, room: Path, program: str) -> Fault:
 
 
 def of_pages(fault: Fault, room: Path, program: str, *options: str) -> Fault:
-    """The fault of a setting that makes pages, with the key without which it is gone."""
+    """The fault of the pages that settings make, with the key without which it is gone."""
     text = read_text(room / CONFIG)
     settings, found = Settings(text), fault
-    # The last to be made is the first to be taken out: an earlier fault hides a later one.
+    # The last to be looked at is the first to be taken out: an earlier fault hides a later one.
     for key in reversed(REMEDIES_OF_PAGES):
         place = settings.place(key)
         settings.remove(key)

@@ -7,9 +7,9 @@ from adopting.archives import PLUGIN as ARCHIVES, plan_of
 from adopting.globs import is_glob
 from adopting.kept_back import READ_FOLDERS, Lists, Program, Rules, leaks, lists_of_paths, shortened
 from adopting.scopes import mend
-from adopting.settings import kept_by_front, lacks_pagination, rules_of, texts, unpublished_copies
+from adopting.settings import kept_by_front, lacks_pagination, made_by_keys, rules_of, texts, unpublished_copies
 from configuration import CONFIG, mapping
-from notes import archives
+from notes import archives, feed_and_sitemap
 from notes.site import Notes, Site
 
 ADOPT = "`site adopt` does that"
@@ -52,7 +52,7 @@ WITHOUT_WORK = {
 
 
 def add(notes: Notes, site: Site) -> None:
-    for part in (add_keys, add_options, add_plugins, archives.add, add_lists, add_kept, add_scopes, add_permalinks, add_collections):
+    for part in (add_keys, add_options, add_plugins, archives.add, feed_and_sitemap.add, add_lists, add_kept, add_scopes, add_permalinks, add_collections):
         with notes.of(CONFIG):
             part(notes, site)
 
@@ -80,8 +80,9 @@ def add_plugins(notes: Notes, site: Site) -> None:
     feed = site.config.get("feed")
     path = str(feed.get("path") or "feed.xml") if isinstance(feed, dict) else "feed.xml"
     made = {**DONE_BY, "jekyll-feed": path.lstrip("/")}
+    there = {*site.files, *made_by_keys(site.config)}
     for name in site.plugins():
-        if name in WITHOUT_WORK or made.get(name) in site.files or name == ARCHIVES and "make_archives" in site.config:
+        if name in WITHOUT_WORK or made.get(name) in there or name == ARCHIVES and "make_archives" in site.config:
             continue
         place, line = (CONFIG, site.settings.line_with("plugins", name)) if name in texts(site.config.get("plugins")) else ("Gemfile", 0)
         remedy = f"a template has to make {made[name]}: {ADOPT}" if name in made else "write what it makes as a template"

@@ -116,6 +116,21 @@ class Site:
         return os.path.splitext(path)[1][1:] in [ending.strip() for ending in endings]
 
 
+def is_page(site: Site, item: Item) -> bool:
+    folder = item.path.partition("/")[0]
+    return not is_post(item) and folder != "_layouts" and not (folder[:1] == "_" and folder[1:] in site.collections())
+
+
+def is_post(item: Item) -> bool:
+    return "_posts" in item.path.split("/") or item.path.startswith("_drafts/")
+
+
+def is_left_out(site: Site, item: Item) -> bool:
+    """Whether it is not published, or a draft that is not built."""
+    is_draft = item.path.startswith("_drafts/") and site.config.get("show_drafts") is not True
+    return is_draft or item.values.get("published") is False
+
+
 def read_site(folder: Path, program: str) -> Site:
     """Reads all that the notes look at. What has a fault is passed over: the program tells it. So is what has gone meanwhile.
 
