@@ -21,6 +21,7 @@ SIDE_BY_SIDE = {
     "rights": "what is copied: with no more rights than there were, through no link of gems, and with an end",
     "beside_jekyll": "",
     "held_back": "what Jekyll holds back: it stays back in all spellings, and nothing is made where a rule is wrong",
+    "dates": "dates in named zones: Jekyll's addresses and clocks, as zoneinfo has them",
     "patterns": "patterns: they find what Ruby finds, in time",
     "plugins": "",
     "proof": "",

@@ -8,10 +8,12 @@ from typing import Optional
 
 from adopting.adoption import Adoption
 from adopting.copying import copy_site
+from adopting.dates import mend_dates
 from adopting.files import (
     adopt_templates, adopt_theme, coming_out, mend_front_matter, read_configuration, write_archives, write_feeds, write_redirects, write_sitemap,
     write_styles,
 )
+from adopting.hidden import hide_texts
 from adopting.placing import finish
 from adopting.settings import adopt_configuration
 from calling import NotDone
@@ -68,6 +70,8 @@ def adopt(adoption: Adoption, theme: Optional[Path]) -> None:
     """Does all that can be done. What must not come out is looked after first."""
     config = adopt_configuration(adoption)
     mend_front_matter(adoption)
+    mend_dates(adoption, config)
+    hide_texts(adoption, config)
     adopt_theme(adoption, config, theme)
     adopt_templates(adoption)
     write_feeds(adoption, config)

@@ -216,6 +216,10 @@ class Lines:
     def of(self, at: int) -> int:
         return bisect.bisect_left(self.ends, at) + 1
 
+    def begin(self, line: int) -> int:
+        """The place at which a line begins."""
+        return self.ends[line - 2] + 1 if line > 1 else 0
+
 
 @contextmanager
 def scratch() -> Iterator[Path]:

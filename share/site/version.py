@@ -7,7 +7,7 @@ from pathlib import Path
 import calling
 from words import Refused, shown
 
-VERSION = "0.6.0"
+VERSION = "0.7.0"
 # The program tells its version at once.
 SECONDS = 10.0
 SAID = re.compile(r"^sitebuild (\d+(?:\.\d+)*)$", re.M)

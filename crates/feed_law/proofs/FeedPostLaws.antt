@@ -1,5 +1,5 @@
 -- The title and the date of a document.
-use Rattle.std.proofs.Common.{◌≡◌, ◌∙◌, refl, ap, sym, subst, ℕ, zero, ℤ, Bool, true, false, List, codes, length, nat_lt, Option, Some, None, if◌then◌else◌}
+use Rattle.std.proofs.Common.{◌≡◌, ◌∙◌, refl, ap, sym, subst, ℕ, ℤ, Bool, true, false, List, codes, length, nat_lt, Option, Some, None, if◌then◌else◌}
 use Rattle.std.specs.Option.{unwrap_or}
 use Rattle.std.specs.Str.{bytes_eq}
 use Rattle.site_base.specs.Plain.{Plain, nil, bool, text, hash, Pairs, get, set}
@@ -9,7 +9,6 @@ use Rattle.site_config.specs.declared.config.Config.{Config}
 use Rattle.site_files.specs.Names.{extension, file_name, stem}
 use Rattle.site_items.specs.Addresses.{collection_of, is_page, is_post, name_of}
 use Rattle.site_items.specs.Dates.{date_value}
-use Rattle.site_items.specs.Defaults.{variable}
 use Rattle.site_items.specs.Items.{categories, document_variables, id_of, names_value, tags, is_draft, slug_of, is_nil, kind_named, kind_variables, named, page_variables, placed, title_part, set_if, set_missing}
 use Rattle.site_items.specs.Titles.{title}
 use Rattle.site_items.specs.declared.kind.Kind.{Kind}

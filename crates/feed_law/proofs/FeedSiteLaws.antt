@@ -1,9 +1,9 @@
 -- What a reader finds of a site's newest posts.
-use Rattle.std.proofs.Common.{◌≡◌, ◌∙◌, refl, ap, sym, subst, ℕ, zero, suc, nat_lt, Bool, true, false, not, ◌&&◌, List, [], ◌∷◌, codes, map, reverse, take, Option, Some, None, if◌then◌else◌}
+use Rattle.std.proofs.Common.{◌≡◌, ◌∙◌, refl, ap, sym, subst, ℕ, zero, suc, Bool, true, false, not, ◌&&◌, List, [], ◌∷◌, codes, map, take, Option, if◌then◌else◌}
 use Rattle.std.specs.Option.{unwrap_or}
 use Rattle.std.specs.Str.{bytes_eq}
 use Rattle.site_base.specs.Places.{Files}
-use Rattle.site_base.specs.Plain.{Plain, nil, text, list, Pairs, no_pairs, pair, get, set, item_list, onto_pairs}
+use Rattle.site_base.specs.Plain.{Plain, nil, text, Pairs, no_pairs, pair, get, set, item_list, onto_pairs}
 use Rattle.site_base.specs.Values.{value_text}
 use Rattle.site_base.specs.View.{plain}
 use Rattle.site_config.specs.Forms.{setting}
@@ -13,24 +13,24 @@ use Rattle.site_reader.specs.declared.site_item.SiteItem.{SiteItem}
 use Rattle.site_variables.specs.Hashes.{documents_by_name}
 use Rattle.site_variables.specs.Lists.{each, named, newest_posts, pages, html_pages, documents}
 use Rattle.site_variables.specs.Settings.{settings}
-use Rattle.site_variables.specs.Variables.{site_variable, variables, own_variables, hash_variables, label_variables}
+use Rattle.site_variables.specs.Variables.{site_variable, variables, hash_variables, label_variables}
 use Rattle.site_world.specs.Sights.{placed, variable_of, content_of, done_content}
-use Rattle.read_record.specs.Queries.{Reply, Known}
+use Rattle.read_record.specs.Queries.{Known}
 use Rattle.read_record.specs.declared.outcome.Outcome.{Outcome}
-use Rattle.feed_pages.specs.Feed.{Post}
 use Rattle.feed_law.proofs.FeedDates.{variable_dated}
 use Rattle.feed_law.proofs.FeedPostLaws.{title_set, date_set}
 use Rattle.feed_law.proofs.PairLaws.{other_set, same_set}
-use Rattle.feed_law.specs.FeedSites.{AllRendered, IsRendered, SiteLaw, given_of, newest, post_of, sees}
+use Rattle.feed_law.specs.FeedSites.{AllRendered, IsRendered, SiteLaw, newest, post_of, sees}
 use Rattle.feed_law.specs.FeedViews.{Finds, FindsAll, IsDate, date_variable, post_value}
 
 -- ---- The variable `posts`
 
-abbrev lacks : List ℕ → Pairs → Bool
+abbrev pub lacks : List ℕ → Pairs → Bool
 lacks x no_pairs = true
 lacks x (pair k v ps) = not (bytes_eq x k) && lacks x ps
 
-all_set : (x : List ℕ) (ps under : Pairs) → lacks x ps ≡ true → get x (set_all ps under) ≡ get x under
+-- what these pairs lack is as it was under them
+pub all_set : (x : List ℕ) (ps under : Pairs) → lacks x ps ≡ true → get x (set_all ps under) ≡ get x under
 all_set x no_pairs under h = refl
 all_set x (pair k v ps) under h = by (bytes_eq x k) refl h (all_set x ps (set k v under))
   where

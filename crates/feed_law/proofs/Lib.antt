@@ -1,3 +1,4 @@
+pub mod BareItems
 pub mod EscapeLaws
 pub mod FeedDates
 pub mod FeedFields
@@ -11,3 +12,8 @@ pub mod FeedTexts
 pub mod FeedTree
 pub mod MetLaws
 pub mod PairLaws
+pub mod PlainTextLaws
+pub mod SitemapItemLaws
+pub mod GeneratedLaws
+pub mod Parted
+pub mod SiteLaws

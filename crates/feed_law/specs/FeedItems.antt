@@ -14,15 +14,19 @@ use Rattle.feed_law.specs.FeedLaws.{feed_of}
 use Rattle.feed_law.specs.FeedPieces.{feed_pieces, written}
 use Rattle.feed_law.specs.FeedViews.{Given, FeedView, is_flat, offset_of, base}
 
--- what a view finds of the feed itself: its template, an extension that is none of Markdown's, and no layout
-pub record IsFeed (view : View) (n : ItemName) : Type 0 where
+-- what a view finds of an item that is only evaluated: its template, an extension that is none of Markdown's, and no layout
+pub record IsBare (view : View) (template : List ℕ) (n : ItemName) : Type 0 where
   pub extension : Plain
   pub names : Plain
-  pub source : view (Source n) ≡ Known (text feed_template)
+  pub source : view (Source n) ≡ Known (text template)
   pub ext : view (Var n (codes "ext")) ≡ Known extension
   pub markdown : view (SiteVar (codes "markdown_ext")) ≡ Known names
   pub other : is_listed (text_or_empty names) (text_or_empty extension) ≡ false
   pub bare : view (Var n (codes "layout")) ≡ Known nil
+
+-- and of the feed itself
+abbrev pub IsFeed : View → ItemName → Type 0
+IsFeed view n = IsBare view feed_template n
 
 -- a text as an item's content and its output
 abbrev pub page : List ℕ → Page

@@ -1,5 +1,5 @@
 -- Of a post of a lawful site, what its feed rests on: its title and its date, by the site's variables.
-use Rattle.std.specs.Prelude.{◌≡◌, ℕ, ℤ, false, codes, Some}
+use Rattle.std.specs.Prelude.{◌≡◌, ℤ, false, codes, Some}
 use Rattle.site_base.specs.Plain.{text}
 use Rattle.site_base.specs.View.{plain}
 use Rattle.site_config.specs.Forms.{setting}

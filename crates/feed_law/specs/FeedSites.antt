@@ -1,7 +1,7 @@
 -- What a feed rests on in a site: its variables, and its ten newest posts with what they came to.
-use Rattle.std.specs.Prelude.{◌≡◌, ℕ, ◌∷◌, ℤ, nat_lt, true, false, List, [], codes, length, map, reverse, take, Option, Some}
+use Rattle.std.specs.Prelude.{◌≡◌, ℕ, ◌∷◌, ℤ, nat_lt, true, false, List, [], codes, map, reverse, take, Option, Some}
 use Rattle.site_base.specs.Places.{Files}
-use Rattle.site_base.specs.Plain.{Plain, text}
+use Rattle.site_base.specs.Plain.{nil, text}
 use Rattle.site_base.specs.Values.{value_text}
 use Rattle.site_base.specs.View.{plain}
 use Rattle.site_config.specs.Forms.{setting}
@@ -9,6 +9,7 @@ use Rattle.site_items.specs.Addresses.{is_page}
 use Rattle.site_reader.specs.Lawful.{HasVariables, KnowsItself}
 use Rattle.site_reader.specs.declared.site.Site.{Site}
 use Rattle.site_reader.specs.declared.site_item.SiteItem.{SiteItem}
+use Rattle.site_text.specs.Extensions.{is_listed}
 use Rattle.site_variables.specs.Lists.{each, named, posts}
 use Rattle.site_variables.specs.Variables.{site_variable}
 use Rattle.site_world.specs.Sights.{placed, site_sight}
@@ -16,6 +17,7 @@ use Rattle.read_record.specs.Queries.{View}
 use Rattle.read_record.specs.declared.outcome.Outcome.{Outcome}
 use Rattle.read_record.specs.declared.outcome.Outcome.TheVariants.{Done}
 use Rattle.feed_pages.specs.Feed.{Post}
+use Rattle.feed_law.specs.FeedItems.{IsBare}
 use Rattle.feed_law.specs.FeedViews.{Given, FeedView}
 
 -- an item as a feed shows it, by what it came to
@@ -69,3 +71,9 @@ AllRendered site reader known content (i ∷ is) = IsRendered site reader known 
 abbrev pub SiteLaw : Type 0
 SiteLaw = (files : Files) (site : Site) (reader : ℕ) (known : ℕ → Option Outcome) (content : SiteItem → List ℕ) →
     AllRendered site reader known content (take 10 (newest site)) → FeedView (sees files site reader known) (given_of site content)
+
+-- an item of the site at its place that is no Markdown and names no layout is only evaluated
+abbrev pub BareLaw : Type 0
+BareLaw = (files : Files) (site : Site) (reader : ℕ) (known : ℕ → Option Outcome) (place : ℕ) (i : SiteItem) → placed i.name site.items ≡ Some (place, i) →
+    setting (codes "ext") (plain i.vars) ≡ text (codes ".xml") → setting (codes "layout") (plain i.vars) ≡ nil → is_listed site.config.markdown_ext (codes ".xml") ≡ false →
+    IsBare (sees files site reader known) i.body i.name

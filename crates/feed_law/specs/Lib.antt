@@ -5,3 +5,6 @@ pub mod FeedPieces
 pub mod FeedPosts
 pub mod FeedSites
 pub mod FeedViews
+pub mod PlainTexts
+pub mod SitemapItems
+pub mod Unmapped

@@ -1,7 +1,9 @@
 // Calls that do nothing, whose clauses are the laws of the feed.
 ghost use Rattle.feed_law.specs.FeedItems.{ItemLaw, ItemTextLaw};
-ghost use Rattle.feed_law.specs.FeedSites.{SiteLaw};
+ghost use Rattle.feed_law.specs.FeedSites.{BareLaw, SiteLaw};
 ghost use Rattle.feed_law.specs.FeedPosts.{MomentLaw, TitleLaw};
+ghost use Rattle.feed_law.specs.PlainTexts.{PlainItemLaw, PlainPageLaw, PlainTextLaw};
+ghost use Rattle.feed_law.specs.SitemapItems.{SitemapItemLaw};
 ghost use Rattle.feed_law.specs.FeedLaws.{DateLaw, DeepLaw, ExcessLaw, PiecesLaw, TextLaw, TreeLaw, WholeLaw};
 
 #[tactic(auto, using(crate::proofs::FeedTree::feed_tree))]
@@ -56,4 +58,24 @@ pub fn moment_law()
 
 pub fn site_law()
     ensures { SiteLaw }
+{}
+
+pub fn plain_text_law()
+    ensures { PlainTextLaw }
+{}
+
+pub fn plain_item_law()
+    ensures { PlainItemLaw }
+{}
+
+pub fn plain_page_law()
+    ensures { PlainPageLaw }
+{}
+
+pub fn sitemap_item_law()
+    ensures { SitemapItemLaw }
+{}
+
+pub fn bare_law()
+    ensures { BareLaw }
 {}

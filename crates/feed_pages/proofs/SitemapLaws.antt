@@ -43,7 +43,7 @@ byte_no_tag c = go (stands_in_urls c) where
 
   go : (b : Bool) → has_tag (if b then escaped_byte c else percent_byte c) ≡ false
   go true = itself (c == 38) (c == 60) (c == 62) (c == 34) refl
-  go false = neither _ _ (digit_no_tag (c / 16)) (neither _ _ (digit_no_tag (c % 16)) refl)
+  go false = neither _ _ (digit_no_tag (c / 16 % 16)) (neither _ _ (digit_no_tag (c % 16)) refl)
 
 text_no_tag : (t : List ℕ) → has_tag (url_text t) ≡ false
 text_no_tag [] = refl
@@ -100,8 +100,8 @@ digit_no_brace d lt = go (nat_lt d 10) where
   go true = grind arith
   go false = grind arith
 
-percent_no_brace : (c : ℕ) → c < 256 → has_brace (percent_byte c) ≡ false
-percent_no_brace c lt = neither _ _ (digit_no_brace (c / 16) (omega arith)) (neither _ _ (digit_no_brace (c % 16) (omega arith)) refl)
+percent_no_brace : (c : ℕ) → has_brace (percent_byte c) ≡ false
+percent_no_brace c = neither _ _ (digit_no_brace (c / 16 % 16) (omega arith)) (neither _ _ (digit_no_brace (c % 16) (omega arith)) refl)
 
 standing : (c : ℕ) → stands_in_urls c ≡ true → (c == 123) ≡ false
 standing c h = go (c == 123) refl where
@@ -109,8 +109,8 @@ standing c h = go (c == 123) refl where
   go false e = e
   go true e = let is : c ≡ 123 = grind (arith, e) in absurd (true≢false (sym (sym (ap (λ (d : ℕ). stands_in_urls d) is) ∙ h)))
 
-byte_no_brace : (c : ℕ) → c < 256 → has_brace (url_byte c) ≡ false
-byte_no_brace c lt = go (stands_in_urls c) refl where
+pub byte_no_brace : (c : ℕ) → has_brace (url_byte c) ≡ false
+byte_no_brace c = go (stands_in_urls c) refl where
   itself : (a b d e : Bool) → (c == 123) ≡ false → has_brace (if a then codes "&amp;" else if b then codes "&lt;" else if d then codes "&gt;" else if e then codes "&quot;" else c ∷ []) ≡ false
   itself true b d e h = refl
   itself false true d e h = refl
@@ -120,10 +120,10 @@ byte_no_brace c lt = go (stands_in_urls c) refl where
 
   go : (b : Bool) → stands_in_urls c ≡ b → has_brace (if b then escaped_byte c else percent_byte c) ≡ false
   go true h = itself (c == 38) (c == 60) (c == 62) (c == 34) (standing c h)
-  go false h = percent_no_brace c lt
+  go false h = percent_no_brace c
 
-pub byte_keeps_braces : (old new : List ℕ) (c : ℕ) → c < 256 → new ≡ old ++ url_byte c → has_brace new ≡ has_brace old
-byte_keeps_braces old new c lt e = braces_kept old new (url_byte c) e (byte_no_brace c lt)
+pub byte_keeps_braces : (old new : List ℕ) (c : ℕ) → new ≡ old ++ url_byte c → has_brace new ≡ has_brace old
+byte_keeps_braces old new c e = braces_kept old new (url_byte c) e (byte_no_brace c)
 
 -- ---- What is said of a result
 

@@ -93,7 +93,7 @@ one_end given old new reply told tells (Limited fault is some) other same =
     (record { comes = ap (λ (f : Option SiteFault). option_or f (first_fault (after_scan given old))) some; left = same (ap has_called_output is) }, inl (some, refl))
 
 left_but : (now : Standing) (failed : List (List ℕ)) (told tells : Option Files) (belief : Option Belief) → Leaves now failed told tells belief → LeftBut failed now told tells
-left_but now failed told tells belief l = record { written = l.written; stands_for = l.stands_for; made = l.made }
+left_but now failed told tells belief l = record { written = l.written; stands_for = l.stands_for; made = l.made; shows = l.shows }
 
 -- what a run ends with after the reply to its build
 pub two_end : (given : Given) (first : Standing) (reply : Reply) (told tells : Option Files) (belief : Option Belief) → scan_fault (entries given.source) ≡ None

@@ -13,6 +13,7 @@ use Rattle.site_session.specs.Bytes.{fault_line, reply_bytes}
 use Rattle.site_session.specs.Session.{Given, Nothing, first_fault, scan}
 use Rattle.site_session.specs.Scenes.{SourceSeen}
 use Rattle.site_session.specs.Standing.{Standing}
+use Rattle.site_script.specs.declared.line.ScriptKind.{ScriptKind}
 use Rattle.site_words.specs.declared.faults.UsageKind.{UsageKind}
 use Rattle.site_session.specs.declared.reply.Reply.TheVariants.{Scanned, Faulty}
 use Rattle.site_program.specs.Checks.{CheckDone, Checked, CheckTook, EndsAs, IsFrontOf, Said, SaidBoth, check_bytes, check_bytes_by, failed_bytes, verdict, verdict_status}
@@ -145,6 +146,7 @@ module _ {S : Type 0} (first : Standing) (source source' : SourceSeen S) (sink s
     took = took;
     no_usage = λ kind e. usage is kind e;
     no_input = λ e. input is e;
+    no_script = λ number kind e. script is number kind e;
     no_output = λ count e. output is count e;
     source_fault = λ e. source_rose is e;
     source_steady = steady;
@@ -162,6 +164,11 @@ module _ {S : Type 0} (first : Standing) (source source' : SourceSeen S) (sink s
       input : IsVerdict (Rose source.failures source'.failures) wanted → s ≡ status.InputFault → ⊥
       input (OfSite fault w) e = other_end wanted s status.InputFault ends (λ o. verdict_is fault status.InputFault (λ d. cc (d)) (λ f d. cc (d)) (sym w ∙ o)) (λ o. cc (o)) (λ o. cc (o)) e
       input (OfSource w r) e = other_end wanted s status.InputFault ends (λ o. cc (w, o)) (λ o. cc (o)) (λ o. cc (o)) e
+
+      script : IsVerdict (Rose source.failures source'.failures) wanted → (number : ℕ) (kind : ScriptKind) → s ≡ status.Script number kind → ⊥
+      script (OfSite fault w) number kind e =
+          other_end wanted s (status.Script number kind) ends (λ o. verdict_is fault (status.Script number kind) (λ d. cc (d)) (λ f d. cc (d)) (sym w ∙ o)) (λ o. cc (o)) (λ o. cc (o)) e
+      script (OfSource w r) number kind e = other_end wanted s (status.Script number kind) ends (λ o. cc (w, o)) (λ o. cc (o)) (λ o. cc (o)) e
 
       output : IsVerdict (Rose source.failures source'.failures) wanted → (count : ℕ) → s ≡ status.OutFault count → ⊥
       output (OfSite fault w) count e = other_end wanted s (status.OutFault count) ends (λ o. verdict_is fault (status.OutFault count) (λ d. cc (d)) (λ f d. cc (d)) (sym w ∙ o)) (λ o. cc (o)) (λ o. cc (o)) e

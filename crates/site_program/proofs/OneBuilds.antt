@@ -10,6 +10,7 @@ use Rattle.site_base.specs.declared.faults.SiteFault.{SiteFault}
 use Rattle.site_base.specs.declared.item_name.ItemName.{ItemName}
 use Rattle.source_tree.specs.Scan.{scan_fault}
 use Rattle.site_script.specs.declared.line.Line.TheVariants as line
+use Rattle.site_script.specs.declared.line.ScriptKind.{ScriptKind}
 use Rattle.site_session.specs.Bytes.{reply_bytes}
 use Rattle.site_session.specs.Makes.{IsShort}
 use Rattle.site_session.specs.Rebuilds.{Rebuilds}
@@ -57,6 +58,10 @@ early_usage : (s : Status) (kind : UsageKind) → IsEarly s → s ≡ status.Usa
 early_usage s kind (inl is) e = cc
 early_usage s kind (inr is) e = cc
 
+early_script : (s : Status) (number : ℕ) (kind : ScriptKind) → IsEarly s → s ≡ status.Script number kind → ⊥
+early_script s number kind (inl is) e = cc
+early_script s number kind (inr is) e = cc
+
 early_input : (s : Status) → IsEarly s → s ≡ status.InputFault → ⊥
 early_input s (inl is) e = cc
 early_input s (inr is) e = cc
@@ -71,29 +76,32 @@ early_out s count (inr is) e = cc
 
 -- what no reply is told by
 data Plain (s : Status) : Type 0 where
-  Is : ((kind : UsageKind) → s ≡ status.Usage kind → ⊥) → (s ≡ status.InputFault → ⊥) → (s ≡ status.SinkFault → ⊥) → Plain s
+  Is : ((kind : UsageKind) → s ≡ status.Usage kind → ⊥) → (s ≡ status.InputFault → ⊥) → (s ≡ status.SinkFault → ⊥) → ((number : ℕ) (kind : ScriptKind) → s ≡ status.Script number kind → ⊥) → Plain s
 
 plain : (reply : Reply) → Plain (reply_status reply)
-plain (Scanned count) = Is (λ kind e. cc) (λ e. cc) (λ e. cc)
-plain ScanFailed = Is (λ kind e. cc) (λ e. cc) (λ e. cc)
-plain (Faulty fault) = Is (λ kind e. cc) (λ e. cc) (λ e. cc)
-plain Fine = Is (λ kind e. cc) (λ e. cc) (λ e. cc)
-plain Absent = Is (λ kind e. cc) (λ e. cc) (λ e. cc)
-plain (Built report) = Is (λ kind e. cc) (λ e. cc) (λ e. cc)
-plain (Marked paths) = Is (λ kind e. cc) (λ e. cc) (λ e. cc)
-plain Unlisted = Is (λ kind e. cc) (λ e. cc) (λ e. cc)
-plain (BadLine number kind) = Is (λ kind e. cc) (λ e. cc) (λ e. cc)
-plain Silent = Is (λ kind e. cc) (λ e. cc) (λ e. cc)
-plain (the_reply.Links report) = Is (λ kind e. cc) (λ e. cc) (λ e. cc)
+plain (Scanned count) = Is (λ kind e. cc) (λ e. cc) (λ e. cc) (λ number kind e. cc)
+plain ScanFailed = Is (λ kind e. cc) (λ e. cc) (λ e. cc) (λ number kind e. cc)
+plain (Faulty fault) = Is (λ kind e. cc) (λ e. cc) (λ e. cc) (λ number kind e. cc)
+plain Fine = Is (λ kind e. cc) (λ e. cc) (λ e. cc) (λ number kind e. cc)
+plain Absent = Is (λ kind e. cc) (λ e. cc) (λ e. cc) (λ number kind e. cc)
+plain (Built report) = Is (λ kind e. cc) (λ e. cc) (λ e. cc) (λ number kind e. cc)
+plain (Marked paths) = Is (λ kind e. cc) (λ e. cc) (λ e. cc) (λ number kind e. cc)
+plain Unlisted = Is (λ kind e. cc) (λ e. cc) (λ e. cc) (λ number kind e. cc)
+plain (BadLine number kind) = Is (λ kind e. cc) (λ e. cc) (λ e. cc) (λ number kind e. cc)
+plain Silent = Is (λ kind e. cc) (λ e. cc) (λ e. cc) (λ number kind e. cc)
+plain (the_reply.Links report) = Is (λ kind e. cc) (λ e. cc) (λ e. cc) (λ number kind e. cc)
 
 plain_usage : (s : Status) → Plain s → (kind : UsageKind) → s ≡ status.Usage kind → ⊥
-plain_usage s (Is usage input sink) = usage
+plain_usage s (Is usage input sink script) = usage
 
 plain_input : (s : Status) → Plain s → s ≡ status.InputFault → ⊥
-plain_input s (Is usage input sink) = input
+plain_input s (Is usage input sink script) = input
 
 plain_sink : (s : Status) → Plain s → s ≡ status.SinkFault → ⊥
-plain_sink s (Is usage input sink) = sink
+plain_sink s (Is usage input sink script) = sink
+
+plain_script : (s : Status) → Plain s → (number : ℕ) (kind : ScriptKind) → s ≡ status.Script number kind → ⊥
+plain_script s (Is usage input sink script) = script
 
 -- ---- the four ends
 
@@ -117,6 +125,7 @@ module _ {S D : Type 0} (first opened : Standing) (is_first : opened ≡ first) 
         cut_one given first opened before st.0 was (scanned_to source sink) s is_first (half given st.0 out st.2) st.1.bytes (record { cases = early; memory = λ e. st.1.memory (of_memory e) });
     no_usage = λ kind e. early_usage s kind early e;
     no_input = λ e. early_input s early e;
+    no_script = λ number kind e. early_script s number kind early e;
     untouched = λ u. refl;
     blames = told;
     completes = completes was (scanned_to source sink) s told (λ kind e. early_usage s kind early e) (λ e. early_input s early e);
@@ -156,6 +165,7 @@ module _ {S D : Type 0} (first opened : Standing) (is_first : opened ≡ first) 
         (subst (λ b. Holds was.scene.output.files b given.output) (sym t.belief) (opened_holds first opened was.scene.output.files given is_first unlisted out)) is;
     no_usage = λ kind e. plain_usage (reply_status reply) (plain reply) kind (sym is ∙ e);
     no_input = λ e. plain_input (reply_status reply) (plain reply) (sym is ∙ e);
+    no_script = λ number kind e. plain_script (reply_status reply) (plain reply) number kind (sym is ∙ e);
     untouched = λ u. refl;
     blames = told;
     completes = completes was (scanned_to source sink) s told (λ kind e. plain_usage (reply_status reply) (plain reply) kind (sym is ∙ e)) (λ e. plain_input (reply_status reply) (plain reply) (sym is ∙ e));
@@ -249,6 +259,7 @@ module _ {S D : Type 0} (first opened : Standing) (is_first : opened ≡ first) 
         leaves (bytes_by given before w at) (r.belief given.output (mid_holds given out_is)) is;
     no_usage = λ kind e. plain_usage (reply_status reply) (plain reply) kind (sym is ∙ e);
     no_input = λ e. plain_input (reply_status reply) (plain reply) (sym is ∙ e);
+    no_script = λ number kind e. plain_script (reply_status reply) (plain reply) number kind (sym is ∙ e);
     untouched = λ u. leaves.output.untouched (untouched_quiet reply (subst (λ (x : Status). Untouched x) is u));
     blames = told;
     completes = completes begun (built_to sink') s told (λ kind e. plain_usage (reply_status reply) (plain reply) kind (sym is ∙ e)) (λ e. plain_input (reply_status reply) (plain reply) (sym is ∙ e));
@@ -287,6 +298,7 @@ module _ {S D : Type 0} (first opened : Standing) (is_first : opened ≡ first) 
         (st.1.bytes ∙ ap (λ y. Some ((before ++ reply_bytes y scanned) ++ st.0)) (sym w)) (record { cases = early; memory = λ e. st.1.memory (of_memory e) });
     no_usage = λ kind e. early_usage s kind early e;
     no_input = λ e. early_input s early e;
+    no_script = λ number kind e. early_script s number kind early e;
     untouched = λ u. absurd (early_touches s early u);
     blames = told;
     completes = completes begun (built_to sink') s told (λ kind e. early_usage s kind early e) (λ e. early_input s early e);

@@ -8,6 +8,7 @@ use Rattle.site_session.specs.Bytes.{fault_line, reply_bytes}
 use Rattle.site_session.specs.Session.{Given, first_fault}
 use Rattle.site_session.specs.Scenes.{SourceSeen}
 use Rattle.site_session.specs.Standing.{Standing}
+use Rattle.site_script.specs.declared.line.ScriptKind.{ScriptKind}
 use Rattle.site_words.specs.declared.faults.UsageKind.{UsageKind}
 use Rattle.site_program.specs.Once.{after_scan, scanned, site_fault}
 use Rattle.site_program.specs.Stages.{Comes, Completes, SinkSeen, Stage}
@@ -68,6 +69,7 @@ pub record CheckDone {S : Type 0} (first : Standing) (source source' : SourceSee
   pub took : (given : Given) (before : List ℕ) → source.files ≡ Some given.source → sink.taken ≡ Some before → CheckTook given (after_scan given first) before sink'.taken ended
   pub no_usage : (kind : UsageKind) → ended ≡ Usage kind → ⊥
   pub no_input : ended ≡ InputFault → ⊥
+  pub no_script : (number : ℕ) (kind : ScriptKind) → ended ≡ Script number kind → ⊥
   pub no_output : (count : ℕ) → ended ≡ OutFault count → ⊥
   pub source_fault : ended ≡ SourceFault → Rose source.failures source'.failures
   pub source_steady : Comes ended → source'.failures ≡ source.failures

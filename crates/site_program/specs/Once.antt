@@ -6,6 +6,7 @@ use Rattle.site_base.specs.Places.{Files}
 use Rattle.site_base.specs.declared.faults.SiteFault.{SiteFault}
 use Rattle.source_tree.specs.Scan.{scan_fault}
 use Rattle.out_tree.specs.Belief.{all_marked}
+use Rattle.site_session.specs.Feeds.{Shows}
 use Rattle.site_session.specs.Full.{full}
 use Rattle.site_session.specs.Standing.{Standing, MakesBut}
 use Rattle.site_session.specs.Session.{Given, first_fault, full_now, report}
@@ -56,6 +57,7 @@ pub record LeftBut (failed : List (List ℕ)) (now : Standing) (told tells : Opt
   pub written : Written
   pub stands_for : full now.files now.moment now.settings ≡ Ok written
   pub made : MakesBut failed written told tells
+  pub shows : Shows now.files now.moment now.settings failed tells
 
 -- what the output has where it is told; after a failed sink or want of memory `OnceRun` tells what is believed of it
 abbrev pub Left : Standing → Option Files → Option Files → Status → Type 0

@@ -2,6 +2,7 @@
 use Rattle.std.specs.Prelude.{◌≡◌, ◌⊎◌, ℕ, Bool, List, [], ◌++◌, take, Option, Some, Result}
 use Rattle.site_base.specs.declared.errors.Memory.{Memory}
 use Rattle.site_script.specs.declared.line.Line.TheVariants as line
+use Rattle.site_script.specs.declared.line.ScriptKind.{ScriptKind}
 use Rattle.site_session.specs.Bytes.{reply_bytes}
 use Rattle.site_session.specs.Makes.{IsShort}
 use Rattle.site_session.specs.Replies.{IsQuiet, SourceLeft, built_reply}
@@ -85,6 +86,7 @@ pub record OneBuild {S D : Type 0} (first : Standing) (why : Bool) (was now : St
       → OnceRun given first before was now ended
   pub no_usage : (kind : UsageKind) → ended ≡ status.Usage kind → ⊥
   pub no_input : ended ≡ status.InputFault → ⊥
+  pub no_script : (number : ℕ) (kind : ScriptKind) → ended ≡ status.Script number kind → ⊥
   -- a run that did not come to build left the output alone
   pub untouched : Untouched ended → now.scene.output ≡ was.scene.output
   pub blames : Blames was now ended

@@ -15,7 +15,7 @@ ghost use Rattle.site_program.specs.Sessions.{OneSession, SessionRun, EndsAt, Go
 ghost use Rattle.site_program.specs.Stages.{Blames, BlamesInput, input_seen, stage};
 
 use crate::line::do_line;
-use crate::one_build::build_by_crew;
+use crate::one_build::build;
 use crate::status::Status;
 use crate::usage::{TopCall, read_order, tell_usage};
 use out_tree::OutTree;
@@ -76,7 +76,7 @@ pub fn run_jobs<
                     jobs: options.jobs,
                     renderer,
                 };
-                build_by_crew(alloc, options, moment, source, out, sink, &crew, tally)
+                build(alloc, options, moment, source, out, sink, &crew, tally)
             }
             Order::Session(options) => {
                 let crew = Crew {

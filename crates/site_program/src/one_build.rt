@@ -56,8 +56,46 @@ pub(crate) fn build_one_by_one<
     }
 }
 
+/// Builds once by a crew, and answers its status. The session ends with its build, so nobody uses what would be kept of it: one job keeps nothing.
+pub(crate) fn build<
+    H: Threads + Wait + Sync,
+    S: SourceTree,
+    O: OutTree,
+    K: ByteSink,
+    R: Renderer<Meaning = PageMeaning> + Sync,
+>(
+    alloc: Global,
+    options: Options,
+    moment: i64,
+    source: &mut S,
+    out: &mut O,
+    sink: &mut K,
+    crew: &Crew<'_, H, R>,
+    tally: &mut Tally,
+) -> Status
+    requires moment { is_moment moment ≡ true }
+    requires jobs { (1 ≤ crew.now.jobs) × (crew.now.jobs ≤ 64) }
+    ensures { let at = stage S.files S.failures O.contents O.calls O.failures K.taken K.failures in
+        OneBuild (start options.settings moment) options.why (at source.old out.old tally.old sink.old) (at source.new out.new tally.new sink.new) result }
+{
+    if crew.jobs == 1 {
+        build_one_by_one(
+            alloc,
+            options,
+            moment,
+            source,
+            out,
+            sink,
+            crew.renderer,
+            tally,
+        )
+    } else {
+        build_by_crew(alloc, options, moment, source, out, sink, crew, tally)
+    }
+}
+
 // Rendered by the threads of a crew.
-pub(crate) fn build_by_crew<
+fn build_by_crew<
     H: Threads + Wait + Sync,
     S: SourceTree,
     O: OutTree,

@@ -54,7 +54,7 @@ pub fn answer(alloc: Global, question: Question) -> Result<String, AllocError>
 fn version() -> &'static str
     ensures { is_sentence result.now ≡ true }
 {
-    "0.6.0"
+    "0.6.1"
 }
 
 fn told_version(alloc: Global) -> Result<String, AllocError>

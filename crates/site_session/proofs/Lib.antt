@@ -1,4 +1,5 @@
 pub mod Moments
+pub mod FeedFiles
 pub mod Full
 pub mod Builds
 pub mod Steps
@@ -6,6 +7,8 @@ pub mod RoundLaws
 pub mod Rebuilding
 pub mod Lines
 mod Looking
+pub mod RenderedPosts
 pub mod Resting
 mod Unchanged
 mod BaseLaws
+pub mod TreeLaws

@@ -32,6 +32,7 @@ use Rattle.site_session.specs.declared.output.Output.{Output}
 use Rattle.site_session.specs.declared.output.Written.{Written}
 use Rattle.site_session.proofs.Builds.{no_calls}
 use Rattle.site_session.proofs.Lines.{rises_none}
+use Rattle.site_session.proofs.FeedFiles.{shown}
 use Rattle.site_session.proofs.Full.{AddsLaws, fault-of-output, none-behind, written-of}
 
 -- only what is kept and what is believed may differ
@@ -67,7 +68,13 @@ module _ {D : Type 0} (adds : Adds) (laws : AddsLaws adds) (contents : D → Opt
         belief = m.belief;
         leaves = λ first failed h is.
             let made = m.made first failed h is in
-            record { written = output.written; stands_for = written_is; made = made.0; marked = made.1 };
+            record {
+              written = output.written;
+              stands_for = written_is;
+              made = made.0;
+              shows = shown old.files old.moment old.settings failed output.written (contents before) (contents after) written_is made.0;
+              marked = made.1;
+            };
         unlisted = m.unlisted;
         fault = λ f is. absurd (m.no_fault f is);
         quiet = λ f is. let wrong : Ok output.written ≡ Err f = sym written_is ∙ is in absurd (cc (wrong));

@@ -1,5 +1,6 @@
 pub mod Bases
 pub mod Bytes
+pub mod Feeds
 pub mod Full
 pub mod KeyTexts
 pub mod Looking

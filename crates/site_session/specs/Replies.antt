@@ -14,6 +14,7 @@ use Rattle.out_tree.specs.declared.step.Call.{Call}
 use Rattle.out_tree.specs.declared.step.Call.TheVariants as call
 use Rattle.render_workers.specs.Tallies.{Grows}
 use Rattle.site_session.specs.Standing.{Standing, Holds, MakesBut, MarksExactly}
+use Rattle.site_session.specs.Feeds.{Shows}
 use Rattle.site_session.specs.Full.{full}
 use Rattle.site_session.specs.Rounds.{in_any_order}
 use Rattle.site_session.specs.Scenes.{OutputSeen, SourceSeen, Scene, Rises}
@@ -58,6 +59,7 @@ pub record Leaves (now : Standing) (failed : List (List ℕ)) (told tells : Opti
   pub written : Written
   pub stands_for : full now.files now.moment now.settings ≡ Ok written
   pub made : MakesBut failed written told tells
+  pub shows : Shows now.files now.moment now.settings failed tells
   pub marked : MarksExactly failed written.keep belief
 
 -- what a build that is replied so has left; another reply tells nothing of the output

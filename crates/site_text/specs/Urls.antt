@@ -13,7 +13,7 @@ hex_digit d = if nat_lt d 10 then 48 + d else 55 + d
 
 -- `%` and two digits
 abbrev pub percent_byte : ℕ → List ℕ
-percent_byte c = percent_sign ∷ hex_digit (c / 16) ∷ hex_digit (c % 16) ∷ []
+percent_byte c = percent_sign ∷ hex_digit (c / 16 % 16) ∷ hex_digit (c % 16) ∷ []
 
 -- a byte that is not written as `%` and digits in an address
 abbrev pub stands_in_urls : ℕ → Bool

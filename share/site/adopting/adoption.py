@@ -4,7 +4,9 @@ from __future__ import annotations
 import os
 from dataclasses import dataclass, field
 from pathlib import Path
+from typing import Optional
 
+from adopting.zones import Zone
 from site_files import list_files
 from words import Refused, shown
 
@@ -26,6 +28,8 @@ class Adoption:
     old_folders: dict[str, str] = field(default_factory=dict)
     # The files of the site that Jekyll leaves out.
     left_out: set[str] = field(default_factory=set)
+    # The zone that the configuration named.
+    zone: Optional[Zone] = None
     done_lines: list[str] = field(default_factory=list)
     left_lines: list[str] = field(default_factory=list)
 

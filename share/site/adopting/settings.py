@@ -16,7 +16,8 @@ from adopting.outcome import Question
 from adopting.publication import is_published_as_written
 from adopting.scopes import Tree, published_by_defaults
 from adopting.scopes import mend as mend_scopes
-from configuration import CONFIG, Hash, Settings, by_lines, is_in_braces, listed
+from adopting.zones import Zone, mended as mended_date, offset_of, stands_bare
+from configuration import CONFIG, Hash, Settings, by_lines, is_in_braces, listed, mapping
 from inside import OUTPUT
 from site_files import Fault, begins_with_mark, front_matter, list_files, read_text, read_values, write_text
 from words import Refused, shown
@@ -54,6 +55,7 @@ def adopt_configuration(adoption: Adoption) -> Hash:
     mend_limit(adoption, settings, config, [path for path in older if path in added])
     tell_copies(adoption, settings, [path for path in copies if path in added])
     mend_kept(adoption, settings, config)
+    mend_zone(adoption, settings, config, old)
     mend_defaults(adoption, settings, config, files)
     mend_values(adoption, settings, config)
     if settings.lines != unchanged and is_in_braces(old):
@@ -230,6 +232,16 @@ def collections_of(config: Hash) -> list[str]:
     return [str(one) for one in given] if isinstance(given, (dict, list)) else []
 
 
+def is_kramdown(config: Hash) -> bool:
+    """Whether Jekyll converts by Kramdown, as it does where nothing else is said."""
+    return str(config.get("markdown") or "kramdown").lower() == "kramdown"
+
+
+def is_markdown(config: Hash, path: str) -> bool:
+    endings = str(config.get("markdown_ext") or "markdown,mkdown,mkdn,mkd,md").split(",")
+    return os.path.splitext(path)[1][1:] in [ending.strip() for ending in endings]
+
+
 def question_of(config: Hash) -> Question:
     """The settings of which the program is asked what comes out by them."""
     defaults = config.get("defaults")
@@ -382,12 +394,6 @@ def held_copies(folder: Path, config: Hash, files: list[str]) -> list[str]:
     return found
 
 
-def zone_of(offset: str) -> datetime.timezone:
-    """The zone of an offset: a sign, two digits for hours and two for minutes, with or without a colon. Raises ValueError from a day on."""
-    hours, minutes = int(offset[1:3]), int(offset[-2:])
-    return datetime.timezone(datetime.timedelta(hours=hours, minutes=minutes) * (-1 if offset[0] == "-" else 1))
-
-
 def moment_of(path: str, own: Hash) -> datetime.datetime:
     """The moment of a post: its own date, else that of its name; of a draft now."""
     name = "" if "_drafts" in path.split("/") else path.rpartition("/")[2]
@@ -397,7 +403,7 @@ def moment_of(path: str, own: Hash) -> datetime.datetime:
             parts = match.groupdict()
             hour, minute, second = (int(parts.get(key) or 0) for key in ("hour", "minute", "second"))
             try:
-                return datetime.datetime(year, month, day, hour, minute, second, tzinfo=zone_of(parts.get("offset") or "+0000"))
+                return datetime.datetime(year, month, day, hour, minute, second, tzinfo=datetime.timezone(offset_of(parts.get("offset") or "+0000")))
             except ValueError:
                 continue
     return datetime.datetime.now(datetime.timezone.utc)
@@ -454,9 +460,6 @@ def mend_defaults(adoption: Adoption, settings: Settings, config: Hash, files: l
 
 def mend_values(adoption: Adoption, settings: Settings, config: Hash) -> None:
     """Values that Jekyll takes and the program does not."""
-    zone = config.get("timezone")
-    if isinstance(zone, str) and not OFFSET.fullmatch(zone):
-        mend_zone(adoption, settings, config, zone)
     if config.get("paginate", 1) in (0, False) and config.get("paginate") is not None:
         adoption.done(f"{CONFIG}:{settings.line('paginate')}", "paginate is taken out: so it is off here")
         settings.comment_out("paginate", "paginate is off without this key")
@@ -473,18 +476,39 @@ def mend_values(adoption: Adoption, settings: Settings, config: Hash) -> None:
         settings.set("defaults", config["defaults"])
 
 
-def mend_zone(adoption: Adoption, settings: Settings, config: Hash, zone: str) -> None:
-    """A named zone becomes its offset today."""
+def mend_zone(adoption: Adoption, settings: Settings, config: Hash, old: str) -> None:
+    """A named zone becomes its offset today, and dates of defaults that would show another clock by it are written as theirs."""
+    name = config.get("timezone")
+    if not isinstance(name, str) or OFFSET.fullmatch(name):
+        return
     place = f"{CONFIG}:{settings.line('timezone')}"
     try:
-        now = datetime.datetime.now(ZoneInfo(zone))
+        now = datetime.datetime.now(ZoneInfo(name))
     except (KeyError, ValueError, OSError):
-        adoption.left(place, f"the zone {shown(zone)} is not known on this machine; write an offset, as \"+01:00\"")
+        adoption.left(place, f"the zone {shown(name)} is not known on this machine; write an offset, as \"+01:00\"")
         return
+    adoption.zone = zone = Zone(name, now.utcoffset() or datetime.timedelta())
+    mend_dates_of_defaults(adoption, settings, config, zone, old)
     offset = now.strftime("%z")
     offset = f"{offset[:3]}:{offset[3:5]}"
     settings.set("timezone", offset)
     config["timezone"] = offset
-    summer = {ZoneInfo(zone).utcoffset(datetime.datetime(now.year, month, 1)) for month in range(1, 13)}
-    later = "; it holds all year, so give the dates of the other half of the year their own offset" if len(summer) > 1 else ""
-    adoption.done(place, f'timezone {zone} is its offset today now, "{offset}"{later}')
+    later = "" if zone.is_steady(now.year) else (
+        "; it holds all year, so in the other half of it %z, date_to_xmlschema and feeds are an hour off, and so is the moment at which a later post appears"
+    )
+    adoption.done(place, f'timezone {name} is its offset today now, "{offset}"{later}')
+
+
+def mend_dates_of_defaults(adoption: Adoption, settings: Settings, config: Hash, zone: Zone, old: str) -> None:
+    """`old` is the text of the configuration as it was, which tells what is in quotes."""
+    defaults = []
+    for entry in listed(config.get("defaults")):
+        date, scope = mapping(mapping(entry).get("values")).get("date"), mapping(mapping(entry).get("scope"))
+        new = mended_date(date, not stands_bare(date, old), zone, scope.get("type") != "pages") if isinstance(date, str) else None
+        if new:
+            adoption.done(f"{CONFIG}:{settings.line_with('defaults', str(date))}", f'date of defaults is "{new}" now, as the clock of {zone.name} shows it')
+            entry = {**entry, "values": {**entry["values"], "date": new}}
+        defaults.append(entry)
+    if defaults != listed(config.get("defaults")):
+        settings.set("defaults", defaults)
+        config["defaults"] = defaults

@@ -10,6 +10,7 @@ from typing import Optional
 
 from adopting.kept_back import names
 from adopting.scopes import path_of
+from adopting.zones import read_date, stands_bare
 from configuration import CONFIG, Hash, mapping
 from notes.site import Item, Notes, Site, read_part
 from session import MOST_BYTES
@@ -24,6 +25,7 @@ NUMBER = re.compile(r"^[ \t]*(?:- )?-?\d+[ \t]*:(?=\s|$)|[{,][ \t]*-?\d+:[ \t]",
 # A number that Ruby writes otherwise than it is written.
 ODD_NUMBER = re.compile(r"^[\w-]+[ \t]*:[ \t]*([+-]?(?:0x[0-9A-Fa-f]+|0[0-7]+|\d+\.\d*0))[ \t]*(?:#.*)?\r?$", re.M)
 MOMENT = re.compile(r"(\d{4}-\d\d-\d\d)(?:[ T](\d\d):(\d\d)(?::\d\d)?)?\s*([+-]\d\d:?\d\d)?$")
+UTC = ("UTC", "Etc/UTC", "Z", "+00:00", "-00:00", "+0000", "-0000")
 PAGES_OF_HTML = (".html", ".htm", ".xhtml")
 
 
@@ -136,6 +138,8 @@ def add_item(notes: Notes, site: Site, item: Item) -> None:
         notes.add(item.path, 1, what, "write published: true into the page, or another scope")
     add_permalink(notes, site, item)
     add_date(notes, site, item, is_document)
+    if is_document:
+        add_moment(notes, site, item)
     if "jekyll-redirect-from" in site.plugins():
         add_redirects(notes, site, item)
     for entry in site.defaults():
@@ -208,6 +212,18 @@ def add_date(notes: Notes, site: Site, item: Item, is_document: bool) -> None:
     if day > tomorrow and site.config.get("future") is not True and not {"_posts", "_drafts"} & set(item.path.split("/")):
         what = "a document with a later date is not there at all (in Jekyll its collection lists it)"
         notes.add(item.path, item.line_of_key("date"), what, "write future: true, or no date")
+
+
+def add_moment(notes: Notes, site: Site, item: Item) -> None:
+    """A date that is of UTC in Jekyll, and of the site's zone here."""
+    zone, date = site.config.get("timezone"), str(item.values.get("date", ""))
+    if not isinstance(zone, str) or zone in UTC:
+        return
+    line = item.line_of_key("date")
+    found = read_date(date, not stands_bare(date, item.text[: item.body].split("\n")[line - 1]))
+    if found and found.is_moment and not found.offset:
+        what = "a time with seconds and without an offset is of the site's zone (in Jekyll of UTC)"
+        notes.add(item.path, line, what, "write +00:00 after it, or put it in quotes for the site's zone")
 
 
 def add_redirects(notes: Notes, site: Site, item: Item) -> None:

@@ -5,10 +5,12 @@ from dataclasses import dataclass, field
 from pathlib import Path
 from typing import Callable, Optional
 
+from adopting.hidden import hidden_texts
+from adopting.settings import is_kramdown
 from notes import files, markdown, settings, templates
 from notes.first_faults import further_faults
 from notes.site import Notes, Site, read_site
-from site_files import TEMPLATES, first_fault, run
+from site_files import TEMPLATES, first_fault, line_of, run
 
 NOT_KNOWN = "what else there is to say of this site is not known"
 
@@ -62,6 +64,8 @@ def differences(folder: Path, program: str) -> list[str]:
 def add_differences(notes: Notes, folder: Path, program: str) -> None:
     """Adds what is read otherwise. Raises NotRead and OSError where the site cannot be read."""
     site = read_site(folder, program)
+    # What others are not to see comes first.
+    add_hidden(notes, site)
     settings.add(notes, site)
     files.add(notes, site)
     ours = {path.read_text(encoding="utf-8") for path in TEMPLATES.iterdir()}
@@ -75,6 +79,16 @@ def add_differences(notes: Notes, folder: Path, program: str) -> None:
                 templates.add(notes, site, path, text, 0)
     with notes.of("."):
         templates.add_counters(notes, site)
+
+
+def add_hidden(notes: Notes, site: Site) -> None:
+    """Text that Kramdown hides, and that is shown."""
+    for item in site.items if is_kramdown(site.config) else []:
+        if site.is_markdown(item.path):
+            with notes.of(item.path):
+                for one in hidden_texts(item.text, item.body)[:1]:
+                    what = "hidden text ({::comment}) is shown (in Jekyll it is in a comment of HTML)"
+                    notes.add(item.path, line_of(item.text, one.start), what, "write {% comment %} and {% endcomment %}: `site adopt` does that where no tags are in it")
 
 
 def add_text(notes: Notes, site: Site, path: str, text: str, start: int) -> None:

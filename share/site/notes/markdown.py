@@ -38,7 +38,7 @@ class Form:
 FORMS = [
     Form(("[^",), re.compile(r"\[\^[^\[\]\s]+\]"), "footnotes are text", "write them in HTML"),
     Form(("toc",), re.compile(r"\{:\s*toc\b|\{::?toc\}"), "a table of contents ({:toc}) is text", "write it in HTML"),
-    Form(("{:",), re.compile(r"\{:(?!\s*toc\b)[^{}\n]*\}"), "attributes in braces ({: .class}) are text", "write the element in HTML"),
+    Form(("{:",), re.compile(r"\{:(?!\s*toc\b|:comment\b|/)[^{}\n]*\}"), "attributes in braces ({: .class}) are text", "write the element in HTML"),
     Form(
         ("](#", "href="), re.compile(r"\]\(#[^()\s]+\)|\bhref=[\"']#[\w-]+"),
         "headings have no ids, so a link to one leads nowhere", "write the heading in HTML, with its id",

@@ -9,7 +9,7 @@ from pathlib import Path
 from typing import Any, Iterator, Optional
 
 from adopting.kept_back import Program
-from adopting.settings import collections_of, plugins_of, texts
+from adopting.settings import collections_of, is_markdown, plugins_of, texts
 from configuration import CONFIG, Hash, Settings, listed, mapping
 from session import MOST_BYTES
 from site_files import front_matter, line_of, list_files, open_file, read_marked, read_values, text_of
@@ -112,8 +112,7 @@ class Site:
         return any(path.startswith(folders) and path not in items for path in self.looked_at) if folders else False
 
     def is_markdown(self, path: str) -> bool:
-        endings = str(self.config.get("markdown_ext") or "markdown,mkdown,mkdn,mkd,md").split(",")
-        return os.path.splitext(path)[1][1:] in [ending.strip() for ending in endings]
+        return is_markdown(self.config, path)
 
 
 def is_page(site: Site, item: Item) -> bool:

@@ -8,11 +8,11 @@ use Rattle.site_program.proofs.Orders.{build_jobs_in_range, in_time, known, none
 use Rattle.site_program.proofs.Turns.{same_session_run, session_unread}
 use Rattle.site_program.proofs.jobs.run_jobs.Goals as goal
 
-pub build_by_crew-requires-clause-moment : goal.build_by_crew-requires-clause-moment
-build_by_crew-requires-clause-moment g c κs within = in_time call.Jobs c.args.words.now _ _ c.in-Ok.ensures
+pub build-requires-clause-moment : goal.build-requires-clause-moment
+build-requires-clause-moment g c κs within = in_time call.Jobs c.args.words.now _ _ c.in-Ok.ensures
 
-pub build_by_crew-requires-clause-jobs : goal.build_by_crew-requires-clause-jobs
-build_by_crew-requires-clause-jobs g c κs within = build_jobs_in_range c.args.words.now _ _ _ c.in-Ok.ensures c.in-Build.is
+pub build-requires-clause-jobs : goal.build-requires-clause-jobs
+build-requires-clause-jobs g c κs within = build_jobs_in_range c.args.words.now _ _ _ c.in-Ok.ensures c.in-Build.is
 
 pub run_session-requires-clause-jobs : goal.run_session-requires-clause-jobs
 run_session-requires-clause-jobs g c κs within = session_jobs_in_range c.args.words.now _ _ _ c.in-Ok.ensures c.in-Session.is
@@ -29,7 +29,7 @@ returns-in-Build-clause-build g c = λ options is.
     let moment_is = to_z-of_z c.ranges.moment in
     let order_is = ordered call.Jobs c.args.words.now _ _ _ _ moment_is c.in-Ok.ensures is in
     let options_is = same_build c.in-Ok.order c.in-Build.options options c.in-Build.is order_is in
-    (same_run _ _ _ _ _ _ _ _ (same_start _ _ _ _ (ap (λ (o : Options). o.settings) options_is) moment_is) (ap (λ (o : Options). o.why) options_is) refl c.build_by_crew.ensures, refl)
+    (same_run _ _ _ _ _ _ _ _ (same_start _ _ _ _ (ap (λ (o : Options). o.settings) options_is) moment_is) (ap (λ (o : Options). o.why) options_is) refl c.build.ensures, refl)
 
 pub returns-in-Session-clause-session : goal.returns-in-Session-clause-session
 returns-in-Session-clause-session g c = λ options is.
